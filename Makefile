@@ -22,13 +22,13 @@ SHARED := $(sort $(shell cd packaging && find share -type f))
 # The documents and the examples, as they lie in the repository, so that their links hold; those to
 # sources, which are not installed, become plain text.
 DOCUMENTS := README.md CHANGELOG.md capi/example.c $(sort $(wildcard docs/*.md docs/*.png)) \
-  $(sort $(wildcard examples/*.md examples/*.gsi examples/*.csv examples/*.txt examples/*.svg examples/*.py))
+  $(sort $(wildcard examples/*.md examples/*.gsi examples/*.csv examples/*.txt examples/*.svg examples/*.py examples/*.html))
 DOCUMENT_FOLDER := share/doc/station_check
 UNLINKED = sed -E 's/\[([^][]*)\]\((\.\.\/)*((crates|conformance|page|tests)\/[^)]*|HANDLES)\)/\1/g'
 
-# The scripts of examples/ that an office uses, on the path under names of their own.
+# The scripts of examples/ that an office uses, on the path under names of their own; one fills in a page.
 TOOLS := adjust check_folder prepare residuals
-TOOL_FILES := $(sort $(notdir $(wildcard examples/*.py)))
+TOOL_FILES := $(sort $(notdir $(wildcard examples/*.py examples/*.html)))
 TOOL_FOLDER := share/station_check
 
 # What is installed of the library, where it was made: it, the name by which a linker finds it, its
@@ -67,11 +67,12 @@ ifndef IS_WITHIN
 MAKEFLAGS += --jobs=$(JOBS)
 endif
 
-# The longest chain of proofs, in which each crate stands on the one before: the whole takes as long
-# as they do. So each of them is proved by as many processes as `rt` finds room for, and what is
+# The two longest chains of proofs, in which each crate stands on the one before: the whole takes as
+# long as they do. So each of them is proved by as many processes as `rt` finds room for, and what is
 # proved beside them by one, which takes less processor time in all, and yields to them.
-CHAIN := adjust_kernel station_book station_check station_compare station_residuals station_report station_program
-IS_BESIDE = $(if $(filter $*,$(CHAIN))$(filter 1,$(JOBS)),,yes)
+CHAIN := adjust_kernel sheet_format station_check station_compare station_residuals station_report table_report station_record station_program
+CHAIN_OF_WORDS := adjust_kernel sheet_format direction_table limit_texts command_line station_program
+IS_BESIDE = $(if $(filter $*,$(CHAIN) $(CHAIN_OF_WORDS))$(filter 1,$(JOBS)),,yes)
 
 # What each recipe that proves begins with.
 NEED_TOOLCHAIN = command -v $(RT) > /dev/null || { \

@@ -10,7 +10,7 @@
  *
  * Texts: `text` has room for `room` bytes. The call writes the text to its beginning, without a zero
  * at the end, and its length to `*length`. Where there is too little room nothing is written but
- * the length 0, of a digest perhaps a part, and the status is 3: call again with more.
+ * the length 0, and the status is 3: call again with more.
  * STATION_CHECK_LINE bytes are enough for each line of station_check_check and
  * station_check_compare; any other text may have more bytes than the files.
  *
@@ -85,7 +85,8 @@ uint8_t station_check_residuals(const void *gsi, size_t gsi_length,
 
 /* The report of a station's sets: what was read in both faces, the least-squares directions, the
  * residuals, the greatest of them, and the standard deviation of one two-face direction, exactly
- * rounded. It names the field file by `path`, which may be any bytes. */
+ * rounded. It names the field file by `path`, which may be any bytes: they are escaped as in the line
+ * of a digest. */
 uint8_t station_check_report(const void *gsi, size_t gsi_length,
                              const char *path, size_t path_length,
                              const char *station, size_t station_length,

@@ -119,8 +119,9 @@ USUAL = [
     ("a sign, blanks and titles", b"Name, 1.0 gon\n A, +0.0000\n B, -350.0000\n", agrees(15)),
 ]
 
-# Tables of P7 as programs print them, and how far each is apart from the exact directions, of which its
-# sheet has the fractions; no limit is stated.
+# Tables of P7 as programs really printed them (numpy 1.24, Octave 7.3, LibreOffice 7.4, mawk 1.3), of
+# directions with eight decimals, and how far each is apart from the exact ones, of which its sheet has
+# the fractions; no limit is stated.
 PRINTED = [
     (
         "numpy's savetxt, with a header",
@@ -136,20 +137,20 @@ PRINTED = [
     ),
     (
         "LibreOffice in German, converted with no option",
-        b'Ziel,Richtung\nTOWER,"0,00000"\nP3,"64,52134"\nMAST,"139,40454"\n'
-        b'P8,"212,75720"\nCHURCH,"278,86059"\nP12,"345,20919"\n',
-        4,
+        b'Ziel,Richtung\nTOWER,0\nP3,"64,5213375"\nMAST,"139,40453814"\n'
+        b'P8,"212,757195"\nCHURCH,"278,86059171"\nP12,"345,20918875"\n',
+        1,
     ),
     (
-        "LibreOffice in German, saved with semicolons",
-        b"Ziel;Richtung (gon);\nTOWER;0,0000;\nP3;64,5213;\nMAST;139,4045;\n"
-        b"P8;212,7572;\nCHURCH;278,8606;\nP12;345,2092;\n",
+        "LibreOffice in German, saved with semicolons as it shows four decimals",
+        b"Ziel;Richtung (gon)\nTOWER;0,0000\nP3;64,5213\nMAST;139,4045\n"
+        b"P8;212,7572\nCHURCH;278,8606\nP12;345,2092\n",
         25,
     ),
     (
-        "LibreOffice in English, saved with tabs",
-        b"Target\tDirection\r\nTOWER\t0.00000\r\nP3\t64.52134\r\nMAST\t139.40454\r\n"
-        b"P8\t212.75720\r\nCHURCH\t278.86059\r\nP12\t345.20919\r\n",
+        "LibreOffice in English, saved with tabs as it shows five decimals",
+        b"Target\tDirection\nTOWER\t0.00000\nP3\t64.52134\nMAST\t139.40454\n"
+        b"P8\t212.75720\nCHURCH\t278.86059\nP12\t345.20919\n",
         4,
     ),
     (
@@ -293,8 +294,10 @@ class ComparedTest(AgainstModel):
             file = station_to_adjust(random)
             station = model.survey_of(file, model.Limits())[0]
             self.compare(
-                Case(f"{place}", "compare", file, table_of_station(random, station), within=within)
+                Case(f"{place}", "compare", file, table, within=within, degrees=degrees)
                 for within in [None, random.choice([0, 1, 5, 6, 10, 50, 51, 1_000_000])]
+                for degrees in [False, True]
+                for table in [table_of_station(random, station, degrees)]
             )
 
     def test_differences_on_all_sides_of_the_circle(self):

@@ -26,11 +26,19 @@ COMMANDS = [
 
 FACE_LIMITS = ["--two-c", "--two-i"]
 
-# The option with a value that a command has for itself.
-OWN_OPTIONS = {"compare": "--within", "directions": "--decimals", "check": "--residual"}
+# The options with a value that a command has for itself.
+OWN_OPTIONS = {
+    "compare": ["--within"],
+    "directions": ["--decimals"],
+    "report": ["--table", "--degrees", "--within"],
+    "check": ["--residual"],
+}
 
 # The flags of a command.
-FLAGS = {"compare": ["--sha256"], "directions": [], "check": ["--sha256"]}
+FLAGS = {"compare": ["--sha256"], "directions": [], "report": ["--sha256", "--csv"], "check": ["--sha256"]}
+
+# Those that stand before its limits.
+FIRST_FLAGS = {"compare": ["--degrees"], "directions": [], "report": [], "check": []}
 
 # Asks the completion of bash for a line, whose last word may be empty.
 ASK_BASH = """
@@ -84,12 +92,14 @@ class CompletionsTest(ProgramTest):
 
     def test_bash_completes_options(self):
         self.assertEqual(["--help", "--version"], self.of_bash("-"))
-        for command, option in OWN_OPTIONS.items():
-            self.assertEqual([*FACE_LIMITS, option, *FLAGS[command], "--help"], self.of_bash(command, "-"))
-            self.assertEqual([""], self.of_bash(command, option, ""))
+        for command, own in OWN_OPTIONS.items():
+            options = [*FIRST_FLAGS[command], *FACE_LIMITS, *own, *FLAGS[command], "--help"]
+            self.assertEqual(options, self.of_bash(command, "-"))
+            self.assertEqual([""], self.of_bash(command, own[-1], ""))
         self.assertEqual(FACE_LIMITS, self.of_bash("check", "field.gsi", "--two"))
         self.assertEqual([*FACE_LIMITS, "--csv", "--help"], self.of_bash("list", "-"))
-        for command in ["differences", "residuals", "report", "means"]:
+        self.assertEqual(["--degrees", *FACE_LIMITS, "--help"], self.of_bash("differences", "-"))
+        for command in ["residuals", "means"]:
             self.assertEqual([*FACE_LIMITS, "--help"], self.of_bash(command, "-"))
         self.assertEqual(["--station", "--help"], self.of_bash("mark", "-"))
         for command in ["words", "explain", "help"]:
@@ -103,6 +113,9 @@ class CompletionsTest(ProgramTest):
         self.assertEqual(["sheet.csv"], self.of_bash("check", "--two-c", "1", "field.gsi", "s"))
         self.assertEqual(["sheet.csv"], self.of_bash("check", "--two-c", "=", "1", "field.gsi", "s"))
         self.assertEqual(["sheet.csv"], self.of_bash("check", "--sha256", "field.gsi", "s"))
+        for words in [["--table", "s"], ["--table", "=", "s"], ["field.gsi", "S1", "--table", "s"]]:
+            self.assertEqual(["sheet.csv"], self.of_bash("report", *words))
+        self.assertEqual(["field.gsi", "sheet.csv"], sorted(self.of_bash("report", "--table", "=")))
         for command in ["compare", "differences"]:
             self.assertEqual(["sheet.csv"], self.of_bash(command, "field.gsi", "S1", "s"))
         named = ["means a", "directions a", "residuals a", "report a", "compare a", "differences a"]
@@ -136,8 +149,10 @@ class CompletionsTest(ProgramTest):
             ("station_check ch", ["check"]),
             ("station_check ", sorted(COMMANDS)),
             ("station_check check --", ["--help", "--residual", "--sha256", *FACE_LIMITS]),
-            ("station_check compare --", ["--help", "--sha256", *FACE_LIMITS, "--within"]),
+            ("station_check compare --", ["--degrees", "--help", "--sha256", *FACE_LIMITS, "--within"]),
             ("station_check directions --", ["--decimals", "--help", *FACE_LIMITS]),
+            ("station_check report --", ["--csv", "--degrees", "--help", "--sha256", "--table", *FACE_LIMITS, "--within"]),
+            ("station_check report --table s", ["sheet.csv"]),
             ("station_check list --two", FACE_LIMITS),
             ("station_check list f", ["field.gsi"]),
             ("station_check explain Two", ["TwoC", "TwoI"]),

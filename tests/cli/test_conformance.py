@@ -38,6 +38,9 @@ def command_line():
     parser.add_argument("--within", type=of_tables)
     parser.add_argument("--station", type=str.encode)
     parser.add_argument("--csv", action="store_true")
+    parser.add_argument("--degrees", action="store_true")
+    parser.add_argument("--table")
+    parser.add_argument("--sha256", action="store_true")
     parser.add_argument("command", nargs="?")
     parser.add_argument("operands", nargs="*")
     return parser
@@ -56,6 +59,7 @@ def model_answer(case):
         for place, name in enumerate(asked.operands)
         if place in FILES.get(asked.command, [0])
     ]
+    paths += [case.folder / asked.table] if asked.table else []
     for path in paths:
         if not path.exists():
             return (2, b"", f"cannot open {path.name}\n".encode())
@@ -65,7 +69,7 @@ def model_answer(case):
         return model.words(case.stdin)
     if asked.command == "words":
         return model.words(files[0], fails[0])
-    if asked.csv:
+    if asked.command == "list" and asked.csv:
         return model.listed_rows(files[0], limits, fails[0])
     if asked.command == "list":
         return model.listed(files[0], limits, fails[0])
@@ -81,10 +85,17 @@ def model_answer(case):
     if asked.command == "residuals":
         return model.residuals(files[0], station, limits, fails[0])
     if asked.command == "differences":
-        return model.differences(files[0], station, files[1], limits, fails)
+        return model.differences(files[0], station, files[1], limits, asked.degrees, fails)
+    if asked.command == "report" and asked.csv:
+        return model.reported_rows(files[0], station, limits, fails[0])
     if asked.command == "report":
-        return model.reported(files[0], asked.operands[0].encode(), station, limits, fails[0])
-    return model.compared(files[0], station, files[1], limits, asked.within, fails)
+        names = [name.encode() for name in [asked.operands[0], asked.table] if name]
+        units = asked.within, asked.degrees
+        stated = model.ReportTable(names[1], files[1], *units, fails[1]) if asked.table else None
+        report = model.reported(files[0], names[0], station, limits, fails[0], stated)
+        return model.with_digests(report, *zip(names, files)) if asked.sha256 else report
+    units = asked.within, asked.degrees
+    return model.compared(files[0], station, files[1], limits, *units, fails)
 
 
 class ConformanceTest(unittest.TestCase):

@@ -76,9 +76,10 @@ class CutsTest(AgainstModel):
 
     def test_every_first_part_of_the_example(self):
         steps = [("words", 3), ("list", 3), ("means", 3), ("check", 3), ("directions", 5)]
-        for command, step in [*steps, ("residuals", 5), ("report", 5), ("list --csv", 5)]:
+        for command, step in [*steps, ("residuals", 5), ("report", 5), ("report --csv", 7), ("list --csv", 5)]:
             self.compare(sample(cuts(command, b"", FIELD, sheet=SHEET), step))
-        self.compare(sample(cuts("differences", b"", FIELD, sheet=TABLE), 5))
+        for command in ["differences", "report --table"]:
+            self.compare(sample(cuts(command, b"", FIELD, sheet=TABLE), 5))
 
     def test_every_first_part_of_a_job(self):
         self.compare(sample(cuts("mark", b"", JOB), 3))
@@ -93,17 +94,17 @@ class CutsTest(AgainstModel):
 
     def test_every_first_part_of_the_table(self):
         lengths = range(len(TABLE) + 1)
-        for command in ["compare", "differences"]:
+        for command in ["compare", "differences", "report --table"]:
             self.compare(Case(f"{left} bytes", command, FIELD, TABLE[:left]) for left in lengths)
 
     def test_every_byte_of_the_table_replaced(self):
         tables = sample(replaced(TABLE), 3)
-        for command in ["compare", "differences"]:
+        for command in ["compare", "differences", "report --table"]:
             self.compare(Case(name, command, FIELD, table) for name, table in tables)
 
     def test_every_byte_of_the_example_replaced(self):
         steps = [("list", 5), ("check", 23), ("words", 29), ("means", 31), ("directions", 37)]
-        for command, step in [*steps, ("residuals", 41), ("report", 43), ("list --csv", 47)]:
+        for command, step in [*steps, ("residuals", 41), ("report", 43), ("report --csv", 53), ("list --csv", 47)]:
             fields = sample(replaced(FIELD), step)
             self.compare(Case(f"{command}, {name}", command, *pair) for name, *pair in fields)
         fields = sample(replaced(FIELD), 43)

@@ -15,8 +15,8 @@ from against_model import FIELD, SHEET, TABLE, sample
 from program import PROGRAM, SWEEP, ProgramTest, answer_to, side_by_side
 from worked import JOB
 
-# The words of each command; without words the field file is standard input. The report has the name
-# of the field file in it, which stands in the folder of the run.
+# The words of each command; without words the field file is standard input. The report has the names
+# of its files in it, which stand in the folder of the run.
 COMMANDS = {
     "": [],
     "words": ["words", "{field}"],
@@ -27,12 +27,23 @@ COMMANDS = {
     "directions": ["directions", "{field}", "S1"],
     "residuals": ["residuals", "{field}", "S1"],
     "report": ["report", "field.gsi", "S1"],
+    "report --csv": ["report", "--csv", "field.gsi", "S1"],
+    "report --table": ["report", "--sha256", "--table", "table.csv", "field.gsi", "S1"],
     "compare": ["compare", "{field}", "S1", "{table}"],
     "differences": ["differences", "{field}", "S1", "{table}"],
 }
 
 # The command whose field file has no codes.
 MARK = {"mark": ["mark", "--station=S1", "{job}"]}
+
+
+
+def report_with_table(field=FIELD, table=TABLE, fails=(False, False)):
+    """What the report answers of these files, with their digests."""
+    stated = model.ReportTable(b"table.csv", table, fails=fails[1])
+    report = model.reported(field, b"field.gsi", b"S1", fails=fails[0], table=stated)
+    return model.with_digests(report, (b"field.gsi", field), (b"table.csv", table))
+
 
 WHOLE = {
     "": model.words(FIELD),
@@ -44,6 +55,8 @@ WHOLE = {
     "directions": model.directions(FIELD, b"S1"),
     "residuals": model.residuals(FIELD, b"S1"),
     "report": model.reported(FIELD, b"field.gsi", b"S1"),
+    "report --csv": model.reported_rows(FIELD, b"S1"),
+    "report --table": report_with_table(),
     "compare": model.compared(FIELD, b"S1", TABLE),
     "differences": model.differences(FIELD, b"S1", TABLE),
     "mark": model.marked(JOB, b"S1"),
@@ -66,6 +79,8 @@ def expected_of_field(command, room, field=FIELD, fails=True):
         "directions": lambda: model.directions(given, b"S1", fails=fails),
         "residuals": lambda: model.residuals(given, b"S1", fails=fails),
         "report": lambda: model.reported(given, b"field.gsi", b"S1", fails=fails),
+        "report --csv": lambda: model.reported_rows(given, b"S1", fails=fails),
+        "report --table": lambda: report_with_table(given, fails=(fails, False)),
         "compare": lambda: model.compared(given, b"S1", TABLE, fails=(fails, False)),
         "differences": lambda: model.differences(given, b"S1", TABLE, fails=(fails, False)),
     }[command]()
@@ -157,7 +172,7 @@ class FailingEndsTest(ProgramTest):
         refused = (1, b"", b"refused: table: Read\n")
         self.check_all(
             (command, {"READ_PATH": self.table, "READ_ROOM": room}, refused)
-            for command in ["compare", "differences"]
+            for command in ["compare", "differences", "report --table"]
             for room in range(len(TABLE) + 1)
         )
 
@@ -169,7 +184,7 @@ class FailingEndsTest(ProgramTest):
         ]:
             with self.subTest(expected):
                 self.field.write_bytes(field)
-                for command in ["compare", "differences"]:
+                for command in ["compare", "differences", "report --table"]:
                     answer = self.answer(command, READ_PATH=self.table, READ_ROOM=0)
                     self.assertEqual((1, b"", expected), answer)
 
@@ -236,6 +251,8 @@ class FailingEndsTest(ProgramTest):
             for command, answer in [("compare", model.compared), ("differences", model.differences)]:
                 expected = answer(FIELD, b"S1", table[:room], fails=(False, error != 0))
                 yield command, {"READ_ERROR": error, **limits}, expected
+            expected = report_with_table(table=table[:room], fails=(False, error != 0))
+            yield "report --table", {"READ_ERROR": error, **limits}, expected
 
     def test_a_sheet_of_which_one_read_fails_or_ends(self):
         runs = (
@@ -321,6 +338,8 @@ class FailingEndsTest(ProgramTest):
             ("compare", self.table, model.LONGEST_TABLE, b"refused: table: Read\n"),
             ("differences", self.table, model.LONGEST_TABLE + 1, b"refused: table: TooLong\n"),
             ("differences", self.table, model.LONGEST_TABLE, b"refused: table: Read\n"),
+            ("report --table", self.table, model.LONGEST_TABLE + 1, b"refused: table: TooLong\n"),
+            ("report --table", self.table, model.LONGEST_TABLE, b"refused: table: Read\n"),
         ]:
             with self.subTest(expected):
                 path.write_bytes(b" " * (model.LONGEST_SHEET + 2))

@@ -42,7 +42,8 @@ SHARED = [
 # Where each file is installed from.
 SOURCES = {name: f"packaging/{name}" for name in SHARED}
 SOURCES |= {f"{DOCUMENT_FOLDER}/{name}": name for name in DOCUMENTS}
-SOURCES |= {f"share/station_check/{path.name}": f"examples/{path.name}" for path in (ROOT / "examples").glob("*.py")}
+TOOL_FILES = [path.name for kind in ("py", "html") for path in (ROOT / "examples").glob(f"*.{kind}")]
+SOURCES |= {f"share/station_check/{name}": f"examples/{name}" for name in TOOL_FILES}
 SOURCES |= {f"bin/{name}": f"examples/{script}" for script, name in TOOLS.items()}
 
 INSTALLED = ["bin/station_check", *SOURCES]

@@ -28,12 +28,15 @@ class Case(NamedTuple):
     residual: int | None = None
     decimals: int = model.USUAL_DECIMALS
     within: int | None = None
+    degrees: bool = False
 
-    def expected(self, gsi: Path = Path("field.gsi")) -> Answer:
-        """What the model answers, of a field file at this path."""
-        name = None if self.station is None else self.station.encode()
+    def expected(
+        self, gsi: Path = Path("field.gsi"), sheet: Path = Path("table.csv")
+    ) -> Answer:
+        """What the model answers, of files at these paths."""
+        name = (self.station or "").encode()
         if self.command == "mark":
-            return model.marked(self.gsi, name)
+            return model.marked(self.gsi, None if self.station is None else name)
         if self.command == "words":
             return model.words(self.gsi)
         if self.command == "list":
@@ -47,11 +50,17 @@ class Case(NamedTuple):
         if self.command == "residuals":
             return model.residuals(self.gsi, name, self.limits)
         if self.command == "differences":
-            return model.differences(self.gsi, name, self.sheet, self.limits)
+            return model.differences(self.gsi, name, self.sheet, self.limits, self.degrees)
         if self.command == "report":
             return model.reported(self.gsi, bytes(gsi), name, self.limits)
+        if self.command == "report --csv":
+            return model.reported_rows(self.gsi, name, self.limits)
+        if self.command == "report --table":
+            table = model.ReportTable(bytes(sheet), self.sheet, self.within, self.degrees)
+            return model.reported(self.gsi, bytes(gsi), name, self.limits, table=table)
         if self.command == "compare":
-            return model.compared(self.gsi, name, self.sheet, self.limits, self.within)
+            units = self.within, self.degrees
+            return model.compared(self.gsi, name, self.sheet, self.limits, *units)
         return model.check(self.gsi, self.sheet, self.limits, self.residual)
 
     def args(self, gsi: Path, sheet: Path) -> list:
@@ -64,6 +73,8 @@ class Case(NamedTuple):
             options.append(f"--residual={in_mgon(self.residual, model.RESIDUAL_UNIT)}")
         if self.within is not None:
             options.append(f"--within={in_mgon(self.within, model.TABLE_UNIT)}")
+        if self.degrees:
+            options.append("--degrees")
         if self.command == "mark":
             return ["mark", *([] if self.station is None else [f"--station={self.station}"]), gsi]
         return {
@@ -77,6 +88,8 @@ class Case(NamedTuple):
             "residuals": ["residuals", *options, "--", gsi, self.station],
             "differences": ["differences", *options, "--", gsi, self.station, sheet],
             "report": ["report", *options, "--", gsi, self.station],
+            "report --csv": ["report", "--csv", *options, "--", gsi, self.station],
+            "report --table": ["report", f"--table={sheet}", *options, "--", gsi, self.station],
             "compare": ["compare", *options, "--", gsi, self.station, sheet],
             "check": ["check", *options, gsi, sheet],
         }[self.command]
@@ -99,9 +112,13 @@ class AgainstModel(ProgramTest):
         """The path of the field file of a case."""
         return self.folder / f"{place}.gsi"
 
+    def sheet(self, place: int) -> Path:
+        """The path of its sheet or table."""
+        return self.folder / f"{place}.csv"
+
     def answer(self, place: int, case: Case) -> Answer:
         """What the program answers, over files of this run alone."""
-        gsi, sheet = self.field(place), self.folder / f"{place}.csv"
+        gsi, sheet = self.field(place), self.sheet(place)
         gsi.write_bytes(case.gsi)
         sheet.write_bytes(case.sheet)
         answer = answer_of(case.args(gsi, sheet))
@@ -117,5 +134,5 @@ class AgainstModel(ProgramTest):
         for place, (case, answer) in enumerate(zip(cases, answers)):
             found.append(answer)
             with self.subTest(case.name, gsi=case.gsi[:2000], sheet=case.sheet[:2000]):
-                self.assertEqual(case.expected(self.field(place)), answer)
+                self.assertEqual(case.expected(self.field(place), self.sheet(place)), answer)
         return found

@@ -1,7 +1,8 @@
 """Field files, sheets and tables of directions of a fixed seed: right ones, and ones with every
 kind of fault.
 
-`python3 tests/support/generated.py [COUNT]` prints how often the model answers what over so many files.
+`python3 tests/support/generated.py [COUNT]` prints how often the model answers what over so many
+files.
 """
 
 import math
@@ -10,6 +11,7 @@ import sys
 from collections import Counter
 from fractions import Fraction
 from random import Random
+from typing import Any, Iterator, Sequence
 
 import model
 import worked
@@ -18,6 +20,12 @@ from kinds import kind_of
 from model import CIRCLE, HALF_CIRCLE, TURN, Limits
 
 SEED = 20_000_002
+
+# A target with its direction; a sight of a target in a face; a reading: a target, a direction and a
+# zenith angle.
+Target = tuple[str, int]
+Sight = tuple[str, int]
+Reading = tuple[str, int, int]
 
 NAMES = ["A", "B", "C", "D", "S1", "S2", "10", "0", '1,"A', "A B", "-7", "x" * 8]
 LINE_ENDS = ["\r\n", "\n", "\r", "\n\n", " \r\n", "   \n", "\r\n    \r\n"]
@@ -32,16 +40,17 @@ RARE = 10
 class FieldFile:
     """A field file that is written block by block; `chance` says how often a step goes wrong."""
 
-    def __init__(self, random, chance):
+    def __init__(self, random: Random, chance: float) -> None:
         self.random, self.chance = random, chance
         self.limits = random.choice(LIMITS)
         self.wide = random.choice([False, False, True, None])
-        self.lines = []
+        self.lines = list[str]()
 
-    def goes_wrong(self, weight=1):
+    def goes_wrong(self, weight: float = 1) -> bool:
+        """Whether the next step goes wrong."""
         return self.random.random() < self.chance * weight
 
-    def word(self, index, information, sign, content):
+    def word(self, index: int, information: str, sign: str, content: str) -> list[str]:
         """The parts of a word, of which one may be changed."""
         parts = [f"{index:02}", information, sign, content]
         if self.goes_wrong(0.3):
@@ -51,7 +60,7 @@ class FieldFile:
             parts[place] = self.random.choice(others)
         return parts
 
-    def add(self, *words):
+    def add(self, *words: Sequence[str]) -> None:
         """A line of these words, in the width of the file or, where it has both, in one of them."""
         wide = self.random.random() < 0.5 if self.wide is None else self.wide
         width = 16 if wide else 8
@@ -61,17 +70,20 @@ class FieldFile:
             line = self.changed(line)
         self.lines.append(line)
 
-    def changed(self, line):
+    def changed(self, line: str) -> str:
+        """The line with one change."""
         place = self.random.randrange(len(line) + 1)
         before, after = line[:place], line[place:]
         changed = [before, after, before + " " + after, before + "\t" + after[1:]]
         changed += [before + "\x7f" + after, "*" + line, "51" + line[2:], line + " 11"]
         return self.random.choice([*changed, line.ljust(1_024), line.ljust(1_025)])
 
-    def number(self):
+    def number(self) -> str:
+        """The number of the next block, in its word 11 or 41."""
         return f"{len(self.lines) + 1:04}"[-4:]
 
-    def code(self, code, name=None):
+    def code(self, code: str, name: str | None = None) -> None:
+        """A block of a code, with a name in word 42 or without."""
         words = [self.word(41, self.number(), "+", code)]
         if name is not None:
             words.append(self.word(42, "....", self.random.choice("++-"), name))
@@ -80,7 +92,8 @@ class FieldFile:
             words = self.random.choice([words[:1], [*words, more], [*words, more]])
         self.add(*words)
 
-    def angle(self, index, value):
+    def angle(self, index: int, value: int) -> list[str]:
+        """The word of an angle, of which something may be wrong."""
         mode, unit, sign, text = self.random.choice(".023"), "2", "+", f"{value:08}"
         if self.goes_wrong():
             change = self.random.randrange(5)
@@ -91,24 +104,26 @@ class FieldFile:
             text = self.random.choice(["40000000", "99999999"]) if change == 4 else text
         return self.word(index, f".1{mode}{unit}", sign, text)
 
-    def reading(self, target, direction, zenith):
+    def reading(self, target: str, direction: int, zenith: int) -> None:
+        """A block of a reading, of which a word may be missing or there twice."""
         words = [self.word(11, self.number(), self.random.choice("++-"), target)]
         words += [self.angle(21, direction % CIRCLE), self.angle(22, zenith)]
         if self.random.random() < 0.1:
-            words.insert(self.random.randrange(1, len(words) + 1), ("31", "..00", "+", "00012345"))
+            words.insert(self.random.randrange(1, len(words) + 1), ["31", "..00", "+", "00012345"])
         if self.goes_wrong():
             fewer = [[words[0], words[-1]], words[:2], words[:1]]
             more = [[*words, words[1]], [*words, words[-1]]]
             words = self.random.choice(fewer + more)
         self.add(*words)
 
-    def difference(self, limit):
+    def difference(self, limit: int) -> int:
+        """A face difference near a limit, or above it."""
         edges = [0, 0, 0, 1, -1, limit, -limit, self.random.randint(-limit, limit)]
         if self.goes_wrong():
             edges = [limit + 1, -limit - 1, limit * 3 + 7]
         return self.random.choice(edges)
 
-    def pair(self, target, direction):
+    def pair(self, target: str, direction: int) -> tuple[Reading, Reading]:
         """The two readings of a target near a direction."""
         two_c, two_i = self.difference(self.limits.two_c), self.difference(self.limits.two_i)
         any_zenith = self.random.randrange(1, HALF_CIRCLE)
@@ -118,14 +133,15 @@ class FieldFile:
             zenith = self.random.choice([0, HALF_CIRCLE, CIRCLE])
         return (target, direction, zenith), (target, direction + HALF_CIRCLE + two_c, other)
 
-    def one_set(self, number, targets):
+    def one_set(self, number: int | str, targets: Sequence[Target]) -> None:
+        """A set of these targets, whose readings may be in any order, missing or twice."""
         self.code("20", str(number))
         if self.goes_wrong(3):
             targets = []
         turned = self.random.randrange(CIRCLE)
         gross = 9_000 if self.goes_wrong(3) else 0
 
-        def near(direction):
+        def near(direction: int) -> int:
             error = self.random.choice([gross, 0]) + self.random.randint(-9, 9)
             return direction + turned + error
 
@@ -140,7 +156,7 @@ class FieldFile:
             self.reading(*reading)
         self.closing()
 
-    def closing(self):
+    def closing(self) -> None:
         """What may stand between sets."""
         if self.random.random() < 0.4:
             self.code("30")
@@ -149,10 +165,12 @@ class FieldFile:
         if self.random.random() < 0.1:
             self.reading("99", 1, 1)
 
-    def station(self, name):
+    def station(self, name: str) -> None:
+        """A station of this name, with some sets of some targets."""
         self.code("10", name)
         names = self.random.sample(NAMES, self.random.randint(1, 4))
         targets = [(target, self.random.randrange(CIRCLE)) for target in names]
+        numbers: list[int | str]
         numbers = self.random.sample([1, 2, 3, 7, 12, 9_999], self.random.randint(0, 4))
         most = self.random.choice([1, len(targets), len(targets), 0])
         if self.goes_wrong(RARE):
@@ -162,7 +180,7 @@ class FieldFile:
             seen = self.random.sample(targets, self.random.randint(1, most)) if most else targets
             self.one_set(number, seen)
 
-    def text(self):
+    def text(self) -> bytes:
         """The bytes of the file, in one of the forms of line ends."""
         if self.goes_wrong(2):
             self.lines = self.lines[1:]
@@ -171,7 +189,7 @@ class FieldFile:
         return (joined + (end if self.random.random() < 0.8 else "")).encode("latin-1")
 
 
-def field_file(random):
+def field_file(random: Random) -> tuple[bytes, Limits]:
     """A field file and its limits."""
     chance = random.choice([0, *CHANCES])
     field = FieldFile(random, chance)
@@ -197,37 +215,40 @@ WAYS = {
 class Job:
     """A job that is written sight by sight, as a generated file is block by block."""
 
-    def __init__(self, random):
+    def __init__(self, random: Random) -> None:
         self.random = random
         self.lines = FieldFile(random, random.choice([0, 0, 0.003]))
         self.lines.limits = Limits()
 
-    def set_up(self, name):
+    def set_up(self, name: str) -> None:
+        """A set-up line of a station."""
         more = self.random.choice([84, 85, 86, 87, 88, 88, 88])
         words = [["11", self.lines.number(), "+", name], [f"{more}", "..10", "+", "1543"]]
         self.lines.add(*words)
 
-    def height(self, target):
+    def height(self, target: str) -> None:
         """A height that is measured, with a word that a set-up line has too."""
         measured = self.random.choice([["22"], ["31"], ["22", "31"]])
         words = [[index, "..00", "+", "9500000"] for index in measured]
         more = self.random.choice(["84", "86", "88"])
-        self.lines.add(["11", self.lines.number(), "+", target], *words, [more, "..10", "+", "1543"])
+        point = ["11", self.lines.number(), "+", target]
+        self.lines.add(point, *words, [more, "..10", "+", "1543"])
 
-    def sight(self, target, face):
+    def sight(self, target: str, face: int) -> None:
+        """A reading of a target in a face."""
         direction = sum(map(ord, target)) * 100_000 + (face - 1) * HALF_CIRCLE
         error = self.random.randint(-40, 40)
         zenith = 10_000_000 if face == 1 else 30_000_000 + error
         self.lines.reading(target, direction + error, zenith)
 
-    def leading(self, targets):
+    def leading(self, targets: Sequence[str]) -> None:
         """Sights for orientation and checks."""
         chosen = self.random.choice([*targets, "X"])
-        faces = self.random.choice([[]] * 6 + [[1], [1], [1, 2], [2], [1, 1], [1, 1, 1, 1]])
-        for face in faces:
+        none = [list[int]()] * 6
+        for face in self.random.choice([*none, [1], [1], [1, 2], [2], [1, 1], [1, 1, 1, 1]]):
             self.sight(chosen, face)
 
-    def changed(self, sights):
+    def changed(self, sights: list[Sight]) -> list[Sight]:
         """The sights of a set, of which one may be missing, twice, changed or too many."""
         place = self.random.randrange(len(sights))
         before, one, after = sights[:place], sights[place], sights[place + 1 :]
@@ -243,7 +264,8 @@ class Job:
             [(target, 3 - face) for target, face in sights],
         ])
 
-    def sets(self, targets):
+    def sets(self, targets: Sequence[str]) -> None:
+        """Sets of these targets, of which some are read in another way or are no sets."""
         way = WAYS[self.random.choice(list(WAYS))]
         turned = self.random.random() < 0.1  # the first face changes from set to set
         other = self.random.random() < 0.04
@@ -267,7 +289,7 @@ class Job:
                 if self.random.random() < 0.02:
                     self.height(sight[0])
 
-    def trailing(self, targets):
+    def trailing(self, targets: Sequence[str]) -> None:
         """Check sights and detail points."""
         if self.random.random() < 0.1:
             for face in self.random.choice([[1], [1, 2]]):
@@ -275,7 +297,8 @@ class Job:
         for number in range(self.random.choice([0, 0, 0, 1, 3])):
             self.sight(f"{100 + number}", self.random.choice([1, 1, 1, 2]))
 
-    def station(self):
+    def station(self) -> None:
+        """A station: sights before its sets, the sets, and sights after them."""
         targets = self.random.sample(["A", "B", "C", "D", "E"], self.random.randint(1, 4))
         if self.random.random() < 0.08:  # so many that they are not looked through one by one
             targets = [f"T{number}" for number in range(self.random.randint(15, 40))]
@@ -287,7 +310,7 @@ class Job:
             self.lines.code(code, self.random.choice([None, "1"]))
 
 
-def job(random):
+def job(random: Random) -> tuple[bytes, str | None]:
     """A job without codes, and the name of its station that is stated, if one is."""
     made = Job(random)
     stated = random.choice([None, None, "S1", "S1", "NINEBYTES", "A B"])
@@ -303,7 +326,7 @@ def job(random):
 # ---------------------------------------------------------------- sheets
 
 
-def least_sheet(random, station):
+def least_sheet(random: Random, station: model.Station) -> model.Sheet:
     """The sheet of a station under some full turns."""
     turns = [random.choice([0, 0, 0, 0, 0, 1, -1, 9]) for _ in station.observations]
     directions, orientations = model.adjusted(station, turns)
@@ -322,7 +345,7 @@ def least_sheet(random, station):
     )
 
 
-def moved(random, sheet):
+def moved(random: Random, sheet: model.Sheet) -> model.Sheet:
     """The sheet, now and then with all of it turned, or with two orientations moved apart."""
     change, by = random.randrange(12), random.choice([1, -1, sheet.denominator, -TURN])
     directions, orientations = list(sheet.directions), list(sheet.orientations)
@@ -336,7 +359,7 @@ def moved(random, sheet):
     return sheet._replace(directions=directions, orientations=orientations)
 
 
-def change_row(random, rows):
+def change_row(random: Random, rows: list[model.Row]) -> None:
     """A row dropped, repeated or moved, the rest of the rows dropped, or a field changed."""
     row = random.randrange(len(rows))
     column = random.randrange(len(rows[row]))
@@ -362,12 +385,12 @@ def change_row(random, rows):
         rows[row][column] = random.choice(kinds + numbers + others)
 
 
-def written(random, rows):
+def written(random: Random, rows: list[model.Row]) -> bytes:
     """The text of rows; fields may be quoted without need."""
     quotes = random.choice([0, 0, 0.2, 1])
     end = random.choice([b"\n", b"\n", b"\r\n", b"\r", b"\n\n"])
 
-    def text_of(field):
+    def text_of(field: bytes) -> bytes:
         quoted = b'"' + field.replace(b'"', b'""') + b'"'
         return quoted if random.random() < quotes else model.field_text(field)
 
@@ -375,7 +398,7 @@ def written(random, rows):
     return random.choice([b"", b"", b"", b"\xef\xbb\xbf", b"\n"]) + text
 
 
-def sheet_text(random, stations):
+def sheet_text(random: Random, stations: list[model.Station]) -> bytes:
     """A sheet of one of the stations, or what is left of one after some changes."""
     text = model.sheet_text(moved(random, least_sheet(random, random.choice(stations))))
     rows = list(model.records_of(text))
@@ -395,19 +418,19 @@ def sheet_text(random, stations):
 # ---------------------------------------------------------------- stations to adjust
 
 
-def seen_in(random, kind, targets, place):
+def seen_in(random: Random, kind: str, targets: list[Target], place: int) -> list[Target]:
     """The targets that are observed in a set: all of them, some, or two neighbours in a chain."""
     if kind == "chain":
         return targets[place : place + 2]
     return random.sample(targets, random.randint(2, len(targets))) if kind == "gaps" else targets
 
 
-def scattered(random, direction):
+def scattered(random: Random, direction: int) -> int:
     """A reading near a direction."""
     return (direction + random.randint(-30, 30)) % CIRCLE
 
 
-def station_to_adjust(random, most_sets=7, most_targets=9):
+def station_to_adjust(random: Random, most_sets: int = 7, most_targets: int = 9) -> bytes:
     """The field file of the station S1, in sets that are complete, have gaps or are a chain; of
     some targets the readings lie on both sides of zero."""
     kind = random.choice(["complete", "gaps", "gaps", "chain"])
@@ -430,25 +453,40 @@ def station_to_adjust(random, most_sets=7, most_targets=9):
 # ---------------------------------------------------------------- tables of directions
 
 
-def direction_text(direction, decimals):
+def direction_text(direction: Fraction, decimals: int) -> bytes:
     """A direction in gon as a table states it, cut to so many decimals."""
     whole, rest = divmod(int(abs(direction) * 10**decimals), 10**decimals)
     sign = b"-" if direction < 0 else b""
     return sign + (b"%d.%0*d" % (whole, decimals, rest) if decimals else b"%d" % whole)
 
 
-def stated_of(random, station):
+def degrees_text(random: Random, direction: Fraction) -> bytes:
+    """A direction in gon as a table states it in degrees, cut to some decimals: with minutes and
+    seconds by hyphens or by their signs, or with decimals."""
+    degrees = direction * Fraction(9, 10)
+    decimals = random.choice([0, 1, 2, 4, 6])
+    if random.random() < 0.3:
+        return direction_text(degrees, random.choice([decimals, 9]))
+    whole, rest = divmod(int(abs(degrees) * 3600 * 10**decimals), 3600 * 10**decimals)
+    minutes, rest = divmod(rest, 60 * 10**decimals)
+    seconds, rest = divmod(rest, 10**decimals)
+    form = random.choice([b"%s%d-%02d-%02d%s", b"%s%d\xc2\xb0%02d'%02d%s\""])
+    sign, more = b"-" if degrees < 0 else b"", b".%0*d" % (decimals, rest) if decimals else b""
+    return form % (sign, whole, minutes, seconds, more)
+
+
+def stated_of(random: Random, station: model.Station) -> list[Fraction]:
     """Directions that a program could state of a station, all turned by some angle."""
     try:
         directions = model.least_of(station)
     except model.Refusal:
         directions = [Fraction(random.randrange(CIRCLE), 10**5) for _ in station.targets]
-    turned = random.choice([0, 0, Fraction(random.randrange(CIRCLE), 10**5)])
+    turned = random.choice([Fraction(0), Fraction(0), Fraction(random.randrange(CIRCLE), 10**5)])
     turned_all = [(direction + turned) % model.CIRCLE_IN_GON for direction in directions]
     return [direction - random.choice([0, 0, 0, 400]) for direction in turned_all]
 
 
-def change_table_row(random, rows):
+def change_table_row(random: Random, rows: list[model.Row]) -> None:
     """A row dropped or repeated, or a field changed."""
     row = random.choice(rows)
     change = random.randrange(6)
@@ -461,22 +499,27 @@ def change_table_row(random, rows):
     elif change == 3:
         row[:] = random.choice([row[:1], [*row, b""]])
     else:
-        others = [b"1e2", b"+5", b"400", b"-400", b"401", b"399.999999999", b"-0", b"7.", b".7", b""]
-        more = [b"000", b"0.0000000000", b"0.0000000001", b".", b"7,5", b"+-1", b"400.000000001"]
+        others = [b"1e2", b"+5", b"400", b"-400", b"401", b"399.999999999", b"-0", b"7.", b".7"]
+        more = [b"", b"000", b"0.0000000000", b"0.0000000001", b".", b"7,5", b"+-1"]
+        more += [b"400.000000001", b"360-00-00", b"359-59-60", b"7-60-00", b"7-5-00", b"7-05"]
+        more.append(b"7\xc2\xb005'00.5\"")
         row[-1] = random.choice([*others, *more, row[-1] + b"0", row[-1] + b" "])
 
 
-def table_rows(random, station):
+def table_rows(random: Random, station: model.Station, degrees: bool = False) -> list[model.Row]:
     """The rows of a table of a station's directions, in any order."""
     decimals = random.choice([0, 1, 3, 4, 5, 5, 6, 6, 7, 8, 9])
     directions = stated_of(random, station)
-    texts = [direction_text(direction, decimals) for direction in directions]
+    texts = [
+        degrees_text(random, direction) if degrees else direction_text(direction, decimals)
+        for direction in directions
+    ]
     rows = [list(row) for row in zip(station.targets, texts)]
     random.shuffle(rows)
     return rows
 
 
-def loosely(random, rows):
+def loosely(random: Random, rows: list[model.Row]) -> bytes:
     """The rows of a table as programs write them: by any separator, with titles or without."""
     separator = random.choice([b",", b";", b"\t", b"  ", b" "])
     has_commas = separator != b"," and random.random() < 0.5
@@ -489,18 +532,19 @@ def loosely(random, rows):
     return b"\n".join(lines) + b"\n"
 
 
-def table_text(random, rows):
+def table_text(random: Random, rows: list[model.Row]) -> bytes:
+    """The text of a table of these rows, as one program or another writes it."""
     return random.choice([written, loosely])(random, rows)
 
 
-def table_of_station(random, station):
+def table_of_station(random: Random, station: model.Station, degrees: bool = False) -> bytes:
     """A table of a station's directions."""
-    return table_text(random, table_rows(random, station))
+    return table_text(random, table_rows(random, station, degrees))
 
 
-def changed_table(random, station):
+def changed_table(random: Random, station: model.Station, degrees: bool = False) -> bytes:
     """Such a table, or what is left of one after some changes."""
-    rows = table_rows(random, station)
+    rows = table_rows(random, station, degrees)
     for _ in range(random.choice([0, 0, 0, 0, 1, 1, 2])):
         if rows:
             change_table_row(random, rows)
@@ -510,7 +554,7 @@ def changed_table(random, station):
 # ---------------------------------------------------------------- cases
 
 
-def cases_of_jobs(place):
+def cases_of_jobs(place: int) -> Iterator[Case]:
     """Runs over jobs without codes."""
     random = Random(f"job {SEED} {place}")
     for nth in range(3):
@@ -518,7 +562,7 @@ def cases_of_jobs(place):
         yield Case(f"{place}: job {nth}", "mark", text, station=stated)
 
 
-def cases_of(place):
+def cases_of(place: int) -> Iterator[Case]:
     """The runs over one generated file, and over sheets of its stations."""
     random = Random(f"{SEED} {place}")
     field, limits = field_file(random)
@@ -535,17 +579,22 @@ def cases_of(place):
     station = random.choice(stations).name.decode()
     asked = random.choice([station, station, station, "?"])
     yield Case(f"{place}: means", "means", field, station=asked, limits=limits)
-    of_station = {"station": asked, "limits": limits}
+    of_station: dict[str, Any] = {"station": asked, "limits": limits}
     decimals = random.randint(1, 8)
     yield Case(f"{place}: directions", "directions", field, decimals=decimals, **of_station)
     yield Case(f"{place}: residuals", "residuals", field, **of_station)
     yield Case(f"{place}: report", "report", field, **of_station)
+    yield Case(f"{place}: rows of the report", "report --csv", field, **of_station)
     for nth in range(2):
         compared = random.choice(stations)
         within = random.choice([None, None, None, 10, 0, 1, 100, 1_000_000])
-        of_table = {"station": compared.name.decode(), "limits": limits, "within": within}
-        table = changed_table(random, compared)
+        of_table: dict[str, Any] = {"station": compared.name.decode(), "limits": limits}
+        of_table["within"] = within
+        degrees = random.random() < 0.3
+        table = changed_table(random, compared, degrees)
+        of_table["degrees"] = degrees != (random.random() < 0.1)
         yield Case(f"{place}: table {nth}", "compare", field, table, **of_table)
+        yield Case(f"{place}: report with table {nth}", "report --table", field, table, **of_table)
         del of_table["within"]
         yield Case(f"{place}: differences {nth}", "differences", field, table, **of_table)
     for nth in range(3):
@@ -554,13 +603,14 @@ def cases_of(place):
         yield Case(f"{place}: sheet {nth}", "check", field, sheet, limits=limits, residual=residual)
 
 
-def generated(count):
+def generated(count: int) -> Iterator[Case]:
+    """The runs over so many generated files and jobs."""
     for place in range(count):
         yield from cases_of_jobs(place)
         yield from cases_of(place)
 
 
-def main():
+def main() -> None:
     count = int(sys.argv[1]) if len(sys.argv) > 1 else 1_000
     kinds = Counter(kind_of(case.expected()) for case in generated(count))
     for kind, met in kinds.most_common():

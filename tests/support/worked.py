@@ -100,6 +100,33 @@ Degrees of freedom    1
 Standard deviation    0.010 mgon, of one two-face direction
 """
 
+REPORT_ROWS = b"""\
+station,set,target,face one,face two,direction,2c,2i,adjusted,residual
+S1,1,A,0.000000,200.000060,0.000030,0.06,-0.02,0.000025,-0.005
+S1,1,B,50.000000,250.000100,50.000050,0.10,0.00,50.000055,0.005
+S1,2,A,100.000000,300.000040,100.000020,0.04,0.00,100.000025,0.005
+S1,2,B,150.000040,350.000080,150.000060,0.04,0.00,150.000055,-0.005
+"""
+
+# What stands in the report, before the residuals, of a table whose path is put in. Each of its two
+# directions is 15 units off after one rotation.
+SECTION = b"""\
+Stated directions in gon, differences in mgon: stated less adjusted, after the best rotation
+
+  Target                      Stated    Difference
+
+  A                       100.000100         0.015
+  B                       150.000100        -0.015
+
+Table                 %s
+Limit of differences  0.051 mgon
+Comparison            agrees S1: 2 targets, within 15
+
+"""
+
+# The table.
+TABLE_15 = b"B,150.0001\nA,100.0001\n"
+
 # The zenith angles of a reading in face I and in face II where nothing else is said.
 ZENITHS = (10_000_000, 30_000_000)
 

@@ -15,10 +15,14 @@ use Rattle.command_line.specs.Commands.{the_program}
 use Rattle.command_line.specs.Stated.{IsGiven, IsMissing, StatesDigests, StatesForm, StatesLimits}
 use Rattle.command_line.specs.Stated.{StatesName, StatesNoLimits, StatesNoName, StatesNoNumber}
 use Rattle.command_line.specs.Stated.{StatesNoResidual, StatesNoWithin, StatesNumber}
-use Rattle.command_line.specs.Stated.{StatesResidual, StatesWithin}
+use Rattle.command_line.specs.Stated.{StatesResidual, StatesUnit, StatesWithin}
 use Rattle.command_line.specs.declared.request.Digests.{Digests}
+use Rattle.command_line.specs.declared.request.Digests.TheVariants.{Omitted, Printed}
+use Rattle.command_line.specs.declared.request.ListForm.TheVariants.{Lines, Rows}
 use Rattle.command_line.specs.declared.request.Request.{Request}
 use Rattle.command_line.specs.declared.request.Request.TheVariants as request
+use Rattle.direction_table.specs.declared.unit.AngleUnit.{AngleUnit}
+use Rattle.direction_table.specs.declared.unit.AngleUnit.TheVariants.{Gon, Degrees}
 
 -- What is asked for, with the paths of its files.
 abbrev pub Asked : Type 0
@@ -32,14 +36,47 @@ pub record AsksOfStation (found : Found) (gsi station : List ℕ) (limits : Face
   pub of_station : IsGiven found (codes "STATION") station
   pub of_limits : StatesLimits found limits
 
--- What `compare` asks for: a station, the path of the table, the limit of the comparison or none,
--- and whether digests are printed.
-pub record AsksToCompare (found : Found) (gsi station table : List ℕ) (limits : FaceLimits)
-    (within : Option ℕ) (digests : Digests) : Type 0 where
+-- What `compare` asks for: a station, the path of the table and its unit, the limit of the
+-- comparison or none, and whether digests are printed.
+pub record AsksToCompare (found : Found) (gsi station table : List ℕ) (unit : AngleUnit)
+    (limits : FaceLimits) (within : Option ℕ) (digests : Digests) : Type 0 where
   pub station_of : AsksOfStation found gsi station limits
   pub of_table : IsGiven found (codes "TABLE") table
+  pub of_unit : StatesUnit found unit
   pub of_within : StatesWithin found within
   pub of_digests : StatesDigests found digests
+
+-- What `report` asks for without a table: a station, and whether digests are printed. No limit of a
+-- comparison is stated and no unit but gon, and not that it be of rows.
+pub record AsksToReport (found : Found) (gsi station : List ℕ) (limits : FaceLimits)
+    (digests : Digests) : Type 0 where
+  pub station_of : AsksOfStation found gsi station limits
+  pub no_table : IsMissing found (codes "table")
+  pub no_within : StatesWithin found None
+  pub no_degrees : StatesUnit found Gon
+  pub of_digests : StatesDigests found digests
+  pub of_lines : StatesForm found Lines
+
+-- What it asks for as rows: a station, and nothing beside it.
+pub record AsksForReportRows (found : Found) (gsi station : List ℕ) (limits : FaceLimits)
+    : Type 0 where
+  pub station_of : AsksOfStation found gsi station limits
+  pub no_table : IsMissing found (codes "table")
+  pub no_within : StatesWithin found None
+  pub no_degrees : StatesUnit found Gon
+  pub no_digests : StatesDigests found Omitted
+  pub of_rows : StatesForm found Rows
+
+-- What it asks for with a table: all that `compare` asks for, where the table is that of the
+-- option.
+pub record AsksToReportTable (found : Found) (gsi station table : List ℕ) (unit : AngleUnit)
+    (limits : FaceLimits) (within : Option ℕ) (digests : Digests) : Type 0 where
+  pub station_of : AsksOfStation found gsi station limits
+  pub of_table : IsGiven found (codes "table") table
+  pub of_unit : StatesUnit found unit
+  pub of_within : StatesWithin found within
+  pub of_digests : StatesDigests found digests
+  pub of_lines : StatesForm found Lines
 
 -- What `check` asks for: its two paths, the limits of face differences, the residual limit or none,
 -- and whether digests are printed.
@@ -54,19 +91,24 @@ pub record AsksToCheck (found : Found) (gsi sheet : List ℕ) (limits : FaceLimi
 -- What a subcommand of this name asks for, by what is found of the words after it: each its own
 -- request.
 abbrev pub AsksFor : Text → Found → Asked → Type 0
-AsksFor name found (request.Compare gsi station table limits within digests) =
+AsksFor name found (request.Compare gsi station table unit limits within digests) =
     (name ≡ codes "compare")
-    × AsksToCompare found gsi.now station.now table.now limits within digests
-AsksFor name found (request.Differences gsi station table limits) =
+    × AsksToCompare found gsi.now station.now table.now unit limits within digests
+AsksFor name found (request.Differences gsi station table unit limits) =
     (name ≡ codes "differences") × AsksOfStation found gsi.now station.now limits
-    × IsGiven found (codes "TABLE") table.now
+    × IsGiven found (codes "TABLE") table.now × StatesUnit found unit
 AsksFor name found (request.Directions gsi station limits decimals) =
     (name ≡ codes "directions") × AsksOfStation found gsi.now station.now limits
     × StatesNumber found (codes "decimals") decimals
 AsksFor name found (request.Residuals gsi station limits) =
     (name ≡ codes "residuals") × AsksOfStation found gsi.now station.now limits
-AsksFor name found (request.Report gsi station limits) =
-    (name ≡ codes "report") × AsksOfStation found gsi.now station.now limits
+AsksFor name found (request.Report gsi station limits digests) =
+    (name ≡ codes "report") × AsksToReport found gsi.now station.now limits digests
+AsksFor name found (request.ReportRows gsi station limits) =
+    (name ≡ codes "report") × AsksForReportRows found gsi.now station.now limits
+AsksFor name found (request.TableReport gsi station table unit limits within digests) =
+    (name ≡ codes "report")
+    × AsksToReportTable found gsi.now station.now table.now unit limits within digests
 AsksFor name found (request.Check gsi sheet limits residual digests) =
     (name ≡ codes "check") × AsksToCheck found gsi.now sheet.now limits residual digests
 AsksFor name found (request.Means gsi station limits) =
@@ -99,6 +141,26 @@ LacksForDifferences found = LacksStation found ⊎ IsMissing found (codes "TABLE
 abbrev pub LacksForDirections : Found → Type 0
 LacksForDirections found = LacksStation found ⊎ StatesNoNumber found (codes "decimals") 1 8
 
+-- A limit of a comparison is stated, or that a table is in degrees, and no table.
+abbrev pub SpeaksOfNoTable : Found → Type 0
+SpeaksOfNoTable found =
+    IsMissing found (codes "table")
+    × (((within : ℕ) × StatesWithin found (Some within)) ⊎ StatesUnit found Degrees)
+
+-- A report is to be of rows, and something beside them is stated: a table, a limit of a comparison,
+-- that a table is in degrees, or that digests be printed.
+abbrev pub HasMoreThanRows : Found → Type 0
+HasMoreThanRows found =
+    StatesForm found Rows
+    × (((table : List ℕ) × IsGiven found (codes "table") table)
+    ⊎ ((within : ℕ) × StatesWithin found (Some within)) ⊎ StatesUnit found Degrees
+    ⊎ StatesDigests found Printed)
+
+-- What `report` needs isn't found, or what it has doesn't go together.
+abbrev pub LacksToReport : Found → Type 0
+LacksToReport found =
+    LacksStation found ⊎ StatesNoWithin found ⊎ SpeaksOfNoTable found ⊎ HasMoreThanRows found
+
 -- What `check` needs isn't found.
 abbrev pub LacksToCheck : Found → Type 0
 LacksToCheck found = IsMissing found (codes "GSI") ⊎ IsMissing found (codes "SHEET")
@@ -118,7 +180,7 @@ pub data Lacks (name : Text) (found : Found) : Type 0 where
   of_differences : name ≡ codes "differences" → LacksForDifferences found → Lacks name found
   of_directions : name ≡ codes "directions" → LacksForDirections found → Lacks name found
   of_residuals : name ≡ codes "residuals" → LacksStation found → Lacks name found
-  of_report : name ≡ codes "report" → LacksStation found → Lacks name found
+  of_report : name ≡ codes "report" → LacksToReport found → Lacks name found
   of_check : name ≡ codes "check" → LacksToCheck found → Lacks name found
   of_means : name ≡ codes "means" → LacksStation found → Lacks name found
   of_mark : name ≡ codes "mark" → LacksToMark found → Lacks name found

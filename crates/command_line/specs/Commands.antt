@@ -49,7 +49,7 @@ two_i_rule = face_limit_rule (codes "two-i")
 abbrev pub residual_rule : Rule
 residual_rule = text_rule (codes "residual")
 
--- How near a table must be: as is usual for its decimals where it is left out.
+-- How near a table must be: as is usual for its rows where it is left out.
 abbrev pub within_rule : Rule
 within_rule = text_rule (codes "within")
 
@@ -73,6 +73,10 @@ csv_rule = flag_rule (codes "csv")
 abbrev pub stated_name_rule : Rule
 stated_name_rule = text_rule (codes "station")
 
+-- The option `--table TABLE`, which may be left out: the path of a table.
+abbrev pub stated_table_rule : Rule
+stated_table_rule = text_rule (codes "table")
+
 -- The path of the field file.
 abbrev pub field_file_rule : Rule
 field_file_rule = given_rule (codes "GSI")
@@ -88,6 +92,10 @@ sheet_rule = given_rule (codes "SHEET")
 -- The path of the table.
 abbrev pub table_rule : Rule
 table_rule = given_rule (codes "TABLE")
+
+-- The flag `--degrees`: the table states degrees.
+abbrev pub degrees_rule : Rule
+degrees_rule = flag_rule (codes "degrees")
 
 -- The words of a fault: any number of them.
 abbrev pub fault_rule : Rule
@@ -108,6 +116,11 @@ alone s = record { top = s; subs = [] }
 abbrev pub of_station : App → App
 of_station a = with_rule (with_rule a field_file_rule) station_rule
 
+-- The same command with the arguments of a station, the path of a table and the flag of its unit
+-- after those that it has.
+abbrev pub of_table : App → App
+of_table a = with_rule (with_rule (of_station a) table_rule) degrees_rule
+
 -- The same command with the options of the limits of face differences after what it has.
 abbrev pub limited : App → App
 limited a = with_rule (with_rule a two_c_rule) two_i_rule
@@ -115,13 +128,14 @@ limited a = with_rule (with_rule a two_c_rule) two_i_rule
 -- `compare GSI STATION TABLE`
 abbrev pub compare_words : Shape
 compare_words = command (codes "compare")
-    (field_file_rule ∷ station_rule ∷ table_rule
+    (field_file_rule ∷ station_rule ∷ table_rule ∷ degrees_rule
     ∷ two_c_rule ∷ two_i_rule ∷ within_rule ∷ digests_rule ∷ [])
 
 -- `differences GSI STATION TABLE`
 abbrev pub differences_words : Shape
 differences_words = command (codes "differences")
-    (field_file_rule ∷ station_rule ∷ table_rule ∷ two_c_rule ∷ two_i_rule ∷ [])
+    (field_file_rule ∷ station_rule ∷ table_rule ∷ degrees_rule
+    ∷ two_c_rule ∷ two_i_rule ∷ [])
 
 -- `directions GSI STATION`
 abbrev pub directions_words : Shape
@@ -135,8 +149,10 @@ residuals_words =
 
 -- `report GSI STATION`
 abbrev pub report_words : Shape
-report_words =
-    command (codes "report") (field_file_rule ∷ station_rule ∷ two_c_rule ∷ two_i_rule ∷ [])
+report_words = command (codes "report")
+    (field_file_rule ∷ station_rule
+    ∷ two_c_rule ∷ two_i_rule ∷ stated_table_rule ∷ degrees_rule ∷ within_rule ∷ digests_rule
+    ∷ csv_rule ∷ [])
 
 -- `check GSI SHEET`
 abbrev pub check_words : Shape

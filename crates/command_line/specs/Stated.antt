@@ -10,6 +10,8 @@ use Rattle.limit_texts.specs.Limits.{StatesLimit}
 use Rattle.limit_texts.specs.declared.limit.LimitUnit.{LimitUnit}
 use Rattle.limit_texts.specs.declared.limit.LimitUnit.TheVariants.{Hundredth, HalfUnit, Thousandth}
 use Rattle.station_book.specs.Limits.{AreLimits, FaceLimits}
+use Rattle.direction_table.specs.declared.unit.AngleUnit.{AngleUnit}
+use Rattle.direction_table.specs.declared.unit.AngleUnit.TheVariants.{Gon, Degrees}
 use Rattle.command_line.specs.declared.request.Digests.{Digests}
 use Rattle.command_line.specs.declared.request.Digests.TheVariants.{Printed, Omitted}
 use Rattle.command_line.specs.declared.request.ListForm.{ListForm}
@@ -82,10 +84,16 @@ abbrev pub StatesDigests : Found → Digests → Type 0
 StatesDigests found Printed = one_text found (codes "sha256") ≡ Some (codes "true")
 StatesDigests found Omitted = one_text found (codes "sha256") ≢ Some (codes "true")
 
--- The list is of rows where the flag stands, and only there: its value is then the text `true`.
+-- A result is printed as rows where the flag stands, and only there: its value is then the text
+-- `true`.
 abbrev pub StatesForm : Found → ListForm → Type 0
 StatesForm found Rows = one_text found (codes "csv") ≡ Some (codes "true")
 StatesForm found Lines = one_text found (codes "csv") ≢ Some (codes "true")
+
+-- A table states degrees where the flag stands, and only there: its value is then the text `true`.
+abbrev pub StatesUnit : Found → AngleUnit → Type 0
+StatesUnit found Degrees = one_text found (codes "degrees") ≡ Some (codes "true")
+StatesUnit found Gon = one_text found (codes "degrees") ≢ Some (codes "true")
 
 -- This name of a station is stated, or none.
 abbrev pub StatesName : Found → Option (List ℕ) → Type 0

@@ -2,11 +2,12 @@
 
 ghost use Rattle.std.specs.Prelude.{◌≡◌, IfOk, IfErr};
 ghost use Rattle.clap.specs.Words.{app_of, kind_of, rule_of};
-ghost use Rattle.command_line.specs.Commands.{csv_rule, decimals_rule, digests_rule};
+ghost use Rattle.command_line.specs.Commands.{csv_rule, decimals_rule, degrees_rule, digests_rule};
 ghost use Rattle.command_line.specs.Commands.{face_limit_rule, fault_rule, field_file_rule};
 ghost use Rattle.command_line.specs.Commands.{flag_rule, given_rule, limited, number_rule};
-ghost use Rattle.command_line.specs.Commands.{of_station, residual_rule, sheet_rule};
-ghost use Rattle.command_line.specs.Commands.{stated_name_rule, station_rule, table_rule};
+ghost use Rattle.command_line.specs.Commands.{of_station, of_table, residual_rule, sheet_rule};
+ghost use Rattle.command_line.specs.Commands.{stated_name_rule, stated_table_rule, station_rule};
+ghost use Rattle.command_line.specs.Commands.{table_rule};
 ghost use Rattle.command_line.specs.Commands.{text_rule, two_c_rule, two_i_rule, within_rule};
 
 use crate::help;
@@ -42,6 +43,9 @@ pub(crate) const RESIDUAL: &str = "residual";
 /// The option of how near a table must be.
 pub(crate) const WITHIN: &str = "within";
 
+/// The flag that says that a table states degrees.
+pub(crate) const DEGREES: &str = "degrees";
+
 /// The option of how many decimals a direction is written with.
 pub(crate) const DECIMALS: &str = "decimals";
 
@@ -50,6 +54,9 @@ pub(crate) const SHA256: &str = "sha256";
 
 /// The flag that prints rows.
 pub(crate) const CSV: &str = "csv";
+
+/// The option of the path of a table.
+pub(crate) const STATED_TABLE: &str = "table";
 
 /// The option of the name of the file's one station.
 pub(crate) const STATED_NAME: &str = "station";
@@ -92,10 +99,19 @@ pub(crate) fn sheet_file<'a>(alloc: Global) -> Arg<'a>
 }
 
 /// The argument of the path of the table.
-pub(crate) fn table_file<'a>(alloc: Global) -> Arg<'a>
+fn table_file<'a>(alloc: Global) -> Arg<'a>
     ensures { rule_of result ≡ table_rule }
 {
     given(alloc, TABLE).help(help::TABLE_HELP)
+}
+
+/// The option of the path of a table.
+pub(crate) fn stated_table<'a>(alloc: Global) -> Arg<'a>
+    ensures { rule_of result ≡ stated_table_rule }
+{
+    text_option(alloc, STATED_TABLE, "TABLE")
+        .help("A table of directions, which stands beside the adjusted ones")
+        .long_help(help::STATED_TABLE_LONG_HELP)
 }
 
 /// A command with the arguments of a station: the path of the field file, and the station's name.
@@ -104,6 +120,16 @@ pub(crate) fn with_station<'a>(alloc: Global, command: Command<'a>) -> Result<Co
     ensures memory { IfErr result (λ error. kind_of error ≡ ErrorKind.OutOfMemory) }
 {
     Ok(command.arg(field_file(alloc))?.arg(station_name(alloc))?)
+}
+
+/// A command with the arguments of a table: those of a station, the path of the table, and the flag
+/// of its unit.
+pub(crate) fn with_table<'a>(alloc: Global, command: Command<'a>) -> Result<Command<'a>, Error>
+    ensures table { IfOk result (λ c. app_of c ≡ of_table (app_of command.entry)) }
+    ensures memory { IfErr result (λ error. kind_of error ≡ ErrorKind.OutOfMemory) }
+{
+    let command = with_station(alloc, command)?;
+    Ok(command.arg(table_file(alloc))?.arg(degrees_flag(alloc))?)
 }
 
 /// The option with the name of the file's one station.
@@ -173,6 +199,15 @@ pub(crate) fn within<'a>(alloc: Global) -> Arg<'a>
         .long_help(help::WITHIN_LONG_HELP)
 }
 
+/// The flag that says that a table states degrees.
+pub(crate) fn degrees_flag<'a>(alloc: Global) -> Arg<'a>
+    ensures { rule_of result ≡ degrees_rule }
+{
+    flag(alloc, DEGREES)
+        .help("Read the directions of the table in degrees, and not in gon")
+        .long_help(help::DEGREES_LONG_HELP)
+}
+
 /// The option of how many decimals a direction is written with.
 pub(crate) fn decimals<'a>(alloc: Global) -> Arg<'a>
     ensures { rule_of result ≡ decimals_rule }
@@ -189,7 +224,7 @@ pub(crate) fn digests_flag<'a>(alloc: Global) -> Arg<'a>
     ensures { rule_of result ≡ digests_rule }
 {
     flag(alloc, SHA256)
-        .help("Print the SHA-256 digests of both files after the line of the answer")
+        .help("Print the SHA-256 digests of what was read, after the answer")
         .long_help(help::SHA256_LONG_HELP)
 }
 

@@ -8,8 +8,8 @@ ghost use Rattle.command_line.specs.Commands.{list_words, mark_words, means_word
 ghost use Rattle.command_line.specs.Commands.{residuals_words, the_program, words_words};
 
 use crate::arguments::{
-    csv_flag, decimals, digests_flag, field_file, residual_limit, sheet_file, stated_name,
-    table_file, with_limits, with_station, within, words_of_fault,
+    csv_flag, decimals, degrees_flag, digests_flag, field_file, residual_limit, sheet_file,
+    stated_name, stated_table, with_limits, with_station, with_table, within, words_of_fault,
 };
 use crate::help;
 use clap::error::ErrorKind;
@@ -83,7 +83,7 @@ fn compare_command<'a>(alloc: Global) -> Result<Command<'a>, Error>
         help::COMPARE_LONG_ABOUT,
         help::COMPARE_EXAMPLE,
     );
-    let command = with_station(alloc, command)?.arg(table_file(alloc))?;
+    let command = with_table(alloc, command)?;
     let command = with_limits(alloc, command)?;
     Ok(command.arg(within(alloc))?.arg(digests_flag(alloc))?)
 }
@@ -99,7 +99,7 @@ fn differences_command<'a>(alloc: Global) -> Result<Command<'a>, Error>
         help::DIFFERENCES_LONG_ABOUT,
         help::DIFFERENCES_EXAMPLE,
     );
-    let command = with_station(alloc, command)?.arg(table_file(alloc))?;
+    let command = with_table(alloc, command)?;
     with_limits(alloc, command)
 }
 
@@ -143,7 +143,10 @@ fn report_command<'a>(alloc: Global) -> Result<Command<'a>, Error>
         help::REPORT_LONG_ABOUT,
         help::REPORT_EXAMPLE,
     );
-    with_limits(alloc, with_station(alloc, command)?)
+    let command = with_limits(alloc, with_station(alloc, command)?)?;
+    let command = command.arg(stated_table(alloc))?.arg(degrees_flag(alloc))?;
+    let command = command.arg(within(alloc))?.arg(digests_flag(alloc))?;
+    Ok(command.arg(csv_flag(alloc))?)
 }
 
 fn check_command<'a>(alloc: Global) -> Result<Command<'a>, Error>

@@ -5,13 +5,15 @@ ghost use Rattle.clap.specs.Words.{found_of};
 ghost use Rattle.command_line.specs.Stated.{LimitIsStated, StatesDigests, StatesForm, StatesLimits};
 ghost use Rattle.command_line.specs.Stated.{StatesName, StatesNoLimits, StatesNoName};
 ghost use Rattle.command_line.specs.Stated.{StatesNoNumber, StatesNoResidual, StatesNoWithin};
-ghost use Rattle.command_line.specs.Stated.{StatesNumber, StatesResidual, StatesWithin};
+ghost use Rattle.command_line.specs.Stated.{StatesNumber, StatesResidual, StatesUnit, StatesWithin};
 
-use crate::arguments::{CSV, DECIMALS, RESIDUAL, SHA256, STATED_NAME, TWO_C, TWO_I, WITHIN};
+use crate::arguments::{
+    CSV, DECIMALS, DEGREES, RESIDUAL, SHA256, STATED_NAME, TWO_C, TWO_I, WITHIN,
+};
 use crate::request::{Digests, ListForm};
 use adjust_kernel::{Name, ResidualLimit};
 use clap::ArgMatches;
-use direction_table::{Decimals, MOST_WRITTEN};
+use direction_table::{AngleUnit, Decimals, MOST_WRITTEN};
 use limit_texts::{LimitUnit, limit_stated};
 use station_book::Limits;
 
@@ -85,6 +87,16 @@ pub(crate) fn within_of(found: &ArgMatches<'_>) -> Option<Option<u32>>
         return None;
     }
     Some(Some(within))
+}
+
+/// The unit of the directions of a table.
+pub(crate) fn unit_of(found: &ArgMatches<'_>) -> AngleUnit
+    ensures { StatesUnit (found_of found.now) result }
+{
+    match found.get_one(DEGREES) {
+        Some(true) => AngleUnit::Degrees,
+        _ => AngleUnit::Gon,
+    }
 }
 
 /// The form in which stations are listed.

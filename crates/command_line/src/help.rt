@@ -56,6 +56,10 @@ titles. A direction is in gon, from -400 to 400: a sign or none, at most 3 digit
 point or comma with decimals where it has any; those after the ninth are 0. Where commas separate,
 a decimal comma stands in quotes. The first direction need not be 0.
 
+With --degrees a direction is in degrees, from -360 to 360: with minutes and seconds, as
+59-04-09.18, or the same with the three signs in the place of the hyphens; or with decimals, as
+59.069217. Minutes and seconds have two digits each.
+
 STATION is compared byte by byte with the names in the field file, of which the zeros on the left
 are no part. A name that begins with '-' follows after '--'.";
 
@@ -83,7 +87,8 @@ the least and the greatest lies on each side of 0. Where one target is off by 1 
 agree, the one has 0.500 and the others -0.500, or the other way round.
 
 The first row has the titles. Directions are in gon: the stated ones exact, with 6 decimals, or all
-with 9 where one needs more; the least-squares ones counted from the first target, with 6.
+with 9 where one needs more; the least-squares ones counted from the first target, with 6. What is
+stated in degrees is rounded to the ninth decimal of a gon.
 Differences are in mgon with 3 decimals. What is rounded is rounded from the exact fraction; the
 middle of two goes up.
 
@@ -161,23 +166,39 @@ directions; the residuals, targets as rows and sets as columns; the greatest of 
 standard deviation of one two-face direction with its degrees of freedom. They are those of the
 least-squares directions, orientations and full turns. A residual above 10 mgon is a fault.
 
+With --table each direction of a table stands there too, in gon also where --degrees reads degrees,
+with its difference from the adjusted one as 'differences' prints it, the limit, and whether the
+table agrees, as 'compare' says it. Where their directions are apart the report is printed whole,
+and the status is 1.
+
+With --csv the observations are printed as rows for other programs: titles, and for each its
+station, set and target, the readings, the two-face direction, 2c, 2i, the adjusted direction and
+the residual. What is of a target or of the whole station is left out: 'directions' has the adjusted
+directions.
+
 Directions are in gon. Face differences are in mgon with 2 decimals, residuals and the standard
 deviation in mgon with 3, each rounded from the exact fraction; the middle of two goes up. A mean is
 counted from that of the first row of its set. A dash stands where a set has no direction of a
-target. No line is wider than 100 bytes, but for a longer path.
+target. No line is wider than 100 bytes, but for a longer path. A path stands as sha256sum prints
+it: a line feed as '\\n'.
 
 STATION is compared byte by byte with the names in the field file, of which the zeros on the left
 are no part. A name that begins with '-' follows after '--'.";
 
 pub const REPORT_EXAMPLE: &str = "\
 Exit status:
-  0  the whole report was written
+  0  the whole report was written, and the table agrees where one is named
   1  refused: the first fault is named on standard error, and nothing was written, unless a write
-     failed
-  2  a mistake on the command line, or GSI cannot be opened
+     failed; or, with --table, the whole report was written and the directions are apart
+  2  a mistake on the command line, or GSI or TABLE cannot be opened
 
 Example:
-  station_check report field.gsi S1 > report.txt";
+  station_check report --sha256 --table table.csv field.gsi S1 > report.txt
+
+  station_check report --csv field.gsi S1 > report.csv
+
+  station,set,target,face one,face two,direction,2c,2i,adjusted,residual
+  S1,1,A,0.000000,200.000060,0.000030,0.06,-0.02,0.000025,-0.005";
 
 pub const CHECK_LONG_ABOUT: &str = "\
 Checks a sheet against the station of its name in a field file.
@@ -251,6 +272,15 @@ Example:
 pub const STATION_LONG_HELP: &str = "\
 The name of the station, of a file without set-up lines: 1 to 16 characters of
 ASCII, from the blank to '~'. Zeros on the left are no part of it";
+
+pub const ROWS_ALONE: &str = "\
+'--csv' prints rows alone: not with '--table', '--degrees', '--within' or '--sha256'";
+
+pub const WITHIN_ALONE: &str = "\
+'--within <LIMIT>' limits how far a table may be off: name it with '--table <TABLE>'";
+
+pub const DEGREES_ALONE: &str = "\
+'--degrees' says in what a table is: name it with '--table <TABLE>'";
 
 pub const NO_NAME: &str = "\
 the name of a station has 1 to 16 characters of ASCII, from the blank to '~'";
@@ -345,8 +375,13 @@ How near the directions must be, as 0.05mgon [default: by the decimals]";
 pub const WITHIN_LONG_HELP: &str = "\
 How near the directions must be, as 0.05mgon: to 1000mgon, by 0.001; or in units of
 0.001 mgon: 0 to 1000000. Where none is stated it is 0.01mgon; of a table with fewer than
-5 decimals, what rounding to these may do and 1 unit more, as 0.051mgon for 4 decimals.
-Its row with the fewest decimals counts";
+5 decimals, what rounding to these may do and 1 unit more, as 0.051mgon for 4 decimals; of
+degrees alike, as 0.017mgon for seconds with 1 decimal. Its row with the coarsest rounding
+counts";
+
+pub const DEGREES_LONG_HELP: &str = "\
+Read the directions of the table in degrees, and not in gon: with minutes and seconds, as
+59-04-09.18, or with decimals, as 59.069217";
 
 /// What may be stated as a limit of face differences.
 pub const FACE_LIMITS: &str = "\
@@ -368,11 +403,15 @@ How many decimals of a gon a direction is written with: 1 to 8. The sixth is of
 0.001 mgon";
 
 pub const CSV_LONG_HELP: &str = "\
-Print rows for other programs, as CSV with a row of titles: station, set, target, the
-direction in gon with 6 decimals, 2c and 2i in mgon with 2";
+Print rows for other programs, as CSV with a row of titles: directions in gon with 6
+decimals, face differences in mgon with 2, residuals in mgon with 3";
 
 pub const SHA256_LONG_HELP: &str = "\
-Print the SHA-256 digests of both files after the line of the answer. They are those of
-the bytes that were read and judged, each beside the path as it was given, as sha256sum
-prints them: 'sha256sum -c' tells later whether a file is still the same. At a refusal
-none is printed";
+Print the SHA-256 digest of each file after the answer. They are those of the bytes that
+were read and judged, each beside the path as it was given, as sha256sum prints them:
+'sha256sum -c' tells later whether a file is still the same. Where nothing is accepted,
+agrees or is reported, none is printed";
+
+pub const STATED_TABLE_LONG_HELP: &str = "\
+A table of directions, as 'compare' reads it, which stands beside the adjusted ones with
+the differences and whether it agrees";

@@ -4,11 +4,13 @@ ghost use Rattle.std.specs.Prelude.{◌≡◌, IfOk};
 ghost use Rattle.clap.specs.Words.{kind_of};
 
 use crate::arguments::{RESIDUAL, TWO_C, TWO_I, WITHIN};
-use crate::found::LARGEST_WITHIN;
+use crate::found::{LARGEST_WITHIN, form_of, unit_of};
 use crate::help;
+use crate::request::ListForm;
 use adjust_kernel::LARGEST_RESIDUAL_LIMIT;
 use clap::error::ErrorKind;
 use clap::{ArgMatches, Command, Error};
+use direction_table::AngleUnit;
 use limit_texts::{LimitUnit, limit_stated};
 use station_book::LARGEST_LIMIT;
 use station_explain::{Explanation, list_of_near_names};
@@ -52,7 +54,8 @@ const LIMIT_OPTIONS: [LimitOption; 4] = [
     },
 ];
 
-/// The mistake of words that lack what their subcommand needs: a limit that may not be stated, or a
+/// The mistake of words that lack what their subcommand needs: a limit that may not be stated, rows
+/// beside something else, the limit of a comparison or the unit of a table without a table, or a
 /// name that no station can have. The parse has tested all else.
 pub(crate) fn mistake_in<'a>(
     alloc: Global,
@@ -70,7 +73,13 @@ pub(crate) fn mistake_in<'a>(
             return program.error(ErrorKind::ValueValidation, message.as_str());
         }
     }
-    program.error(ErrorKind::ValueValidation, help::NO_NAME)
+    let message = match form_of(found) {
+        ListForm::Rows => help::ROWS_ALONE,
+        ListForm::Lines if found.contains_id(WITHIN) => help::WITHIN_ALONE,
+        ListForm::Lines if unit_of(found) == AngleUnit::Degrees => help::DEGREES_ALONE,
+        ListForm::Lines => help::NO_NAME,
+    };
+    program.error(ErrorKind::ValueValidation, message)
 }
 
 /// What stands after an option where it is no limit that may be stated.

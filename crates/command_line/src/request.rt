@@ -1,22 +1,22 @@
 //! What the program is asked to do.
 
 use adjust_kernel::{Name, ResidualLimit};
-use direction_table::Decimals;
+use direction_table::{AngleUnit, Decimals};
 use station_book::Limits;
 use station_explain::Explanation;
 
-/// Whether the digests of the two files that were judged are printed.
+/// Whether the digests of the files that were read are printed.
 #[derive(Clone, Copy)]
 pub enum Digests {
     /// None is.
     Omitted,
 
-    /// After the line of an acceptance or an agreement stands one line a file, as `sha256sum` prints
-    /// it.
+    /// After the line of an acceptance or an agreement, or the text of a report, stands one line a
+    /// file, as `sha256sum` prints it.
     Printed,
 }
 
-/// The form in which stations are listed.
+/// The form in which a result is printed.
 #[derive(Clone, Copy)]
 pub enum ListForm {
     /// Lines to read.
@@ -66,14 +66,35 @@ pub enum Request<'a, F> {
         gsi: F,
         station: &'a str,
         limits: Limits,
+        digests: Digests,
+    },
+
+    /// Prints the report of a station of a field file as rows for other programs.
+    ReportRows {
+        gsi: F,
+        station: &'a str,
+        limits: Limits,
+    },
+
+    /// Prints the report of a station of a field file with a table beside its directions: they
+    /// agree as for `Compare`.
+    TableReport {
+        gsi: F,
+        station: &'a str,
+        table: F,
+        unit: AngleUnit,
+        limits: Limits,
+        within: Option<u32>,
+        digests: Digests,
     },
 
     /// Compares a table with a station of a field file: they agree within so many units of
-    /// 0.000001 gon, or where none are stated within what is usual for the table's decimals.
+    /// 0.000001 gon, or where none are stated within what is usual for the table's rows.
     Compare {
         gsi: F,
         station: &'a str,
         table: F,
+        unit: AngleUnit,
         limits: Limits,
         within: Option<u32>,
         digests: Digests,
@@ -84,6 +105,7 @@ pub enum Request<'a, F> {
         gsi: F,
         station: &'a str,
         table: F,
+        unit: AngleUnit,
         limits: Limits,
     },
 

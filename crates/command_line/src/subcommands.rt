@@ -5,14 +5,16 @@ ghost use Rattle.clap.specs.Words.{found_of};
 ghost use Rattle.command_line.specs.CommandLine.{AsksFor, Lacks, LacksForDifferences};
 ghost use Rattle.command_line.specs.CommandLine.{LacksForDirections, LacksForList, LacksStation};
 ghost use Rattle.command_line.specs.CommandLine.{LacksToCheck, LacksToCompare, LacksToMark};
+ghost use Rattle.command_line.specs.CommandLine.{LacksToReport};
 ghost use Rattle.command_line.specs.Stated.{IsMissing};
 
-use crate::arguments::{GSI, SHEET, STATION, TABLE};
+use crate::arguments::{GSI, SHEET, STATED_TABLE, STATION, TABLE};
 use crate::found::{
-    decimals_of, digests_of, form_of, limits_of, residual_of, stated_name_of, within_of,
+    decimals_of, digests_of, form_of, limits_of, residual_of, stated_name_of, unit_of, within_of,
 };
-use crate::request::Request;
+use crate::request::{Digests, ListForm, Request};
 use clap::ArgMatches;
+use direction_table::AngleUnit;
 
 /// What a subcommand of this name asks for, by what is found of the words after it; none where an
 /// argument that it needs is missing, or is no limit, number or name that it takes.
@@ -43,6 +45,7 @@ fn compare_request<'a>(found: &ArgMatches<'a>) -> Option<Request<'a, &'a str>>
         gsi: found.get_str(GSI)?,
         station: found.get_str(STATION)?,
         table: found.get_str(TABLE)?,
+        unit: unit_of(found),
         limits: limits_of(found)?,
         within: within_of(found)?,
         digests: digests_of(found),
@@ -57,6 +60,7 @@ fn differences_request<'a>(found: &ArgMatches<'a>) -> Option<Request<'a, &'a str
         gsi: found.get_str(GSI)?,
         station: found.get_str(STATION)?,
         table: found.get_str(TABLE)?,
+        unit: unit_of(found),
         limits: limits_of(found)?,
     })
 }
@@ -86,13 +90,46 @@ fn residuals_request<'a>(found: &ArgMatches<'a>) -> Option<Request<'a, &'a str>>
 
 fn report_request<'a>(found: &ArgMatches<'a>) -> Option<Request<'a, &'a str>>
     ensures asked { IfSome result (AsksFor (codes "report") (found_of found.now)) }
-    ensures none { IfNone result (LacksStation (found_of found.now)) }
+    ensures none { IfNone result (LacksToReport (found_of found.now)) }
 {
-    Some(Request::Report {
-        gsi: found.get_str(GSI)?,
-        station: found.get_str(STATION)?,
-        limits: limits_of(found)?,
-    })
+    let gsi = found.get_str(GSI)?;
+    let station = found.get_str(STATION)?;
+    let limits = limits_of(found)?;
+    let within = within_of(found)?;
+    let table = found.get_str(STATED_TABLE);
+    let unit = unit_of(found);
+    match (form_of(found), table, within, unit, digests_of(found)) {
+        (ListForm::Lines, Some(table), within, unit, digests) => Some(Request::TableReport {
+            gsi,
+            station,
+            table,
+            unit,
+            limits,
+            within,
+            digests,
+        }),
+        (ListForm::Lines, None, None, AngleUnit::Gon, digests) => Some(Request::Report {
+            gsi,
+            station,
+            limits,
+            digests,
+        }),
+        (ListForm::Rows, None, None, AngleUnit::Gon, Digests::Omitted) => {
+            Some(Request::ReportRows {
+                gsi,
+                station,
+                limits,
+            })
+        }
+        // A limit or a unit of no table.
+        (ListForm::Lines, None, Some(_), _, _) => None,
+        (ListForm::Lines, None, None, AngleUnit::Degrees, _) => None,
+        // Rows beside something else.
+        (ListForm::Rows, Some(_), _, _, _) => None,
+        (ListForm::Rows, None, Some(_), _, _) => None,
+        (ListForm::Rows, None, None, AngleUnit::Degrees, _) => None,
+        (ListForm::Rows, None, None, AngleUnit::Gon, Digests::Printed) => None,
+    }
 }
 
 fn check_request<'a>(found: &ArgMatches<'a>) -> Option<Request<'a, &'a str>>

@@ -431,11 +431,11 @@ out so, a pointing that was repeated, and an elevation in place of a zenith angl
 of it read as one.",
         example: "refused: block 4: FaceTwice",
         remedy: "\
-Check a copy without the reading that does not count: for a repeated pointing the field
-book says which. Of the examples, prepare.py leaves out closing sights, or blocks by their numbers,
-and writes a log. An orientation sight before the code 20 of the first set is skipped, and so are
-closing sights and detail points after a code 30. Where each target has this fault, set the
-instrument to zenith angles.",
+Look at the set in 'station_check words GSI', and check a copy without the reading that
+does not count: for a repeated pointing the field book says which. Of the examples, prepare.py
+leaves out closing sights, or blocks by their numbers, and writes a log. An orientation sight before
+the code 20 of the first set is skipped, and so are closing sights and detail points after a code
+30. Where each target has this fault, set the instrument to zenith angles.",
     },
     Said {
         names: &["TooManyTargets"],
@@ -751,13 +751,16 @@ const VALUE_FAULTS: &[Explanation] = &[
 A number of a sheet is written as '0', or as a digit 1 to 9 with further digits, with a leading '-'
 if it is negative: with no point, blank, plus or zero before it. A direction of a table is written
 as at most 3 digits, and a decimal point or comma with decimals where it has any, after a '+' or '-'
-where it has a sign: with no exponent and no unit. Its decimals after the ninth are 0.",
+where it has a sign: with no exponent and no unit. Its decimals after the ninth are 0. With
+--degrees it may have minutes and seconds, as 59-04-09.18: of two digits each, below 60, and with
+decimals of the seconds, of which those after the sixth are 0.",
         example: "refused: sheet row 3: Number",
         remedy: "\
 Write the number so. Directions and orientations of a sheet are whole numbers too: they
-are in half units of 0.005 mgon, times the denominator of the sheet. Those of a table are in gon:
-turn degrees into gon by 10/9, leave out the unit, and round to 9 decimals. Of titles a table has
-one row, the first, and it begins with no target's name: leave out others.",
+are in half units of 0.005 mgon, times the denominator of the sheet. Those of a table are in gon, or
+in degrees where --degrees is stated: state it for 59-04-09.18 and the like. Leave out the unit, and
+round to 9 decimals. Of titles a table has one row, the first, and it begins with no target's name:
+leave out others.",
     },
     Said {
         names: &["Range"],
@@ -765,12 +768,13 @@ one row, the first, and it begins with no target's name: leave out others.",
         when: "\
 The denominator is 1 to 10^9, directions and orientations are -10^18 to 10^18, or in version 2 up to
 10^12 and 10^21. The number of a set is 1 to 9999, a two-face direction 0 to 79999999, and full
-turns are -9 to 9. A direction of a table is from -400 to 400 gon.",
+turns are -9 to 9. A direction of a table is from -400 to 400 gon, or with --degrees from -360 to
+360 degrees.",
         example: "refused: sheet row 3: Range",
         remedy: "\
 See what made the number so large. A two-face direction is in half units of 0.005 mgon.
-A sheet with larger numbers than those of version 1 is of version 2. A direction of a table is in
-gon: take full circles of 400 gon from a larger one.",
+A sheet with larger numbers than those of version 1 is of version 2. From a larger direction of a
+table take full circles of 400 gon, or of 360 degrees.",
     },
     Said {
         names: &["TooMany"],
@@ -910,14 +914,15 @@ its own.",
         when: "\
 As 'kernel: Residual', the residual of the obs row of this number, from 1, is above N half units of
 0.005 mgon, where '--residual N' was stated. As 'adjust: Residual', some least-squares residual is
-above 2000 half units in the adjustment of 'compare', 'differences', 'directions' or 'residuals',
-and that of the observation of this number, from 1, is the greatest. The observations of a station
-are counted in the order in which 'station_check list GSI' has them.",
+above 2000 half units in the adjustment of 'compare', 'differences', 'directions', 'report' or
+'residuals', and that of the observation of this number, from 1, is the greatest. The observations
+of a station are counted in the order in which 'station_check list GSI' has them.",
         example: "refused: kernel: Residual 1",
         remedy: "\
 Look at that observation: one that stands out comes of a wrong target or a wrong name in
 both faces, or of an instrument that was moved. In a sheet, look at the full turns of its row too: a
-wrong turn is 400 gon. For 'check' a wider limit may be stated, up to 2000.",
+wrong turn is 400 gon. For 'check' a wider limit may be stated, up to 2000: 'station_check report'
+then has the least-squares residuals of all sets beside each other, where none is above that.",
     },
 ];
 
@@ -978,17 +983,19 @@ sheet with 'station_check check'.",
 After the best rotation some direction of the table is further from the least-squares one than N
 units of 0.000001 gon: what '--within N' states. Where it is not stated N is 10, or of a table with
 fewer than 5 decimals what rounding to these may do and 1 more: 51 for 4 decimals, 501 for 3, 5001
-for 2, 50001 for 1. The row with the fewest decimals counts; rows of whole gon don't. The number in
-the line is how far, rounded up: the least N with which the table agrees.",
+for 2, 50001 for 1; of seconds 156 without decimals and 17 with 1. The row with the coarsest
+rounding counts; rows of whole gon or degrees don't. The number in the line is how far, rounded up:
+the least N with which the table agrees.",
         example: "refused: compare: Apart 15",
         remedy: "\
-Print the difference of each target by 'station_check differences'. The best rotation
-halves the error of a single target, since all others take the other half: 1 mgon shows as 500, and
-as 0.500 beside -0.500. Where one row stands out, see what the program did: plain means of
-incomplete sets, weights and observations that it left out give other directions. Where all rows
-differ by no more than the program rounds, in degrees as an example, state the number of the line by
---within. The results of an instrument come from readings that it did not round: allow 4 units
-more.",
+Print the difference of each target by 'station_check differences', or in the protocol
+of the sets by 'station_check report --table'. The best rotation halves the error of a single
+target, since all others take the other half: 1 mgon shows as 500, and as 0.500 beside -0.500. Where
+one row stands out, see what the program did: plain means of incomplete sets, weights and
+observations that it left out give other directions. Where all rows differ by no more than the
+program rounds, state the number of the line by --within. The results of an instrument come from
+readings that it did not round: allow 4 units more. Where the program prints degrees, state
+--degrees.",
     },
 ];
 

@@ -2,6 +2,7 @@
 -- room for, `answered` the status, and `shown` what was handed out.
 use Rattle.std.specs.Prelude.{◌≡◌, ◌≢◌, ℕ, Bool, List, [], Some, Result, Err, IfErr, ⊤}
 use Rattle.std.specs.Borrow.{Bor}
+use Rattle.direction_table.specs.declared.unit.AngleUnit.TheVariants.{Gon}
 use Rattle.gsi_file.specs.FileAnswers.{file_answers}
 use Rattle.adjust_kernel.specs.declared.accepted.Accepted.{Accepted}
 use Rattle.station_book.specs.Limits.{FaceLimits}
@@ -119,18 +120,19 @@ pub record IsComparisonOf (two_c two_i : ℕ) (is_stated : Bool) (within : ℕ)
   pub limits : FaceLimits
   pub states : States two_c two_i limits
   pub answer : Result Agreement CompareFault
-  pub compares : Compares limits (file_answers (handed_in gsi)) (handed_in table) name
+  pub compares : Compares Gon limits (file_answers (handed_in gsi)) (handed_in table) name
       (stated_limit is_stated within) answer
   pub hands_out : HandsOut (status_of answer) (comparison_line answer) room answered shown
 
--- The status and the text are those of the differences of these bytes of a table from the station of
--- this name in these bytes of a field file, target by target.
+-- The status and the text are those of the differences of these bytes of a table from the station
+-- of this name in these bytes of a field file, target by target.
 pub record IsDifferencesOf (two_c two_i : ℕ) (gsi table name : List ℕ) (room answered : ℕ)
     (shown : List ℕ) : Type 0 where
   pub limits : FaceLimits
   pub states : States two_c two_i limits
   pub answer : Result (List ℕ) CompareFault
-  pub tells : TellsDifferences limits (file_answers (handed_in gsi)) (handed_in table) name answer
+  pub tells : TellsDifferences Gon limits (file_answers (handed_in gsi))
+      (handed_in table) name answer
   pub hands_out : HandsOut (status_of answer) (table_or_refusal answer) room answered shown
 
 -- The status, the copy and what is told of it, or the line of the refusal, are those of putting

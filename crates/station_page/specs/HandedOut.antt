@@ -41,8 +41,8 @@ abbrev pub comparison_line : Result Agreement CompareFault → List ℕ
 comparison_line (Ok agreement) = agreement_line agreement
 comparison_line (Err fault) = compare.refusal_line fault
 
--- the table that is answered, of directions, residuals or differences, or the report; or the line of
--- the refusal in its place
+-- the table that is answered, of directions, residuals or differences, or the report; or the line
+-- of the refusal in its place
 abbrev pub table_or_refusal : Result (List ℕ) CompareFault → List ℕ
 table_or_refusal (Ok table) = table
 table_or_refusal (Err fault) = compare.refusal_line fault

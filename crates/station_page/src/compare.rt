@@ -1,6 +1,7 @@
 //! The comparison of a table of directions, for a page.
 
 ghost use Rattle.std.specs.Prelude.{◌≡◌, ◌<◌, ◌≤◌, length, drop, take, IfOk, IfErr};
+ghost use Rattle.direction_table.specs.declared.unit.AngleUnit.TheVariants.{Gon};
 ghost use Rattle.gsi_file.specs.FileAnswers.{file_answers};
 ghost use Rattle.station_check.specs.Came.{handed_in};
 ghost use Rattle.station_check.specs.RunEndings.{status_of};
@@ -13,6 +14,7 @@ ghost use Rattle.station_page.specs.declared.hand_out.TheConstants.{OUT_OF_RANGE
 
 use crate::check::BeyondLimits;
 use crate::hand_out::{OUT_OF_RANGE, hand_out};
+use direction_table::AngleUnit;
 use station_book::Limits;
 use station_check::{DONE, REFUSED, handed_in};
 use station_compare::{Agreement, CompareFault, agreement_line, compare_bytes, refusal_line};
@@ -21,8 +23,8 @@ use std::alloc::Global;
 /// A table may be asked to agree within at most so many units of 0.000001 gon: 1 gon.
 pub(crate) const LARGEST_WITHIN: u32 = 1_000_000;
 
-/// Compares the directions that a table states with those of the station of this name in a field
-/// file, both whole, and hands out the line of the agreement or of the refusal.
+/// Compares the directions that a table states, in gon, with those of the station of this name in a
+/// field file, both whole, and hands out the line of the agreement or of the refusal.
 ///
 /// The limits of 2c and 2i are in units of 0.00001 gon, at most 1,000,000; the table agrees within
 /// `within` units of 0.000001 gon, at most 1,000,000, where `is_stated` says that so many are
@@ -88,13 +90,14 @@ fn compare_slices(
     limits: Limits,
     within: Option<u32>,
 ) -> Result<Agreement, CompareFault>
-    ensures { Compares limits (file_answers (handed_in gsi.now)) (handed_in table.now) name.now
+    ensures { Compares Gon limits (file_answers (handed_in gsi.now)) (handed_in table.now) name.now
         within result }
 {
     compare_bytes(
         alloc,
         handed_in(gsi),
         &mut handed_in(table),
+        AngleUnit::Gon,
         name,
         limits,
         within,

@@ -1,6 +1,7 @@
 //! The differences of a table of directions from its station, target by target, for a page.
 
 ghost use Rattle.std.specs.Prelude.{◌≡◌, ◌≤◌, length, drop, take, MatchResult};
+ghost use Rattle.direction_table.specs.declared.unit.AngleUnit.TheVariants.{Gon};
 ghost use Rattle.gsi_file.specs.FileAnswers.{file_answers};
 ghost use Rattle.station_check.specs.Came.{handed_in};
 ghost use Rattle.station_differences.specs.Answers.{HasNoDifferences};
@@ -10,16 +11,17 @@ ghost use Rattle.station_page.specs.Limits.{AreFaceLimits};
 ghost use Rattle.station_page.specs.declared.hand_out.TheConstants.{OUT_OF_RANGE};
 
 use crate::hand_out::{OUT_OF_RANGE, hand_out};
+use direction_table::AngleUnit;
 use station_book::Limits;
 use station_check::{DONE, REFUSED, handed_in};
 use station_compare::{CompareFault, refusal_line};
 use station_differences::differences_text;
 use std::alloc::Global;
 
-/// Hands out the differences of a table of directions from the station of this name in a field
-/// file, both whole: a row of titles, and a row for each target, with what the table states, the
-/// least-squares direction, and the difference after the rotation that makes the largest smallest,
-/// exactly rounded; or the line of the refusal.
+/// Hands out the differences of a table of directions in gon from the station of this name in a
+/// field file, both whole: a row of titles, and a row for each target, with what the table states,
+/// the least-squares direction, and the difference after the rotation that makes the largest
+/// smallest, exactly rounded; or the line of the refusal.
 ///
 /// The limits of 2c and 2i are in units of 0.00001 gon, at most 1,000,000. Answers 0 for the
 /// differences, however large they are, 1 for a refusal, 2 for a number out of its range, and 3
@@ -62,10 +64,17 @@ fn differences_of(
     limits: Limits,
 ) -> Result<Vec<u8>, CompareFault>
     ensures { MatchResult result
-        (λ text. StatesDifferences limits (file_answers (handed_in gsi.now))
+        (λ text. StatesDifferences Gon limits (file_answers (handed_in gsi.now))
         (handed_in table.now) name.now text.items)
-        (HasNoDifferences limits (file_answers (handed_in gsi.now)) (handed_in table.now)
+        (HasNoDifferences Gon limits (file_answers (handed_in gsi.now)) (handed_in table.now)
         name.now) }
 {
-    differences_text(alloc, handed_in(gsi), &mut handed_in(table), name, limits)
+    differences_text(
+        alloc,
+        handed_in(gsi),
+        &mut handed_in(table),
+        AngleUnit::Gon,
+        name,
+        limits,
+    )
 }

@@ -1,6 +1,6 @@
 //! The digest of a file, for a page.
 
-ghost use Rattle.std.specs.Prelude.{◌≡◌, ◌≤◌, ◌+◌, ◌*◌, length, take};
+ghost use Rattle.std.specs.Prelude.{◌≡◌, ◌≤◌, ◌+◌, ◌*◌, length, take, drop};
 ghost use Rattle.byte_digests.specs.DigestLines.{digest_line};
 ghost use Rattle.sha2.specs.Sha256.{sha256};
 ghost use Rattle.station_page.specs.HandedOut.{HandsOut};
@@ -12,8 +12,8 @@ use station_check::DONE;
 
 /// Hands out the line of a whole file's SHA-256 digest and of its name, as `sha256sum` prints it.
 ///
-/// Answers 0, and 3 where `out` has too little room; 68 bytes and twice those of the name are
-/// always enough.
+/// Answers 0, and 3 where `out` has too little room, which then stays as it is; 68 bytes and twice
+/// those of the name are always enough.
 #[unsafe(no_mangle)]
 pub extern "C" fn station_page_digest(
     file: &[u8],
@@ -25,6 +25,7 @@ pub extern "C" fn station_page_digest(
         (take written.new out.new) }
     ensures answers { MOST_BESIDE_NAME + 2 * length name.now ≤ length out.old → result ≡ DONE }
     ensures fits { written.new ≤ length out.old }
+    ensures rest { drop written.new out.new ≡ drop written.new out.old }
 {
     *written = 0;
     match put_digest_line(&Sha256::digest(file), name, out) {

@@ -14,7 +14,9 @@ use Rattle.command_line.specs.declared.request.Digests.TheVariants as digests
 use Rattle.command_line.specs.declared.request.ListForm.TheVariants as form
 use Rattle.command_line.specs.declared.request.Request.{Request}
 use Rattle.command_line.specs.declared.request.Request.TheVariants as request
+use Rattle.direction_table.specs.declared.unit.AngleUnit.{AngleUnit}
 use Rattle.list_rows.specs.Runs.{IsRowsRun}
+use Rattle.report_rows.specs.Runs.{IsReportRowsRun}
 use Rattle.station_book.specs.Limits.{FaceLimits}
 use Rattle.station_check.specs.ListNotes.{unchecked_note}
 use Rattle.station_check.specs.RunEndings.{Run, RunWithNotes, WritesOrFails}
@@ -34,10 +36,13 @@ use Rattle.station_program.specs.Unopened.{unopened_line}
 use Rattle.station_program.specs.declared.host.NoWords.{NoWords}
 use Rattle.station_program.specs.declared.host.NoWords.TheVariants as no_words
 use Rattle.station_program.specs.declared.run.TheConstants.{NOT_TEXT}
-use Rattle.station_record.specs.Recorded.{IsRecordedCheck, IsRecordedCompare}
+use Rattle.station_record.specs.Recorded.{IsRecordedCheck, IsRecordedCompare, IsRecordedReport}
+use Rattle.station_record.specs.Recorded.{IsRecordedTableReport}
 use Rattle.station_record.specs.declared.named.NamedReader.{NamedReader}
 use Rattle.station_report.specs.Runs.{IsReportRun}
 use Rattle.station_residuals.specs.Runs.{IsResidualsRun}
+use Rattle.table_report.specs.Runs.{IsTableReportRun}
+use Rattle.table_report.specs.Stating.{ReportAsked}
 
 -- A sheet was checked against a field file with this exit status, and this is what the run made of
 -- the two sinks. It is recorded, under the names of the files, exactly where digests are asked for.
@@ -53,19 +58,56 @@ ChecksFiles files out err gsi sheet limits residual digests.Printed status =
 
 -- A table was compared with the station of this name of a field file; all else as at a check.
 abbrev pub ComparesFiles : {F : Type 0} → Readers F → WriterChange → WriterChange → NamedReader F
-    → List ℕ → NamedReader F → FaceLimits → Option ℕ → Digests → ℕ → Type 0
-ComparesFiles {F} files out err gsi station table limits within digests.Omitted status =
+    → List ℕ → NamedReader F → AngleUnit → FaceLimits → Option ℕ → Digests → ℕ → Type 0
+ComparesFiles {F} files out err gsi station table unit limits within digests.Omitted status =
     (table' : F) × IsTakenIn files gsi.reader (λ gsi. Run {A = ⊤} compare_refusal_line
-    (IsCompareRun limits within gsi (change_of files table.reader table') station) status out err)
-ComparesFiles files out err gsi station table limits within digests.Printed status =
+    (IsCompareRun unit limits within gsi (change_of files table.reader table') station) status out
+    err)
+ComparesFiles files out err gsi station table unit limits within digests.Printed status =
     IsTakenIn files gsi.reader (λ gsi_change. IsTakenIn files table.reader (λ table_change.
-    Run {A = ⊤} compare_refusal_line (IsRecordedCompare limits within station
+    Run {A = ⊤} compare_refusal_line (IsRecordedCompare unit limits within station
     gsi_change gsi.name.now table_change table.name.now) status out err))
+
+-- The report of a station of a field file was printed with this exit status; all else as at a
+-- check.
+abbrev pub ReportsFile : {F : Type 0} → Readers F → WriterChange → WriterChange → NamedReader F
+    → List ℕ → FaceLimits → Digests → ℕ → Type 0
+ReportsFile files out err gsi station limits digests.Omitted status =
+    IsTakenIn files gsi.reader (λ gsi_change. Run {A = ⊤} compare_refusal_line
+    (IsReportRun gsi.name.now limits gsi_change station) status out err)
+ReportsFile files out err gsi station limits digests.Printed status =
+    IsTakenIn files gsi.reader (λ gsi_change. Run {A = ⊤} compare_refusal_line
+    (IsRecordedReport gsi.name.now limits gsi_change station) status out err)
+
+-- what is asked of a report with a table: its files by the names that they have
+abbrev pub asked_of : {F : Type 0} → NamedReader F → List ℕ → NamedReader F → AngleUnit → FaceLimits
+    → Option ℕ → ReportAsked
+asked_of gsi station table unit limits within = record {
+  path = gsi.name.now;
+  table_path = table.name.now;
+  unit = unit;
+  station = station;
+  limits = limits;
+  within = within;
+}
+
+-- The same with a table.
+abbrev pub ReportsFiles : {F : Type 0} → Readers F → WriterChange → WriterChange → NamedReader F
+    → List ℕ → NamedReader F → AngleUnit → FaceLimits → Option ℕ → Digests → ℕ → Type 0
+ReportsFiles {F} files out err gsi station table unit limits within digests.Omitted status =
+    (table' : F) × IsTakenIn files gsi.reader (λ gsi_change. Run {A = ⊤} compare_refusal_line
+    (IsTableReportRun (asked_of gsi station table unit limits within) gsi_change
+    (change_of files table.reader table')) status out err)
+ReportsFiles files out err gsi station table unit limits within digests.Printed status =
+    IsTakenIn files gsi.reader (λ gsi_change. IsTakenIn files table.reader (λ table_change.
+    Run {A = ⊤} compare_refusal_line
+    (IsRecordedTableReport (asked_of gsi station table unit limits within) gsi_change table_change)
+    status out err))
 
 -- A request whose files are open was answered with this exit status: by a run of its own kind, over
 -- its own files, or over standard input where it names none, with its limits, its residual limit,
--- its station, its decimals, its nearness or its fault; and this is what the run made of the two
--- sinks.
+-- its station, its unit, its decimals, its nearness or its fault; and this is what the run made of
+-- the two sinks.
 abbrev pub IsRun : {F I : Type 0} → Readers F → Readers I → I → List (Bor (List Explanation))
     → WriterChange → WriterChange → Request (NamedReader F) → ℕ → Type 0
 IsRun files inputs input faults out err (request.Check gsi sheet limits residual digests) status =
@@ -79,15 +121,21 @@ IsRun files inputs input faults out err (request.Directions gsi station limits d
 IsRun files inputs input faults out err (request.Residuals gsi station limits) status =
     IsTakenIn files gsi.reader (λ gsi. Run {A = ⊤} compare_refusal_line
     (IsResidualsRun limits gsi station.now) status out err)
-IsRun files inputs input faults out err (request.Report gsi station limits) status =
-    IsTakenIn files gsi.reader (λ gsi_change. Run {A = ⊤} compare_refusal_line
-    (IsReportRun gsi.name.now limits gsi_change station.now) status out err)
+IsRun files inputs input faults out err (request.Report gsi station limits digests) status =
+    ReportsFile files out err gsi station.now limits digests status
+IsRun files inputs input faults out err (request.ReportRows gsi station limits) status =
+    IsTakenIn files gsi.reader (λ gsi. Run {A = ⊤} compare_refusal_line
+    (IsReportRowsRun limits gsi station.now) status out err)
 IsRun files inputs input faults out err
-    (request.Compare gsi station table limits within digests) status =
-    ComparesFiles files out err gsi station.now table limits within digests status
-IsRun {F} files inputs input faults out err (request.Differences gsi station table limits) status =
+    (request.TableReport gsi station table unit limits within digests) status =
+    ReportsFiles files out err gsi station.now table unit limits within digests status
+IsRun files inputs input faults out err
+    (request.Compare gsi station table unit limits within digests) status =
+    ComparesFiles files out err gsi station.now table unit limits within digests status
+IsRun {F} files inputs input faults out err (request.Differences gsi station table unit limits)
+    status =
     (table' : F) × IsTakenIn files gsi.reader (λ gsi. Run {A = ⊤} compare_refusal_line
-    (IsDifferencesRun limits gsi (change_of files table.reader table') station.now)
+    (IsDifferencesRun unit limits gsi (change_of files table.reader table') station.now)
     status out err)
 IsRun files inputs input faults out err (request.Mark gsi station) status =
     IsTakenIn files gsi.reader (λ gsi. RunWithNotes notes_in mark_refusal_line
@@ -126,22 +174,32 @@ IsOpened files known (request.Residuals gsi station limits)
     (request.Residuals field_file station' limits') =
     IsUnread files known gsi.now field_file
     × (station'.now ≡ station.now) × (limits' ≡ limits)
-IsOpened files known (request.Report gsi station limits)
-    (request.Report field_file station' limits') =
+IsOpened files known (request.Report gsi station limits digests)
+    (request.Report field_file station' limits' digests') =
+    IsUnread files known gsi.now field_file
+    × (station'.now ≡ station.now) × (limits' ≡ limits) × (digests' ≡ digests)
+IsOpened files known (request.ReportRows gsi station limits)
+    (request.ReportRows field_file station' limits') =
     IsUnread files known gsi.now field_file
     × (station'.now ≡ station.now) × (limits' ≡ limits)
-IsOpened files known (request.Compare gsi station table limits within digests)
-    (request.Compare field_file station' stated limits' within' digests') =
+IsOpened files known (request.TableReport gsi station table unit limits within digests)
+    (request.TableReport field_file station' stated unit' limits' within' digests') =
     IsUnread files known gsi.now field_file
     × (station'.now ≡ station.now)
     × IsUnread files known table.now stated
-    × (limits' ≡ limits) × (within' ≡ within) × (digests' ≡ digests)
-IsOpened files known (request.Differences gsi station table limits)
-    (request.Differences field_file station' stated limits') =
+    × (unit' ≡ unit) × (limits' ≡ limits) × (within' ≡ within) × (digests' ≡ digests)
+IsOpened files known (request.Compare gsi station table unit limits within digests)
+    (request.Compare field_file station' stated unit' limits' within' digests') =
     IsUnread files known gsi.now field_file
     × (station'.now ≡ station.now)
     × IsUnread files known table.now stated
-    × (limits' ≡ limits)
+    × (unit' ≡ unit) × (limits' ≡ limits) × (within' ≡ within) × (digests' ≡ digests)
+IsOpened files known (request.Differences gsi station table unit limits)
+    (request.Differences field_file station' stated unit' limits') =
+    IsUnread files known gsi.now field_file
+    × (station'.now ≡ station.now)
+    × IsUnread files known table.now stated
+    × (unit' ≡ unit) × (limits' ≡ limits)
 IsOpened files known (request.Mark gsi station) (request.Mark field_file station') =
     IsUnread files known gsi.now field_file × (station' ≡ station)
 IsOpened files known (request.List gsi limits form) (request.List field_file limits' form') =
@@ -154,14 +212,18 @@ IsOpened files known asked other = ⊥
 
 -- A request names a file by this path.
 abbrev pub NamesFile : Asked → List ℕ → Type 0
-NamesFile (request.Check gsi sheet limits residual digests) path = (path ≡ gsi.now) ⊎ (path ≡ sheet.now)
+NamesFile (request.Check gsi sheet limits residual digests) path = (path ≡ gsi.now)
+    ⊎ (path ≡ sheet.now)
 NamesFile (request.Means gsi station limits) path = path ≡ gsi.now
 NamesFile (request.Directions gsi station limits decimals) path = path ≡ gsi.now
 NamesFile (request.Residuals gsi station limits) path = path ≡ gsi.now
-NamesFile (request.Report gsi station limits) path = path ≡ gsi.now
-NamesFile (request.Compare gsi station table limits within digests) path =
+NamesFile (request.Report gsi station limits digests) path = path ≡ gsi.now
+NamesFile (request.ReportRows gsi station limits) path = path ≡ gsi.now
+NamesFile (request.TableReport gsi station table unit limits within digests) path =
     (path ≡ gsi.now) ⊎ (path ≡ table.now)
-NamesFile (request.Differences gsi station table limits) path =
+NamesFile (request.Compare gsi station table unit limits within digests) path =
+    (path ≡ gsi.now) ⊎ (path ≡ table.now)
+NamesFile (request.Differences gsi station table unit limits) path =
     (path ≡ gsi.now) ⊎ (path ≡ table.now)
 NamesFile (request.Mark gsi station) path = path ≡ gsi.now
 NamesFile (request.List gsi limits form) path = path ≡ gsi.now
@@ -169,8 +231,8 @@ NamesFile (request.Words gsi) path = path ≡ gsi.now
 NamesFile request.WordsOfInput path = ⊥
 NamesFile (request.Explain fault) path = ⊥
 
--- A request was answered with this exit status: its files were opened, each the one of its path, and
--- its run was made over them, or over standard input.
+-- A request was answered with this exit status: its files were opened, each the one of its path,
+-- and its run was made over them, or over standard input.
 pub record IsAnswered {F I : Type 0} (host : Known F I)
     (faults : List (Bor (List Explanation))) (out err : WriterChange) (asked : Asked)
     (status : ℕ) : Type 0 where
@@ -197,8 +259,8 @@ pub record IsUnopened {F I : Type 0} (host : Known F I) (out err : WriterChange)
   pub named : NamesUnopened path status err
   pub unwritten : out.is_unasked
 
--- The words of a command line ask for a request, which was answered with this exit status; or a file
--- of it can't be opened.
+-- The words of a command line ask for a request, which was answered with this exit status; or a
+-- file of it can't be opened.
 pub record IsStatusOfWords {F I : Type 0} (host : Known F I)
     (faults : List (Bor (List Explanation))) (out err : WriterChange)
     (words : List Text) (status : ℕ) : Type 0 where
@@ -213,8 +275,8 @@ abbrev pub LacksWords : NoWords → ℕ → WriterChange → Type 0
 LacksWords no_words.OutOfMemory status err = IsOutOfMemory status err
 LacksWords no_words.NotText status err = (status ≡ 2) × WritesOrFails NOT_TEXT.now err
 
--- The exit status of a run: that of the words of its command line, which are the known ones; or they
--- are lacking for a reason that may be.
+-- The exit status of a run: that of the words of its command line, which are the known ones; or
+-- they are lacking for a reason that may be.
 abbrev pub IsStatusOfRun : {F I : Type 0} → Known F I → List (Bor (List Explanation))
     → WriterChange → WriterChange → ℕ → Type 0
 IsStatusOfRun host faults out err status =
@@ -223,8 +285,8 @@ IsStatusOfRun host faults out err status =
     ⊎ ((reason : NoWords) × (host.may_lack reason ≡ true) × out.is_unasked
     × LacksWords reason status err)
 
--- The words of the command line, which are the known ones, are answered with this error in the place
--- of a run.
+-- The words of the command line, which are the known ones, are answered with this error in the
+-- place of a run.
 pub record IsMistakenRun {F I : Type 0} (host : Known F I)
     (faults : List (Bor (List Explanation))) (error : Error) : Type 0 where
   pub words : List Text

@@ -3,7 +3,8 @@
 ghost use Rattle.std.specs.Prelude.{◌≡◌, ◌⊎◌, ◌≤◌, IfOk, IfErr, OnErr, true, false};
 ghost use Rattle.byte_ends.specs.Sink.{writer_change};
 ghost use Rattle.station_program.specs.Answering.{IsAnswered, IsOpened, IsRun, NamesFile};
-ghost use Rattle.station_program.specs.Answering.{ChecksFiles, ComparesFiles};
+ghost use Rattle.station_program.specs.Answering.{ChecksFiles, ComparesFiles, ReportsFile};
+ghost use Rattle.station_program.specs.Answering.{ReportsFiles};
 ghost use Rattle.station_program.specs.Hosts.{IsUnread, known_of, readers};
 
 use crate::host::Host;
@@ -11,17 +12,23 @@ use crate::unopened::Unopened;
 use adjust_kernel::ResidualLimit;
 use byte_ends::{Failed, Sink, Source};
 use command_line::{Digests, ListForm, Request};
+use direction_table::AngleUnit;
 use list_rows::run_list_rows;
+use report_rows::run_report_rows;
 use station_book::Limits;
 use station_check::{run_check, run_list, run_means, run_words};
 use station_compare::{run_compare, run_directions};
 use station_differences::run_differences;
 use station_explain::{Explanation, run_explain};
 use station_mark::run_mark;
-use station_record::{NamedReader, run_check_recorded, run_compare_recorded};
+use station_record::{
+    NamedReader, run_check_recorded, run_compare_recorded, run_report_recorded,
+    run_table_report_recorded,
+};
 use station_report::run_report;
 use station_residuals::run_residuals;
 use std::alloc::Global;
+use table_report::{Asked, run_table_report};
 
 /// The exit status of a request. All its files are opened before any is read, the field file first.
 pub fn answer<'a, H: Host, W: Sink, E: Sink>(
@@ -110,15 +117,47 @@ fn open_files<'a, H: Host>(
             gsi,
             station,
             limits,
+            digests,
         } => Request::Report {
             gsi: open(host, gsi)?,
             station,
             limits,
+            digests,
         },
+        Request::ReportRows {
+            gsi,
+            station,
+            limits,
+        } => Request::ReportRows {
+            gsi: open(host, gsi)?,
+            station,
+            limits,
+        },
+        Request::TableReport {
+            gsi,
+            station,
+            table,
+            unit,
+            limits,
+            within,
+            digests,
+        } => {
+            let (gsi, table) = open_two(host, gsi, table)?;
+            Request::TableReport {
+                gsi,
+                station,
+                table,
+                unit,
+                limits,
+                within,
+                digests,
+            }
+        }
         Request::Compare {
             gsi,
             station,
             table,
+            unit,
             limits,
             within,
             digests,
@@ -128,6 +167,7 @@ fn open_files<'a, H: Host>(
                 gsi,
                 station,
                 table,
+                unit,
                 limits,
                 within,
                 digests,
@@ -137,6 +177,7 @@ fn open_files<'a, H: Host>(
             gsi,
             station,
             table,
+            unit,
             limits,
         } => {
             let (gsi, table) = open_two(host, gsi, table)?;
@@ -144,6 +185,7 @@ fn open_files<'a, H: Host>(
                 gsi,
                 station,
                 table,
+                unit,
                 limits,
             }
         }
@@ -255,34 +297,46 @@ fn run_request<F: Source, I: Source, W: Sink, E: Sink>(
             gsi,
             station,
             limits,
-        } => run_report(
-            alloc,
-            gsi.reader,
-            gsi.name,
-            station.as_bytes(),
+            digests,
+        } => report_file(alloc, gsi, station, limits, digests, out, err),
+        Request::ReportRows {
+            gsi,
+            station,
             limits,
-            out,
-            err,
+        } => run_report_rows(alloc, gsi.reader, station.as_bytes(), limits, out, err),
+        Request::TableReport {
+            gsi,
+            station,
+            table,
+            unit,
+            limits,
+            within,
+            digests,
+        } => report_files(
+            alloc, gsi, station, table, unit, limits, within, digests, out, err,
         ),
         Request::Compare {
             gsi,
             station,
             table,
+            unit,
             limits,
             within,
             digests,
         } => compare_files(
-            alloc, gsi, table, station, limits, within, digests, out, err,
+            alloc, gsi, table, unit, station, limits, within, digests, out, err,
         ),
         Request::Differences {
             gsi,
             station,
             mut table,
+            unit,
             limits,
         } => run_differences(
             alloc,
             gsi.reader,
             &mut table.reader,
+            unit,
             station.as_bytes(),
             limits,
             out,
@@ -343,6 +397,7 @@ fn compare_files<F: Source, W: Sink, E: Sink>(
     alloc: Global,
     gsi: NamedReader<'_, F>,
     mut table: NamedReader<'_, F>,
+    unit: AngleUnit,
     station: &str,
     limits: Limits,
     within: Option<u32>,
@@ -354,7 +409,7 @@ fn compare_files<F: Source, W: Sink, E: Sink>(
     ensures run { ComparesFiles (readers F.told F.failed F.gave)
         (writer_change W.failed W.holds W.handed_on out.old out.new)
         (writer_change E.failed E.holds E.handed_on err.old err.new)
-        gsi.entry station.now table.entry limits within digests result }
+        gsi.entry station.now table.entry unit limits within digests result }
 {
     let name = station.as_bytes();
     match digests {
@@ -362,6 +417,7 @@ fn compare_files<F: Source, W: Sink, E: Sink>(
             alloc,
             gsi.reader,
             &mut table.reader,
+            unit,
             name,
             limits,
             within,
@@ -369,7 +425,69 @@ fn compare_files<F: Source, W: Sink, E: Sink>(
             err,
         ),
         Digests::Printed => {
-            run_compare_recorded(alloc, gsi, table, name, limits, within, out, err)
+            run_compare_recorded(alloc, gsi, table, unit, name, limits, within, out, err)
+        }
+    }
+}
+
+/// Prints the report of a station of a field file, and answers the exit status. The run is recorded
+/// where digests are asked for.
+fn report_file<F: Source, W: Sink, E: Sink>(
+    alloc: Global,
+    gsi: NamedReader<'_, F>,
+    station: &str,
+    limits: Limits,
+    digests: Digests,
+    out: &mut W,
+    err: &mut E,
+) -> u8
+    ensures status { result ≤ 1 }
+    ensures run { ReportsFile (readers F.told F.failed F.gave)
+        (writer_change W.failed W.holds W.handed_on out.old out.new)
+        (writer_change E.failed E.holds E.handed_on err.old err.new)
+        gsi.entry station.now limits digests result }
+{
+    let name = station.as_bytes();
+    match digests {
+        Digests::Omitted => run_report(alloc, gsi.reader, gsi.name, name, limits, out, err),
+        Digests::Printed => run_report_recorded(alloc, gsi, name, limits, out, err),
+    }
+}
+
+/// Prints the report of a station of a field file with a table, and answers the exit status. The
+/// run is recorded where digests are asked for.
+fn report_files<F: Source, W: Sink, E: Sink>(
+    alloc: Global,
+    gsi: NamedReader<'_, F>,
+    station: &str,
+    mut table: NamedReader<'_, F>,
+    unit: AngleUnit,
+    limits: Limits,
+    within: Option<u32>,
+    digests: Digests,
+    out: &mut W,
+    err: &mut E,
+) -> u8
+    ensures status { result ≤ 1 }
+    ensures run { ReportsFiles (readers F.told F.failed F.gave)
+        (writer_change W.failed W.holds W.handed_on out.old out.new)
+        (writer_change E.failed E.holds E.handed_on err.old err.new)
+        gsi.entry station.now table.entry unit limits within digests result }
+{
+    let asked = Asked {
+        path: gsi.name,
+        table_path: table.name,
+        unit,
+        station: station.as_bytes(),
+        limits,
+        within,
+    };
+    match digests {
+        Digests::Omitted => {
+            run_table_report(alloc, gsi.reader, &mut table.reader, &asked, out, err)
+        }
+        Digests::Printed => {
+            run_table_report_recorded(alloc, gsi.reader, table.reader, &asked, out, err)
         }
     }
 }

@@ -6,7 +6,11 @@ pub returns : goal.returns
 returns c = record {
   marking = Ok c.in_ok-marked.marked;
   marks = c.in_ok-marked.ensures;
-  notes = (rw c.deref.ensures.value at c.in_ok-copy.ensures.woven, rw c.deref-2.ensures.value at c.in_ok-notes.ensures);
+  notes = (
+    rw c.deref.ensures.value at c.in_ok-copy.ensures.woven,
+    rw c.deref-2.ensures.value at
+        c.in_ok-notes.ensures,
+  );
 }
 
 pub returns-in_err-marked : goal.returns-in_err-marked
