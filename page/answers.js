@@ -1,5 +1,5 @@
-// Which call is asked for which files, and what it answered: a card for each station, and for each file
-// that belongs to none. Nothing here decides a verdict.
+// Which call is asked for which files, and what it answered: a card for each station, and for each
+// file that belongs to none. Nothing here decides a verdict.
 import { ask, digestOf } from './work.js';
 import { fieldOfSheet, stationOfSheet, stationOfTable, stemOf } from './files.js';
 import { commandOf } from './limits.js';
@@ -8,18 +8,20 @@ import { each, greatestOf, recognizedIn, residualsIn, stationsOf } from './recor
 /**
  * @typedef {import('./files.js').Input} Input
  * @typedef {import('./files.js').Station} Station
- * How a card looks: all is in order, something was refused, a station was read and has nothing to be
- * compared, or something is to be done first.
+ * @typedef {import('./limits.js').Limits} Limits
+ * How a card looks: all is in order, something was refused, a station was read and has nothing to
+ * be compared, or something is to be done first.
  * @typedef {'good' | 'bad' | 'read' | 'open'} Mood
- * The answer of a command: its line or text, the fault in the words of the program where it is a refusal,
- * the greatest residual where it accepts a sheet, the text of the differences where it compares a table.
+ * The answer of a command: its line or text, the fault in the words of the program where it is a
+ * refusal, the greatest residual where it accepts a sheet, the text of the differences where it
+ * compares a table.
  * @typedef {{ command: string, asked: string, status: number, line: string, explanation: string,
  *   field: Input, other?: Input, station?: Station, greatest?: import('./records.js').Residual,
  *   differences?: string }} Answer
- * What is shown of a station, or of a file without one: `readings` counts those of a file without sets,
- * `waiting` has the files that can't be checked yet, `unplaced` the text that says why a file has no place,
- * `marked` is the answer when codes were put into a copy, and `recognized` what it told of the card's
- * station, and at the first card of a copy of the stations without sets too.
+ * What is shown of a station, or of a file without one: `readings` counts those of a file without
+ * sets, `waiting` has the files that can't be checked yet, `unplaced` the text that says why a file
+ * has no place, `marked` is the answer when codes were put into a copy, and `recognized` what it
+ * told of the card's station, and at the first card of a copy of the stations without sets too.
  * @typedef {{ title: string, mood: Mood, field?: Input, station?: Station, answers: Answer[],
  *   waiting: Input[], readings?: number, unplaced?: string, marked?: Answer,
  *   recognized?: import('./records.js').Recognized[], results?: Results }} Card
@@ -50,39 +52,57 @@ async function answered({ status, text }, about) {
 
 /** The files that a card speaks of: a marked copy stands after the field file that it is of. */
 export const filesOf = (/** @type {Card} */ { field, answers }) =>
-  [field?.original, field, ...answers.map(answer => answer.other)].filter(file => file !== undefined);
+  [field?.original, field, ...answers.map(answer => answer.other)]
+    .filter(file => file !== undefined);
 
 // ---------------------------------------------------------------- field files
 
 /**
+ * A card of a file of which nothing is known yet.
+ * @param {Input} file
+ * @returns {Card}
+ */
+const cardOfFile = file => ({ title: file.name, mood: 'open', answers: [], waiting: [] });
+
+/**
  * The cards of a field file: of its fault, of each of its stations, or that it has none.
+ * @param {Input} field
+ * @param {Limits} limits
  * @returns {Promise<Card[]>}
  */
-async function cardsOfField(/** @type {Input} */ field, limits) {
-  const { twoC, twoI } = limits, about = { title: field.name, field, answers: [], waiting: [] };
+async function cardsOfField(field, limits) {
+  const { twoC, twoI } = limits, about = { ...cardOfFile(field), field };
   const reply = await ask('list', field.bytes, twoC, twoI);
   const command = commandOf('list', ['twoC', 'twoI'], limits, [field.name]);
-  if (reply.status !== ACCEPTED)
-    return [{ ...about, mood: 'bad', answers: [await answered(reply, { command, asked: 'list', field })] }];
+  if (reply.status !== ACCEPTED) {
+    const answer = await answered(reply, { command, asked: 'list', field });
+    return [{ ...about, mood: 'bad', answers: [answer] }];
+  }
   const stations = stationsOf(reply.text);
   if (stations.length === 0) return cardsWithoutSets(field, limits);
   return stations.map(listed => ({
-    title: listed.name, mood: 'read', field, station: { field, listed }, answers: [], waiting: [],
+    ...cardOfFile(field), title: listed.name, mood: 'read', field, station: { field, listed },
   }));
 }
 
-/** The cards of a field file without sets: those of a copy with codes, where the sets are recognized. */
-async function cardsWithoutSets(/** @type {Input} */ field, limits) {
+/**
+ * The cards of a field file without sets: those of a copy with codes, where the sets are
+ * recognized.
+ * @param {Input} field
+ * @param {Limits} limits
+ * @returns {Promise<Card[]>}
+ */
+async function cardsWithoutSets(field, limits) {
   const { text } = await ask('readings', field.bytes), readings = Number(text);
-  /** @type {Card} */
-  const card = { title: field.name, field, mood: 'open', answers: [], waiting: [], readings };
+  const card = { ...cardOfFile(field), field, readings };
   if (readings === 0 || field.original) return [card];
   const marked = await answerOfMark(field);
   if (marked.status !== ACCEPTED) return [{ ...card, marked }];
   const told = recognizedIn(marked.line), cards = await cardsOfField(marked.other, limits);
   return cards.map((one, nth) => {
-    const isShown = ({ station, sets }) => sets === 0 ? nth === 0 : !one.station || station === one.title;
-    return { ...one, marked, recognized: told.filter(isShown) };
+    const recognized = told.filter(({ station, sets }) =>
+      sets === 0 ? nth === 0 : !one.station || station === one.title);
+    return { ...one, marked, recognized };
   });
 }
 
@@ -95,28 +115,45 @@ async function answerOfMark(/** @type {Input} */ field) {
   const answer = await answered({ status, text: beside }, { asked: 'mark', command, field });
   if (status !== ACCEPTED) return answer;
   const digest = await digestOf({ name: copy, bytes });
-  return { ...answer, other: { name: copy, bytes, kind: /** @type {const} */ ('field'), digest, original: field } };
+  const kind = /** @type {const} */ ('field');
+  return { ...answer, other: { name: copy, bytes, kind, digest, original: field } };
 }
 
 // ---------------------------------------------------------------- sheets and tables
 
+/**
+ * The answer to a sheet, with the greatest residual where it is accepted.
+ * @param {Input} sheet
+ * @param {Input} field
+ * @param {Station | undefined} station none where the field file has no station of the sheet's name
+ * @param {Limits} limits
+ * @returns {Promise<Answer>}
+ */
 async function answerOfSheet(sheet, field, station, limits) {
   const { twoC, twoI, residual } = limits;
-  const answer = await answered(await ask('check', field.bytes, sheet.bytes, twoC, twoI, residual), {
-    asked: 'check', field, other: sheet, station,
-    command: commandOf('check', ['twoC', 'twoI', 'residual'], limits, [field.name, sheet.name]),
-  });
+  const reply = await ask('check', field.bytes, sheet.bytes, twoC, twoI, residual);
+  const files = [field.name, sheet.name];
+  const command = commandOf('check', ['twoC', 'twoI', 'residual'], limits, files);
+  const answer = await answered(reply, { asked: 'check', field, other: sheet, station, command });
   if (answer.status !== ACCEPTED) return answer;
   const residuals = await residualsOf(station, limits);
-  return residuals.status === ACCEPTED ? { ...answer, greatest: greatestOf(residualsIn(residuals.line)) } : answer;
+  if (residuals.status !== ACCEPTED) return answer;
+  return { ...answer, greatest: greatestOf(residualsIn(residuals.line)) };
 }
 
+/**
+ * The answer to a table, with its differences where there are some.
+ * @param {Input} table
+ * @param {Station} station
+ * @param {Limits} limits
+ * @returns {Promise<Answer>}
+ */
 async function answerOfTable(table, station, limits) {
   const { field, listed: { name } } = station, { twoC, twoI, within } = limits;
-  const answer = await answered(await ask('compare', field.bytes, table.bytes, name, twoC, twoI, within), {
-    asked: 'compare', field, other: table, station,
-    command: commandOf('compare', ['twoC', 'twoI', 'within'], limits, [field.name, name, table.name]),
-  });
+  const reply = await ask('compare', field.bytes, table.bytes, name, twoC, twoI, within);
+  const operands = [field.name, name, table.name];
+  const command = commandOf('compare', ['twoC', 'twoI', 'within'], limits, operands);
+  const answer = await answered(reply, { asked: 'compare', field, other: table, station, command });
   if (answer.status !== ACCEPTED && !/^refused: compare: /.test(answer.line)) return answer;
   const { status, text } = await ask('differences', field.bytes, table.bytes, name, twoC, twoI);
   return status === ACCEPTED ? { ...answer, differences: text } : answer;
@@ -128,24 +165,21 @@ function take(/** @type {Card} */ card, /** @type {Answer} */ answer) {
   card.mood = card.answers.every(one => one.status === ACCEPTED) ? 'good' : 'bad';
 }
 
-/** A card of a file that belongs to no station. */
-const cardOfFile = (/** @type {Input} */ file) =>
-  /** @type {Card} */ ({ title: file.name, mood: 'open', answers: [], waiting: [] });
-
 /**
- * Makes the cards of all files, one after the other, so that those that are made stay where it is stopped;
- * `told` hears before each file how far it is.
+ * Makes the cards of all files, one after the other, so that those that are made stay where it is
+ * stopped; `told` hears before each file how far it is.
  * @param {Input[]} inputs
- * @param {Record<string, number | null>} limits
+ * @param {Limits} limits
  * @param {Card[]} cards where they are put
  * @param {(done: number, all: number, name: string) => void} told
  */
 export async function makeCards(inputs, limits, cards, told) {
-  const of = kind => inputs.filter(input => input.kind === kind);
+  const of = (/** @type {string} */ kind) => inputs.filter(input => input.kind === kind);
   const fields = of('field'), others = [...of('sheet'), ...of('table')];
   if (fields.length === 0) return;
   let done = 0;
-  const tell = file => told(++done, fields.length + others.length, file.name);
+  const tell = (/** @type {Input} */ file) =>
+    told(++done, fields.length + others.length, file.name);
   for (const field of fields) {
     tell(field);
     cards.push(...await cardsOfField(field, limits));
@@ -160,12 +194,20 @@ export async function makeCards(inputs, limits, cards, told) {
   }
 }
 
-/** Asks for the answer to a sheet or a table, and puts it onto the card where it belongs. */
+/**
+ * Asks for the answer to a sheet or a table, and puts it onto the card where it belongs.
+ * @param {Input} file
+ * @param {Card[]} cards
+ * @param {Input[]} fields
+ * @param {Station[]} stations
+ * @param {Limits} limits
+ */
 async function placeFile(file, cards, fields, stations, limits) {
   const isSheet = file.kind === 'sheet';
   const compared = isSheet ? undefined : stationOfTable(file, fields, stations);
   const field = isSheet ? fieldOfSheet(file, fields, stations) : compared?.field;
-  const isOfSheet = one => one.field === field && one.listed.name === stationOfSheet(file);
+  const isOfSheet = (/** @type {Station} */ one) =>
+    one.field === field && one.listed.name === stationOfSheet(file);
   const station = isSheet ? stations.find(isOfSheet) : compared;
   const lone = field ?? (fields.length === 1 ? fields[0] : undefined);
   const blocked = lone && !stations.some(one => one.field === lone);
@@ -176,7 +218,8 @@ async function placeFile(file, cards, fields, stations, limits) {
     cards.push({ ...cardOfFile(file), unplaced });
   } else {
     const answer = isSheet
-      ? await answerOfSheet(file, field, station, limits) : await answerOfTable(file, station, limits);
+      ? await answerOfSheet(file, field, station, limits)
+      : await answerOfTable(file, station, limits);
     let card = cards.find(one => station && one.station === station);
     if (!card) cards.push(card = { ...cardOfFile(file), field });
     take(card, answer);
@@ -186,21 +229,27 @@ async function placeFile(file, cards, fields, stations, limits) {
 // ---------------------------------------------------------------- results
 
 /** The sheet of means of a station whose sets are complete. */
-export const meansOf = (/** @type {Station} */ { field, listed }, limits) =>
+export const meansOf = (/** @type {Station} */ { field, listed }, /** @type {Limits} */ limits) =>
   ask('means', field.bytes, listed.name, limits.twoC, limits.twoI);
 
 /**
- * What a command answers of a station, by its numbers of these names, and by the name of the file where it
- * says that.
+ * What a command answers of a station, by its numbers of these names, and by the name of the file
+ * where it says that.
+ * @param {string} asked
+ * @param {Station} station
+ * @param {string[]} names
+ * @param {Limits} limits
+ * @param {string[]} path
  * @returns {Promise<Answer>}
  */
-async function answerOfStation(asked, /** @type {Station} */ { field, listed: { name } }, names, limits, ...path) {
+async function answerOfStation(asked, { field, listed: { name } }, names, limits, ...path) {
   const reply = await ask(asked, field.bytes, ...path, name, ...names.map(one => limits[one]));
-  return answered(reply, { asked, field, command: commandOf(asked, names, limits, [field.name, name]) });
+  const command = commandOf(asked, names, limits, [field.name, name]);
+  return answered(reply, { asked, field, command });
 }
 
 /** The residuals of a station: asked for once. */
-async function residualsOf(/** @type {Station} */ station, limits) {
+async function residualsOf(/** @type {Station} */ station, /** @type {Limits} */ limits) {
   station.residuals ??= await answerOfStation('residuals', station, ['twoC', 'twoI'], limits);
   return station.residuals;
 }
@@ -208,10 +257,12 @@ async function residualsOf(/** @type {Station} */ station, limits) {
 /**
  * The results of a station: asked for when they are first shown.
  * @param {Card} card
+ * @param {Limits} limits
  * @returns {Promise<Results>}
  */
 export async function resultsOf({ station }, limits) {
-  const directions = await answerOfStation('directions', station, ['twoC', 'twoI', 'decimals'], limits);
-  const report = await answerOfStation('report', station, ['twoC', 'twoI'], limits, station.field.name);
+  const faces = ['twoC', 'twoI'];
+  const directions = await answerOfStation('directions', station, [...faces, 'decimals'], limits);
+  const report = await answerOfStation('report', station, faces, limits, station.field.name);
   return { directions, residuals: await residualsOf(station, limits), report };
 }

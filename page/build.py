@@ -1,11 +1,12 @@
 """Makes the page: `python3 page/build.py [--proved] OUT.html`.
 
 rattle proves the crate station_page and compiles it for x86-64. On the way the module that it hands
-to clang is kept; it is retargeted to wasm64, compiled by the kit's clang with the
-marks that rattle gives for wasm64, and linked with the heap by the kit's linker. README.md says what
-is trusted of that, and why it isn't done by `rt lib` alone.
+to clang is kept; it is retargeted to wasm64, compiled by the kit's clang with the marks that rattle
+gives for wasm64, and linked with the heap by the kit's linker. README.md says what is trusted of
+that, and why it isn't done by `rt lib` alone.
 
-`--proved` takes the libraries below as `rt ci` left them, which has proved them: the gate calls it so.
+`--proved` takes the libraries below as `rt ci` left them, which has proved them: the gate calls it
+so.
 """
 
 import argparse
@@ -17,36 +18,20 @@ import shutil
 import subprocess
 import sys
 import tempfile
-from collections import Counter
 from pathlib import Path
+from typing import Any, Iterator
 
 import retarget
+import scripts
 
 HERE = Path(__file__).resolve().parent
 ROOT = HERE.parent
 CRATE = ROOT / "crates" / "station_page"
 # The libraries that stand on all others of the crate's.
-LIBRARIES = ["station_differences", "station_report", "station_mark", "station_explain", "byte_digests"]
+LIBRARIES = [
+    "station_differences", "station_report", "station_mark", "station_explain", "byte_digests",
+]
 RT = os.environ.get("RT", "rt")
-
-# The modules of each script that stands in the page, in the order in which they need each other: of the
-# worker, which needs no page around it, and of the page.
-SCRIPTS = {
-    "calls": ["calls.js", "numbers.js", "records.js", "worker.js"],
-    "page": [
-        "texts.js", "numbers.js", "records.js", "files.js", "work.js", "limits.js", "place.js",
-        "answers.js", "elements.js", "tables.js", "picture.js", "headlines.js", "results.js",
-        "protocol.js", "cards.js", "page.js",
-    ],
-}
-
-# What a module says of its names for others: it is left out where all stand in one script.
-IMPORT = re.compile(r"^import \{[^}]*\} from '\./(\w+\.js)';\n", re.MULTILINE)
-EXPORT = re.compile(r"^export (?=(?:async )?(?:const|let|class|function)\b)", re.MULTILINE)
-
-# What a module declares for all of itself: a name, and constants that stand after another on its line.
-DECLARED = re.compile(r"^(?:export )?(?:async )?(?:const|let|class|function) (.*)", re.MULTILINE)
-NAME = re.compile(r"^[$\w]+|(?<=, )[A-Z_]+(?= = )")
 
 # Where what is made on the way stays: the tests link it again with another heap.
 ROOM = ROOT / "build" / "page"
@@ -69,7 +54,7 @@ exec '{clang}' "$@"
 """
 
 
-def run(*command, **how):
+def run(*command: str | Path, **how: Any) -> str:
     """Runs a command; where it fails, shows what it said, and stops."""
     words = [str(word) for word in command]
     ran = subprocess.run(words, stdout=subprocess.PIPE, stderr=subprocess.STDOUT, text=True, **how)
@@ -78,20 +63,20 @@ def run(*command, **how):
     return ran.stdout
 
 
-def libraries(root):
+def libraries(root: Path) -> dict[str, list[str]]:
     """The libraries that each crate of a repository names."""
     lines = (root / "crates.txt").read_text().splitlines()
     rows = [re.match(r"(\w+)[^:]*:(.*)", line) for line in lines if not line.startswith("#")]
     return {row[1]: row[2].split() for row in rows if row}
 
 
-def below(crate, named):
+def below(crate: str, named: dict[str, list[str]]) -> set[str]:
     """The crates of its repository that a crate stands on, however far."""
     found = {name for name in named[crate] if name in named}
     return found.union(*(below(name, named) for name in found))
 
 
-def words_of_build(kit, crate):
+def words_of_build(kit: Path, crate: Path) -> Iterator[str]:
     """What rattle is told of a crate, as `rt lib` tells it."""
     named = libraries(crate.parent.parent)
     stands_on = sorted(below(crate.name, named))
@@ -107,7 +92,7 @@ def words_of_build(kit, crate):
     yield from ["--crate-type", "staticlib", "--incremental", "out/incremental"]
 
 
-def keeping_toolchain(kit, kept, tools):
+def keeping_toolchain(kit: Path, kept: Path, tools: Path) -> None:
     """Makes a copy of the kit's toolchain, by links, whose clang keeps the module there."""
     (tools / "bin").mkdir()
     (tools / "lib").symlink_to(kit / "toolchain" / "lib")
@@ -119,25 +104,25 @@ def keeping_toolchain(kit, kept, tools):
     clang.chmod(0o755)
 
 
-def prove_libraries():
+def prove_libraries() -> None:
     """Proves the libraries that the crate stands on, as far as they aren't."""
     for library in LIBRARIES:
         run(RT, "lib", cwd=ROOT / "crates" / library, stdin=subprocess.DEVNULL)
 
 
-def proved_module(kit, crate, room):
-    """The module that rattle makes of a crate that it proves for x86-64, over its proved libraries."""
+def proved_module(kit: Path, crate: Path, room: Path) -> Path:
+    """The module that rattle makes of a crate that it proves for x86-64, over its libraries."""
     kept = room / "module.bc"
     # (rt takes no links inside the repository)
     with tempfile.TemporaryDirectory(prefix="page-toolchain-") as tools:
         keeping_toolchain(kit, kept, Path(tools))
-        words = [*words_of_build(kit, crate), "--toolchain", tools, "-o", room / "lib.a"]
-        run(kit / "bin" / "rattle", "build", *words, cwd=crate)
+        to = ["--toolchain", tools, "-o", str(room / "lib.a")]
+        run(kit / "bin" / "rattle", "build", *words_of_build(kit, crate), *to, cwd=crate)
     return kept
 
 
-def compiled(kit, module, room):
-    """Retargets a module and compiles it."""
+def compiled(kit: Path, module: Path, room: Path) -> Path:
+    """Retargets a module and compiles it; answers where its code is."""
     clang = kit / "toolchain" / "bin" / "clang"
     old, new, made = room / "old.ll", room / "new.ll", room / "page.o"
     run(clang, "-x", "ir", module, "-S", "-emit-llvm", "-Xclang", "-disable-llvm-passes", "-o", old)
@@ -146,68 +131,58 @@ def compiled(kit, module, room):
     return made
 
 
-def linked(kit, made, to, room, *of_heap):
+def linked(kit: Path, made: Path, to: Path, room: Path, *of_heap: str) -> None:
     """Links a compiled module with the heap, which is compiled with these options."""
     tools, heap, archive = kit / "toolchain" / "bin", room / "heap.o", room / "libpage.a"
     run(tools / "clang", *TARGET, *FREE_STANDING, *of_heap, "-c", HERE / "heap.c", "-o", heap)
     archive.unlink(missing_ok=True)
     run(tools / "llvm-ar", "--format=gnu", "rcs", archive, made, heap)
-    link = [kit / "bin" / "rattle-link", "--target", retarget.TRIPLE]
-    run(*link, "--toolchain", kit / "toolchain", "-o", to, archive)
+    link = kit / "bin" / "rattle-link"
+    run(link, "--target", retarget.TRIPLE, "--toolchain", kit / "toolchain", "-o", to, archive)
 
 
-def git(*words):
+def git(*words: str) -> str:
     """What git says of the repository; nothing where it isn't one."""
     try:
-        return subprocess.run(["git", *words], cwd=ROOT, capture_output=True, text=True).stdout.strip()
+        ran = subprocess.run(["git", *words], cwd=ROOT, capture_output=True, text=True)
     except FileNotFoundError:
         return ""
+    return ran.stdout.strip()
 
 
-def version():
+def version() -> str:
     """The commit that the page is made of."""
     changed = ", with changes" if git("status", "--porcelain") else ""
     return (git("rev-parse", "--short=12", "HEAD") or "not known") + changed
 
 
-def joined(modules):
-    """The modules of a script in one text; stops where a name stands for two things in it."""
-    texts = [(HERE / name).read_text() for name in modules]
-    counts = Counter(name for text in texts for line in {*DECLARED.findall(text)} for name in NAME.findall(line))
-    if twice := [name for name, count in counts.items() if count > 1]:
-        sys.exit(f"page: these names stand in two modules of one script: {', '.join(twice)}")
-    return "'use strict';\n\n" + "\n".join(EXPORT.sub("", IMPORT.sub("", text)) for text in texts)
-
-
-def page(module):
+def page(module: bytes) -> str:
     """The text of the page around a module, with its style and its scripts in it."""
-    text = (HERE / "station_check.html").read_text()
-    words = {
-        **{f"@{name}@": joined(modules) for name, modules in SCRIPTS.items()},
-        "@style.css@": (HERE / "style.css").read_text(),
-        "@MODULE@": base64.b64encode(module).decode(),
-        "@SHA256@": hashlib.sha256(module).hexdigest(),
-        "@COMMIT@": version(),
-    }
-    for word, value in words.items():
-        text = text.replace(word, value)
-    return text
+    return scripts.filled((HERE / "station_check.html").read_text(), {
+        "calls": scripts.joined(scripts.SCRIPTS["calls"]),
+        "page": scripts.joined(scripts.SCRIPTS["page"]),
+        "style": scripts.styled("page"),
+        "MODULE": base64.b64encode(module).decode(),
+        "SHA256": hashlib.sha256(module).hexdigest(),
+        "COMMIT": version(),
+    })
 
 
-def kit_of(rt):
+def kit_of(rt: str) -> Path:
     """The folder of the toolchain."""
     return Path(run(rt, "doc").strip()).parent
 
 
-def asked_for():
+def asked_for() -> argparse.Namespace:
     """What the words of the command line ask for."""
     words = argparse.ArgumentParser(description="Makes the page that checks in a browser.")
     words.add_argument("out", metavar="OUT.html", type=Path)
-    words.add_argument("--proved", action="store_true", help="the libraries lie there as rt ci proved them")
+    proved = "the libraries lie there as rt ci proved them"
+    words.add_argument("--proved", action="store_true", help=proved)
     return words.parse_args()
 
 
-def main():
+def main() -> None:
     asked, kit = asked_for(), kit_of(RT)
     if not asked.proved:
         prove_libraries()

@@ -1,25 +1,42 @@
 // The proved calls of the module: files in, a status and texts out.
 //
-// Each call copies its inputs into memory, calls, and copies the texts out. Nothing proves this part.
+// Each call copies its inputs into memory, calls, and copies the texts out. Nothing proves this
+// part.
 
-// The status of a call whose text has no room.
+/**
+ * The module, compiled, and what a call answers: its status, and the bytes of each text.
+ * @typedef {WebAssembly.Module} Core
+ * @typedef {{ status: number, shown: Uint8Array[] }} Answered
+ */
+
+/** The status of a call whose text has no room. */
 const NO_ROOM = 3;
 const MEMORY_PAGE = 65536, LENGTH = 8, LEAST_ROOM = 65536, MOST_ROOM = 2 ** 30;
 
-// Adds pages to a memory, and answers where they begin. Node before 24 counts them in numbers.
-function grow(memory, pages) {
+/** Adds pages to a memory, and answers where they begin. Node before 24 counts them in numbers. */
+function grow(/** @type {WebAssembly.Memory} */ memory, /** @type {number} */ pages) {
   try {
-    return Number(memory.grow(BigInt(pages))) * MEMORY_PAGE;
+    return Number(memory.grow(/** @type {any} */ (BigInt(pages)))) * MEMORY_PAGE;
   } catch (error) {
     if (!(error instanceof TypeError)) throw error;
     return memory.grow(pages) * MEMORY_PAGE;
   }
 }
 
-const bytesOfAll = inputs => inputs.reduce((sum, input) => sum + input.length, 0);
+const bytesOfAll = (/** @type {Uint8Array[]} */ inputs) =>
+  inputs.reduce((sum, input) => sum + input.length, 0);
 
-// One call of the core, in a new instance: its inputs, and then room for each text and its length,
-// lie in pages of their own, which nothing of the module uses.
+/**
+ * One call of the core, in a new instance: its inputs, and then room for each text and its length,
+ * lie in pages of their own, which nothing of the module uses.
+ * @param {number} room
+ * @param {Core} core
+ * @param {string} name
+ * @param {Uint8Array[]} inputs
+ * @param {number[]} numbers
+ * @param {number} texts
+ * @returns {Promise<Answered>}
+ */
 async function callWithin(room, core, name, inputs, numbers, texts) {
   const { exports } = /** @type {any} */ (await WebAssembly.instantiate(core, {}));
   const { memory, [name]: call } = exports;
@@ -36,13 +53,21 @@ async function callWithin(room, core, name, inputs, numbers, texts) {
   const outs = lengths.flatMap((length, nth) => [at + nth * room, room, length].map(BigInt));
   const status = call(...slices, ...numbers, ...outs);
   const view = new DataView(memory.buffer);
-  const shown = lengths.map((length, nth) =>
-    new Uint8Array(memory.buffer, at + nth * room, Number(view.getBigUint64(length, true))).slice());
+  const shown = lengths.map((length, nth) => {
+    const bytes = Number(view.getBigUint64(length, true));
+    return new Uint8Array(memory.buffer, at + nth * room, bytes).slice();
+  });
   return { status, shown };
 }
 
-// The status of a call and the bytes of each text that it handed out; asked for again with more room
-// where that was too little. Few texts have more than twice the bytes of the files.
+/**
+ * The status of a call and the bytes of each text that it handed out; asked for again with more
+ * room where that was too little. Few texts have more than twice the bytes of the files.
+ * @param {Core} core
+ * @param {string} name
+ * @param {Uint8Array[]} inputs
+ * @param {number[]} numbers
+ */
 async function callOf(core, name, inputs, numbers, texts = 1) {
   for (let room = Math.max(LEAST_ROOM, 2 * bytesOfAll(inputs)); ; room *= 8) {
     const answer = await callWithin(room, core, name, inputs, numbers, texts);
@@ -50,9 +75,14 @@ async function callOf(core, name, inputs, numbers, texts = 1) {
   }
 }
 
-// A limit that need not be stated: whether one is, and which.
-const stated = limit => [Number(limit !== null), limit ?? 0];
+/** A limit that need not be stated: whether one is, and which. */
+const stated = (/** @type {number | null} */ limit) => [Number(limit !== null), limit ?? 0];
 
+/**
+ * Each call by its name: it is given the module, files and names as bytes, and numbers in their
+ * units.
+ * @type {Record<string, (core: Core, ...inputs: any[]) => Promise<Answered>>}
+ */
 export const calls = {
   check: (core, gsi, sheet, twoC, twoI, residual) =>
     callOf(core, 'station_page_check', [gsi, sheet], [twoC, twoI, ...stated(residual)]),

@@ -1,8 +1,10 @@
 // A card of a station: the answer first, then the fault or the results.
 import { ACCEPTED, OUT_OF_RANGE, REFUSED, filesOf, meansOf } from './answers.js';
-import { button, element, ofProgram, save } from './elements.js';
+import { button, element, menuOf, ofProgram, save } from './elements.js';
 import { stemOf } from './files.js';
-import { apartIn, headlineOf, headlineOfCard, isWithoutName, meaningOf, recognizedText } from './headlines.js';
+import {
+  apartIn, headlineOf, headlineOfCard, isWithoutName, meaningOf, recognizedText,
+} from './headlines.js';
 import { pictureFile } from './picture.js';
 import { placeOf } from './place.js';
 import { protocolFile } from './protocol.js';
@@ -14,22 +16,31 @@ import { text } from './texts.js';
 /**
  * @typedef {import('./answers.js').Card} Card
  * @typedef {import('./answers.js').Answer} Answer
- * What a card asks of the page: the limits, to load its results, to print it, to name the station of a
- * field file.
- * @typedef {{ limits: Record<string, number | null>, load: (card: Card) => Promise<void>,
- *   print: (card: Card) => void,
- *   name: (field: import('./files.js').Input, station: string) => void }} Desk
+ * What a card asks of the page: the limits, to load its results, to print it, to name the station
+ * of a field file.
+ * @typedef {{ limits: import('./limits.js').Limits, load: (card: Card) => Promise<void>,
+ *   print: (card: Card) => void, name: (field: Input, station: string) => void }} Desk
+ * @typedef {import('./files.js').Input} Input
+ * Gives what is in a file that can be saved; nothing where there is none, and it is said why.
+ * @typedef {() => string | null | Promise<string | null>} Content
  */
+
+/** So many pixels are seen right of what is meant, in a line that is longer than its room. */
+const BESIDE_MARK = 24;
 
 const MOODS = { good: 'moodGood', bad: 'moodBad', read: 'moodRead', open: 'moodOpen' };
 
 // ---------------------------------------------------------------- refusals
 
-/** The lines around a fault, with its place marked. */
-function showPlace(/** @type {import('./place.js').Place} */ { where, lines, first, end }, parent) {
-  element('p', `${where}:`, parent, { className: 'where' });
+/**
+ * The lines around a fault, with its place marked.
+ * @param {import('./place.js').Place} place
+ * @param {Element} parent
+ */
+function showPlace({ where, lines, first, end }, parent) {
+  element('p', where, parent, { className: 'where' });
   if (lines.length === 0) return;
-  const around = element('pre', '', parent, { className: 'lines', tabIndex: 0 });
+  const around = element('pre', '', parent, { className: 'lines' });
   around.setAttribute('aria-label', where);
   for (const { number, text: line, isMeant } of lines) {
     const row = element('span', '', around, { className: isMeant ? 'line meant' : 'line' });
@@ -43,17 +54,24 @@ function showPlace(/** @type {import('./place.js').Place} */ { where, lines, fir
     }
     around.append('\n');
   }
+  const meant = around.querySelector('mark');
+  if (!meant || first === 0) return;
+  // What is meant may stand right of what a phone shows. (All that is new is laid out at once.)
+  requestAnimationFrame(() => {
+    around.scrollLeft = meant.offsetLeft + meant.offsetWidth + BESIDE_MARK - around.clientWidth;
+  });
 }
 
 /**
  * The paragraphs of an explanation, as flowing text without its sample line.
  * @returns {string[]}
  */
-export const paragraphsOf = (/** @type {string} */ explanation) => explanation.trim().split(/\n\s*\n/)
+export const paragraphsOf = (/** @type {string} */ explanation) => explanation.trim()
+  .split(/\n\s*\n/)
   .filter(paragraph => !/^ +refused: /.test(paragraph))
   .map(paragraph => paragraph.split('\n').map(line => line.trim()).join(' '));
 
-function showExplanation(/** @type {string} */ explanation, parent) {
+function showExplanation(/** @type {string} */ explanation, /** @type {Element} */ parent) {
   const part = element('div', '', parent, { className: 'explanation' });
   part.setAttribute('role', 'note');
   part.setAttribute('aria-label', text('whatItMeans'));
@@ -69,7 +87,12 @@ function showExplanation(/** @type {string} */ explanation, parent) {
 
 // ---------------------------------------------------------------- an answer
 
-function showCommand(/** @type {Answer} */ { line, command, status }, parent) {
+/**
+ * The program's line, and the command that answers the same.
+ * @param {Answer} answer
+ * @param {Element} parent
+ */
+function showCommand({ line, command, status }, parent) {
   const part = element('dl', '', parent, { className: 'exact' });
   if (status <= REFUSED) {
     element('dt', text('program'), part);
@@ -79,7 +102,13 @@ function showCommand(/** @type {Answer} */ { line, command, status }, parent) {
   ofProgram('code', command, element('dd', '', part));
 }
 
-function showAnswer(/** @type {Answer} */ answer, desk, parent) {
+/**
+ * An answer: in words, where the fault stands and what it means, and the line.
+ * @param {Answer} answer
+ * @param {Desk} desk
+ * @param {Element} parent
+ */
+function showAnswer(answer, desk, parent) {
   const { status, line, field, other, station, explanation } = answer;
   const mood = status === ACCEPTED ? 'good' : 'bad';
   const part = element('div', '', parent, { className: `answer ${mood}` });
@@ -97,32 +126,43 @@ function showAnswer(/** @type {Answer} */ answer, desk, parent) {
 
 // ---------------------------------------------------------------- results
 
-/** What can be saved of a station, and printed. */
-function showButtons(/** @type {Card} */ card, desk, parent) {
+/**
+ * What can be saved of a station, and printed.
+ * @param {Card} card
+ * @param {Desk} desk
+ * @param {Element} parent
+ */
+function showButtons(card, desk, parent) {
   const { station, results, field } = card, { listed } = station, name = listed.name;
   const part = element('div', '', parent, { className: 'buttons' });
+  button(text('printProtocol'), part, () => desk.print(card), 'button primary');
+  const menu = menuOf(text('save'), part);
   const said = element('p', '', parent, { className: 'quiet' });
   said.setAttribute('role', 'status');
-  const offer = (label, file, content, type = 'text/csv') => button(text(label), part, async () => {
+  /** @type {(label: string, file: string, content: Content, type?: string) => Element} */
+  const offer = (label, file, content, type = 'text/csv') => button(text(label), menu, async () => {
     const whole = await content();
     if (whole === null) return;
     save(file, whole, type);
     said.textContent = text('saved', { name: file });
   });
-  button(text('printProtocol'), part, () => desk.print(card), 'button primary');
   const protocol = `${stemOf(field)}_${name}.html`;
   offer('saveProtocol', protocol, () => protocolFile(card, desk.limits), 'text/html');
   if (results.directions.status === ACCEPTED)
     offer('saveDirections', `${name}_directions.csv`, () => `${results.directions.line}\n`);
   if (results.residuals.status === ACCEPTED) {
-    const { line } = results.residuals;
+    const { line } = results.residuals, title = text('residualsOf', { name });
+    const origin = [field.name, text('digest', { digest: field.digest })];
     offer('saveResiduals', `${name}_residuals.csv`, () => `${line}\n`);
-    offer('savePicture', `${name}_residuals.svg`, () => pictureFile(station, residualsIn(line)), 'image/svg+xml');
+    const picture = () => pictureFile(title, origin, residualsIn(line));
+    offer('savePicture', `${name}_residuals.svg`, picture, 'image/svg+xml');
   }
   if (results.report.status === ACCEPTED)
     offer('saveReport', `${name}_report.txt`, () => `${results.report.line}\n`, 'text/plain');
-  for (const { differences, other } of card.answers)
-    if (differences) offer('saveDifferences', `${stemOf(other)}_differences.csv`, () => differences);
+  for (const { differences, other } of card.answers) {
+    const file = `${stemOf(other)}_differences.csv`;
+    if (differences) offer('saveDifferences', file, () => differences);
+  }
   offer('saveFaces', `${name}_faces.csv`, () => facesFile(station));
   if (isComplete(listed)) offer('saveMeans', `${name}.csv`, async () => {
     const { status, text: sheet } = await meansOf(station, desk.limits);
@@ -131,9 +171,16 @@ function showButtons(/** @type {Card} */ card, desk, parent) {
   });
 }
 
-/** The results, which are asked for when they are first opened. */
-function showOpening(/** @type {Card} */ card, desk, isOpen, parent) {
-  const part = /** @type {HTMLDetailsElement} */ (element('details', '', parent, { className: 'results' }));
+/**
+ * The results, which are asked for when they are first opened.
+ * @param {Card} card
+ * @param {Desk} desk
+ * @param {boolean} isOpen
+ * @param {Element} parent
+ */
+function showOpening(card, desk, isOpen, parent) {
+  const part = /** @type {HTMLDetailsElement} */ (element('details', '', parent));
+  part.className = 'results';
   const names = ['directions', 'residuals', 'faces'].map(name => text(name));
   element('summary', names.join(' · '), part);
   let isFilled = false;
@@ -153,8 +200,14 @@ function showOpening(/** @type {Card} */ card, desk, isOpen, parent) {
 
 // ---------------------------------------------------------------- jobs without codes
 
-/** What was recognized in a job without codes, to be compared with the field book, and the copy to be saved. */
-function showMarked(/** @type {Card} */ { marked, recognized }, desk, parent) {
+/**
+ * What was recognized in a job without codes, to be compared with the field book, and the copy to
+ * be saved.
+ * @param {Card} card
+ * @param {Desk} desk
+ * @param {Element} parent
+ */
+function showMarked({ marked, recognized }, desk, parent) {
   const { line, other, field, command } = marked;
   const part = element('div', '', parent, { className: 'marked' });
   element('p', text('markedCopy', { name: field.name }), part, { className: 'label' });
@@ -168,12 +221,18 @@ function showMarked(/** @type {Card} */ { marked, recognized }, desk, parent) {
   ofProgram('pre', `${command}\n${line}`, exact);
 }
 
-/** Asks for the name of the station, which no line of the job has, or for another one. */
-function askName(/** @type {import('./files.js').Input} */ field, desk, parent, className = 'button primary') {
+/**
+ * Asks for the name of the station, which no line of the job has, or for another one.
+ * @param {Input} field
+ * @param {Desk} desk
+ * @param {Element} parent
+ * @param {string} className of the button
+ */
+function askName(field, desk, parent, className) {
   const form = element('form', '', parent, { className: 'buttons' });
   const label = element('label', `${text('stationName')} `, form);
-  const name = /** @type {HTMLInputElement} */ (element('input', '', label, { type: 'text', maxLength: 16 }));
-  name.value = field.station ?? '';
+  const about = { type: 'text', maxLength: 16, value: field.station ?? '' };
+  const name = /** @type {HTMLInputElement} */ (element('input', '', label, about));
   element('button', text('markSets'), form, { type: 'submit', className });
   form.onsubmit = event => {
     event.preventDefault();
@@ -181,46 +240,58 @@ function askName(/** @type {import('./files.js').Input} */ field, desk, parent, 
   };
 }
 
-/** Why the sets of a job without codes are not recognized, and what to do. */
-function showUnmarked(/** @type {Card} */ card, desk, parent) {
-  const { marked, field } = card, isNameless = isWithoutName(marked);
-  element('p', text('outside', { n: card.readings }), parent);
-  if (marked.status === OUT_OF_RANGE) element('p', text('wrongName'), parent);
-  else if (isNameless) element('p', text('needName'), parent);
+/**
+ * Why the sets of a job without codes are not recognized, and what to do.
+ * @param {Card} card
+ * @param {Desk} desk
+ * @param {Element} parent
+ */
+function showUnmarked(card, desk, parent) {
+  const { marked, field } = card, isWrong = marked.status === OUT_OF_RANGE;
+  const isAsked = isWrong || isWithoutName(marked);
+  if (isAsked) element('p', text(isWrong ? 'wrongName' : 'needName'), parent);
   else {
-    if (marked.explanation) ofProgram('p', meaningOf(marked), parent);
+    if (marked.explanation) ofProgram('p', meaningOf(marked), parent, 'reason');
     const place = placeOf(marked.line, marked.field);
     if (place) showPlace(place, parent);
     if (marked.explanation) showExplanation(marked.explanation, parent);
   }
-  if (isNameless || field.station) askName(field, desk, parent);
+  if (isAsked || field.station) askName(field, desk, parent, isAsked ? 'button primary' : 'button');
+  element('p', text('outside', { n: card.readings }), parent, { className: 'quiet' });
   showCommand(marked, parent);
 }
 
 // ---------------------------------------------------------------- a card
 
-/** What is to be done of a field file without sets. */
-function showTodo(/** @type {Card} */ card, desk, parent) {
-  const { readings } = card;
-  if (readings === 0) return void element('p', text('noReadings'), parent);
-  if (card.marked) showUnmarked(card, desk, parent);
+/**
+ * What is to be done of a field file without sets.
+ * @param {Card} card
+ * @param {Desk} desk
+ * @param {Element} parent
+ */
+function showTodo(card, desk, parent) {
+  if (card.readings === 0) element('p', text('noReadings'), parent);
+  else if (card.marked) showUnmarked(card, desk, parent);
 }
 
-function showDigests(/** @type {Card} */ card, parent) {
+function showDigests(/** @type {Card} */ card, /** @type {Element} */ parent) {
   const files = filesOf(card).filter(file => file.digest);
   if (files.length === 0) return;
   const list = element('ul', '', parent, { className: 'digests quiet' });
   for (const { name, digest } of files) {
     const item = element('li', '', list);
-    element('span', `${name}: `, item, { className: 'name' });
+    element('span', name, item, { className: 'name' });
+    item.append(' ');
     ofProgram('code', text('digest', { digest }), item);
   }
 }
 
 /**
- * Shows a card; its results are open where there are few.
+ * Shows a card.
  * @param {Card} card
  * @param {Desk} desk
+ * @param {boolean} isOpen whether its results are open
+ * @param {Element} parent
  */
 export function showCard(card, desk, isOpen, parent) {
   const part = element('article', '', parent, { className: `card ${card.mood}` });

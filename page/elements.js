@@ -14,13 +14,46 @@ export function element(tag, content, parent, more = {}) {
   return parent.appendChild(made);
 }
 
-/** An element with what the program says, which is English. */
+/**
+ * An element with what the program says, which is English.
+ * @param {string} tag
+ * @param {string} content
+ * @param {Element} parent
+ */
 export const ofProgram = (tag, content, parent, className = '') =>
   element(tag, content, parent, { lang: 'en', translate: false, className });
 
-/** A button that does this work. */
+/**
+ * A button that does this work.
+ * @param {string} content
+ * @param {Element} parent
+ * @param {() => void} work
+ */
 export function button(content, parent, work, className = 'button') {
   return element('button', content, parent, { type: 'button', className, onclick: work });
+}
+
+/**
+ * A menu of buttons, which are put into what it answers: they are shown below its own button until
+ * one is pressed, or another part of the page is turned to.
+ * @param {string} content
+ * @param {Element} parent
+ */
+export function menuOf(content, parent) {
+  const menu = /** @type {HTMLDetailsElement} */ (element('details', '', parent));
+  menu.className = 'menu';
+  const opens = element('summary', content, menu, { className: 'button' });
+  const list = element('div', '', menu);
+  const close = () => {
+    menu.open = false;
+    opens.focus();
+  };
+  list.onclick = close;
+  menu.onkeydown = ({ key }) => { if (key === 'Escape') close(); };
+  menu.addEventListener('focusout', ({ relatedTarget: next }) => {
+    if (!menu.contains(/** @type {Node | null} */ (next))) menu.open = false;
+  });
+  return list;
 }
 
 /**
@@ -28,7 +61,7 @@ export function button(content, parent, work, className = 'button') {
  * @typedef {{ text: string, mark?: string, bar?: number }} Cell
  */
 
-function cellOf(/** @type {Cell} */ { text: content, mark = '', bar }, row) {
+function cellOf(/** @type {Cell} */ { text: content, mark = '', bar }, /** @type {Element} */ row) {
   const cell = element('td', '', row, { className: mark });
   element('span', content, cell);
   if (bar === undefined) return;
@@ -38,8 +71,8 @@ function cellOf(/** @type {Cell} */ { text: content, mark = '', bar }, row) {
 }
 
 /**
- * A table with these headings and rows, whose first cells are headings too. It can be scrolled where
- * it is wider than the page.
+ * A table with these headings and rows, whose first cells are headings too. It can be scrolled
+ * where it is wider than the page.
  * @param {string} caption
  * @param {string[]} headings
  * @param {[string, ...Cell[]][]} rows
@@ -47,7 +80,7 @@ function cellOf(/** @type {Cell} */ { text: content, mark = '', bar }, row) {
  */
 export function tableOf(caption, headings, rows, parent, className = '') {
   element('p', caption, parent, { className: 'caption' });
-  const around = element('div', '', parent, { className: 'wide', tabIndex: 0 });
+  const around = element('div', '', parent, { className: 'wide' });
   const table = element('table', '', around, { className });
   around.setAttribute('role', 'group');
   for (const named of [around, table]) named.setAttribute('aria-label', caption);

@@ -4,9 +4,9 @@ import { each, recordsOf } from './records.js';
 /**
  * What a file is: a field file, a sheet or a table; or why it is none of them.
  * @typedef {'field' | 'sheet' | 'table' | 'spreadsheet' | 'empty' | 'unread' | 'other'} Kind
- * A file that was handed in: `choice` is the place that the user chose for it, `station` the name that the
- * user gave to a field file without one, and `original` the field file that a marked copy is of. The digest
- * is there once the file was judged.
+ * A file that was handed in: `choice` is the place that the user chose for it, `station` the name
+ * that the user gave to a field file without one, and `original` the field file that a marked copy
+ * is of. The digest is there once the file was judged.
  * @typedef {{ name: string, bytes: Uint8Array, kind: Kind, digest: string, choice?: string,
  *   station?: string, original?: Input }} Input
  * A station of a field file, with its residuals once they were asked for.
@@ -18,6 +18,9 @@ import { each, recordsOf } from './records.js';
 const HEAD = 4096;
 
 const EXTENSION = /\.[^.]*$/;
+const GSI_WORD = /^\*?\d\d[\d.?]{4}[+-]/;
+const NUMBER_AT_END = /[,;\t ]\s*"?[+-]?\d[\d.,'"°-]*( ?gon)?"?[,;\s]*$/i;
+
 /** The text of bytes; what is no text shows as a sign. */
 export const textOf = (/** @type {Uint8Array} */ bytes) => new TextDecoder().decode(bytes);
 
@@ -29,19 +32,20 @@ export const rowsOf = (/** @type {{ bytes: Uint8Array }} */ file) =>
   recordsOf(textOf(file.bytes)).map(record => record.fields);
 
 /**
- * What a file is. Field files have GSI words in their lines, sheets begin with 'sheet', tables have a
- * number at the end of a line. One with its unit makes a table too, which is then refused at that row.
+ * What a file is. Field files have GSI words in their lines, sheets begin with 'sheet', tables have
+ * a number at the end of a line. One with its unit makes a table too, which is then refused at that
+ * row.
  * @returns {Kind}
  */
 export function kindOf(/** @type {string} */ name, /** @type {Uint8Array} */ bytes) {
   if (bytes.length === 0) return 'empty';
   const head = textOf(bytes.subarray(0, HEAD));
   const lines = head.split(/[\r\n]+/).filter(line => line.trim() !== '');
-  if (/\.gsi$/i.test(name) || lines.some(line => /^\*?\d\d[\d.?]{4}[+-]/.test(line))) return 'field';
+  if (/\.gsi$/i.test(name) || lines.some(line => GSI_WORD.test(line))) return 'field';
   if (head.startsWith('PK') || /\.(xlsx?|ods)$/i.test(name)) return 'spreadsheet';
   if (/[\0-\x08\x0e-\x1f]/.test(head)) return 'other';
   if (/^"?sheet"?,/.test(head)) return 'sheet';
-  if (lines.some(line => /[,;\t ]\s*"?[+-]?\d[\d.,'"°-]*( ?gon)?"?[,;\s]*$/i.test(line))) return 'table';
+  if (lines.some(line => NUMBER_AT_END.test(line))) return 'table';
   return 'other';
 }
 
@@ -50,25 +54,34 @@ export function kindOf(/** @type {string} */ name, /** @type {Uint8Array} */ byt
 /** The station that a sheet is of, by its first row. */
 export const stationOfSheet = (/** @type {Input} */ sheet) => rowsOf(sheet)[0]?.[2] ?? '';
 
-/** The field files with the longest name that begins this one, as in a folder: `NAME.STATION.csv`. */
+/**
+ * The field files with the longest name that begins this one, as in a folder: `NAME.STATION.csv`.
+ */
 function fieldsByName(/** @type {string} */ name, /** @type {Input[]} */ fields) {
-  const stem = field => stemOf(field.original ?? field);
-  const fit = fields.filter(field => [...'._-'].some(end => name.startsWith(`${stem(field)}${end}`)));
+  const stem = (/** @type {Input} */ field) => stemOf(field.original ?? field);
+  const fit = fields.filter(field =>
+    [...'._-'].some(end => name.startsWith(`${stem(field)}${end}`)));
   const longest = Math.max(...fit.map(field => stem(field).length));
   return fit.filter(field => stem(field).length === longest);
 }
 
 /** The place of a station, as the list of files names it. */
-export const placeName = (/** @type {Station} */ { field, listed }) => `${field.name}: ${listed.name}`;
+export const placeName = (/** @type {Station} */ { field, listed }) =>
+  `${field.name}: ${listed.name}`;
 
-/** Those that pass, or all where none does: a hint narrows the choice, and never empties it. */
+/**
+ * Those that pass, or all where none does: a hint narrows the choice, and never empties it.
+ * @param {Station[]} all
+ * @param {(station: Station) => boolean} passes
+ */
 function narrowed(all, passes) {
   const some = all.filter(passes);
   return some.length > 0 ? some : all;
 }
 
 /**
- * The field file that a sheet is checked against: by its name, else by its station, else the only one.
+ * The field file that a sheet is checked against: by its name, else by its station, else the only
+ * one.
  * @param {Input} sheet
  * @param {Input[]} fields
  * @param {Station[]} stations
@@ -97,8 +110,8 @@ function shared(/** @type {Station} */ station, /** @type {Set<string>} */ names
 }
 
 /**
- * The station that a table is compared with: that which was chosen; else by the names of the files, then
- * by the station's name in that of the table, then by the targets; none where more are left.
+ * The station that a table is compared with: that which was chosen; else by the names of the files,
+ * then by the station's name in that of the table, then by the targets; none where more are left.
  * @param {Input} table
  * @param {Input[]} fields
  * @param {Station[]} stations

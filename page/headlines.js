@@ -6,9 +6,13 @@ import { text } from './texts.js';
 /**
  * @typedef {import('./answers.js').Answer} Answer
  * @typedef {import('./answers.js').Card} Card
+ * @typedef {import('./limits.js').Limits} Limits
  */
 
-/** What the fault of a refusal is, as a sentence: the first line of its explanation, without its name. */
+/**
+ * What the fault of a refusal is, as a sentence: the first line of its explanation, without its
+ * name.
+ */
 export function meaningOf(/** @type {Answer} */ { explanation }) {
   const meaning = explanation.split('\n')[0].replace(/^[\w ,]+: /, '');
   return `${meaning.charAt(0).toUpperCase()}${meaning.slice(1)}.`;
@@ -31,26 +35,28 @@ function agreesHeadline(/** @type {string} */ line) {
 }
 
 /** The answer in words and mgon. */
-export function headlineOf(/** @type {Answer} */ answer, limits) {
+export function headlineOf(/** @type {Answer} */ answer, /** @type {Limits} */ limits) {
   const { status, line, asked } = answer;
   if (status === OUT_OF_RANGE) return text('outOfRange');
   if (status === TOO_LITTLE_ROOM) return text('noRoom');
-  if (status === ACCEPTED) return asked === 'compare' ? agreesHeadline(line) : acceptedHeadline(answer);
-  const apart = apartIn(line);
-  if (apart && limits.within === null) return text('refusedApartByDecimals', { apart: mgonOf(apart, APART) });
-  if (apart) {
-    const mgon = { apart: mgonOf(apart, APART), within: mgonOf(limits.within, APART) };
-    return text('refusedApart', mgon);
-  }
-  return text('refused');
+  if (status === ACCEPTED)
+    return asked === 'compare' ? agreesHeadline(line) : acceptedHeadline(answer);
+  const units = apartIn(line);
+  if (!units) return text('refused');
+  const apart = mgonOf(units, APART);
+  if (limits.within === null) return text('refusedApartByDecimals', { apart });
+  return text('refusedApart', { apart, within: mgonOf(limits.within, APART) });
 }
 
 /** The answer in words, and what the fault of a refusal is. */
-export const saidOf = (/** @type {Answer} */ answer, limits) =>
+export const saidOf = (/** @type {Answer} */ answer, /** @type {Limits} */ limits) =>
   answer.explanation && !apartIn(answer.line)
     ? `${headlineOf(answer, limits)} ${meaningOf(answer)}` : headlineOf(answer, limits);
 
-/** What a station of a list has, in words. */
+/**
+ * How many sets, targets and directions a station has, in words.
+ * @param {{ sets: number, targets: number, directions: number }} counted
+ */
 export const countsOf = ({ sets, targets, directions }) => ({
   sets: text('setsCounted', { n: sets }),
   targets: text('targetsCounted', { n: targets }),
@@ -62,7 +68,9 @@ export function recognizedText(/** @type {import('./records.js').Recognized} */ 
   const { station, sets, targets, before, after } = one;
   if (sets === 0) return text('recognizedNone', { station, n: after });
   const counts = countsOf({ sets, targets, directions: 0 });
-  return text('recognized', { station, ...counts, before: text('readingsCounted', { n: before }), after });
+  if (before + after === 0) return text('recognizedAll', { station, ...counts });
+  const readings = text('readingsCounted', { n: before });
+  return text('recognized', { station, ...counts, before: readings, after });
 }
 
 /** Whether codes could not be put in since nothing names the station. */

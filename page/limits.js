@@ -3,24 +3,36 @@ import { APART, FACE, HALF, mgonOf, unitsIn } from './numbers.js';
 import { text } from './texts.js';
 
 /**
- * A limit: the option of the program, its name in the texts, how many units make one of what the field
- * shows, the usual number and the ends of its range, all in units. Where no number is usual, none is stated.
- * @typedef {{ id: string, label: string, per: number, usual: number | null, least: number, most: number }} Limit
+ * A limit: the option of the program, its name in the texts, how many units make one of what the
+ * field shows, the usual number and the ends of its range, all in units. Where no number is usual,
+ * none is stated.
+ * @typedef {{ id: string, label: string, per: number, usual: number | null, least: number,
+ *   most: number }} Limit
+ * The limits in force, in units: null where none is stated.
+ * @typedef {Record<string, number | null>} Limits
  */
 
 /** @type {Record<string, Limit>} */
 export const LIMITS = {
   twoC: { id: 'two-c', label: 'limitTwoC', per: FACE, usual: 2000, least: 0, most: 1_000_000 },
   twoI: { id: 'two-i', label: 'limitTwoI', per: FACE, usual: 2000, least: 0, most: 1_000_000 },
-  residual: { id: 'residual', label: 'limitResidual', per: HALF, usual: 2000, least: 0, most: 2000 },
-  within: { id: 'within', label: 'limitWithin', per: APART, usual: null, least: 0, most: 1_000_000 },
+  residual: {
+    id: 'residual', label: 'limitResidual', per: HALF, usual: 2000, least: 0, most: 2000,
+  },
+  within: {
+    id: 'within', label: 'limitWithin', per: APART, usual: null, least: 0, most: 1_000_000,
+  },
   decimals: { id: 'decimals', label: 'limitDecimals', per: 1, usual: 6, least: 1, most: 8 },
 };
 
 const NAMES = Object.keys(LIMITS);
-const field = name => /** @type {HTMLInputElement} */ (document.getElementById(LIMITS[name].id));
+const field = (/** @type {string} */ name) =>
+  /** @type {HTMLInputElement} */ (document.getElementById(LIMITS[name].id));
 
-/** The number of a field in units: the usual one, or null for none, where it is empty; undefined where it is wrong. */
+/**
+ * The number of a field in units: the usual one, or null for none, where it is empty; undefined
+ * where it is wrong.
+ */
 function numberOf(/** @type {string} */ name) {
   const { per, usual, least, most } = LIMITS[name], value = field(name).value;
   if (value.trim() === '') return usual;
@@ -28,7 +40,7 @@ function numberOf(/** @type {string} */ name) {
   return units !== null && units >= least && units <= most ? units : undefined;
 }
 
-/** The limits in force, in units: null where none is stated, undefined where a field is wrong. */
+/** The limits in force; undefined where a field is wrong. */
 export const limitsNow = () => Object.fromEntries(NAMES.map(name => [name, numberOf(name)]));
 
 /** What is wrong of the limits, in words; nothing where all are right. Each field says so too. */
@@ -50,26 +62,29 @@ export function showLimit(/** @type {string} */ name) {
 }
 
 /** The limits in force, in one line. */
-export function limitsLine(limits) {
-  const mgon = name => mgonOf(limits[name] ?? 0, LIMITS[name].per);
+export function limitsLine(/** @type {Limits} */ limits) {
+  const mgon = (/** @type {string} */ name) => mgonOf(limits[name] ?? 0, LIMITS[name].per);
   return text(limits.within === null ? 'inForceByDecimals' : 'inForce',
     Object.fromEntries(NAMES.map(name => [name, mgon(name)])));
 }
 
 /**
- * The command that answers the same. The residual limit is always stated, the others where they are not
- * the usual ones.
+ * The command that answers the same. The residual limit is always stated, the others where they are
+ * not the usual ones.
  * @param {string} command
  * @param {string[]} names
- * @param {Record<string, number | null>} limits
+ * @param {Limits} limits
  * @param {string[]} operands
  * @param {string[]} [more] further options
  */
 export function commandOf(command, names, limits, operands, more = []) {
-  const isStated = name => name === 'residual' || limits[name] !== LIMITS[name].usual;
-  const options = names.filter(isStated).flatMap(name => [`--${LIMITS[name].id}`, String(limits[name])]);
+  const isStated = (/** @type {string} */ name) =>
+    name === 'residual' || limits[name] !== LIMITS[name].usual;
+  const options = names.filter(isStated)
+    .flatMap(name => [`--${LIMITS[name].id}`, String(limits[name])]);
   const rest = operands.some(word => word.startsWith('-')) ? ['--'] : [];
-  return ['station_check', command, ...options, ...more.map(quoted), ...rest, ...operands.map(quoted)].join(' ');
+  const words = [...options, ...more.map(quoted), ...rest, ...operands.map(quoted)];
+  return ['station_check', command, ...words].join(' ');
 }
 
 const quoted = (/** @type {string} */ word) =>

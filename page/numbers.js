@@ -1,4 +1,5 @@
-// Numbers of the program as people read them: mgon in place of units, with a fixed number of decimals.
+// Numbers of the program as people read them: mgon in place of units, with a fixed number of
+// decimals.
 
 const MINUS = '\u2212';
 
@@ -11,20 +12,25 @@ const MINUS = '\u2212';
 export function decimal(numerator, denominator, decimals) {
   const size = numerator < 0n ? -numerator : numerator;
   const shift = 10n ** BigInt(decimals);
-  const digits = String((2n * size * shift + denominator) / (2n * denominator)).padStart(decimals + 1, '0');
-  const whole = digits.slice(0, digits.length - decimals), rest = digits.slice(digits.length - decimals);
-  const isZero = /^0+$/.test(digits);
+  const units = (2n * size * shift + denominator) / (2n * denominator);
+  const digits = String(units).padStart(decimals + 1, '0'), point = digits.length - decimals;
+  const whole = digits.slice(0, point), rest = digits.slice(point);
+  const isZero = units === 0n;
   return `${numerator < 0n && !isZero ? '-' : ''}${whole}${decimals > 0 ? '.' : ''}${rest}`;
 }
 
 /** A number's text with a sign that is seen; 0 has none. */
-export const signed = (/** @type {string} */ number) =>
-  number.startsWith('-') ? number.replace('-', MINUS) : /[1-9]/.test(number) ? `+${number}` : number;
+export function signed(/** @type {string} */ number) {
+  if (number.startsWith('-')) return number.replace('-', MINUS);
+  return /[1-9]/.test(number) ? `+${number}` : number;
+}
 
 /** A text without zeros at its end: '0.300' is '0.3'. */
 const plain = (/** @type {string} */ number) => number.replace(/\.?0+$/, '') || '0';
 
-/** How many of a quantity's units make one mgon: face differences, half units, distances of tables. */
+/**
+ * How many of a quantity's units make one mgon: face differences, half units, distances of tables.
+ */
 export const FACE = 100, HALF = 200, APART = 1000;
 
 /** So many units in mgon, without zeros at the end. */
@@ -32,7 +38,8 @@ export const mgonOf = (/** @type {number} */ units, /** @type {number} */ perMgo
   units === 0 ? '0' : plain(decimal(BigInt(units), BigInt(perMgon), 3));
 
 /**
- * The whole number of units that a text in mgon states, with a point or a comma; none where there is none.
+ * The whole number of units that a text in mgon states, with a point or a comma; none where there
+ * is none.
  * @param {string} mgon
  * @param {number} perMgon
  * @returns {number | null}

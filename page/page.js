@@ -23,7 +23,7 @@ const FEW = 3;
 let inputs = [];
 /** @type {Card[]} */
 let cards = [];
-/** @type {Record<string, number>} */
+/** @type {import('./limits.js').Limits} */
 let limits = {};
 
 // ---------------------------------------------------------------- what is said
@@ -34,25 +34,33 @@ function say(/** @type {string} */ mood, /** @type {string} */ said) {
   $('verdict').textContent = said;
 }
 
-/** The line above the cards: of one answer its headline, of several how many there are of each kind. */
+/**
+ * The line above the cards: of one answer its headline, of several how many there are of each kind.
+ */
 function sayHow() {
   if (inputs.length === 0) return say('quiet', text('ready'));
   if (cards.length === 0) return say('open', text('needField'));
   // (what the one card says is read out, and not shown twice)
   if (cards.length === 1) {
     const [card] = cards, { answers, station } = card;
-    const answer = answers.find(one => one.status !== ACCEPTED) ?? answers.at(-1);
-    const said = answer ? saidOf(answer, limits) : headlineOfCard(card);
-    const title = station ? `${text('station', { name: card.title })}: ` : '';
-    return say(`${card.mood} unseen`, title + said);
+    const refused = answers.filter(one => one.status !== ACCEPTED);
+    const told = refused.length > 0 ? refused : answers;
+    const said = told.map(one => saidOf(one, limits)).join(' ') || headlineOfCard(card);
+    const label = text('station', { name: card.title });
+    return say(`${card.mood} unseen`, station ? text('labelled', { label, said }) : said);
   }
-  const moods = Object.keys(SUMMARIES), count = mood => cards.filter(card => card.mood === mood).length;
-  const met = moods.filter(mood => count(mood) > 0);
-  say(met[0], met.map(mood => text(SUMMARIES[mood], { n: count(mood) })).join('; '));
+  const count = (/** @type {string} */ mood) => cards.filter(card => card.mood === mood).length;
+  const met = Object.keys(SUMMARIES).filter(mood => count(mood) > 0);
+  say(met[0], met.map(mood => text(SUMMARIES[mood], { n: count(mood) })).join(text('between')));
 }
 
-/** What is said of so many cards that look alike: that which asks most of the user comes first. */
-const SUMMARIES = { bad: 'summaryBad', open: 'summaryOpen', read: 'summaryRead', good: 'summaryGood' };
+/**
+ * What is said of so many cards that look alike: that which asks most of the user comes first.
+ * @type {Record<string, string>}
+ */
+const SUMMARIES = {
+  bad: 'summaryBad', open: 'summaryOpen', read: 'summaryRead', good: 'summaryGood',
+};
 
 /** What an input is, in words. */
 function kindText(/** @type {Input} */ input) {
@@ -64,7 +72,7 @@ function kindText(/** @type {Input} */ input) {
 }
 
 /** Where a sheet or a table belongs, to be chosen where there are several stations. */
-function showChoice(input, parent) {
+function showChoice(/** @type {Input} */ input, /** @type {Element} */ parent) {
   const stations = cards.flatMap(card => card.station ?? []);
   if (stations.length < 2 || !['sheet', 'table'].includes(input.kind)) return;
   const choice = /** @type {HTMLSelectElement} */ (element('select', '', parent));
@@ -79,11 +87,13 @@ function showChoice(input, parent) {
 }
 
 function showInputs() {
-  const isUsed = input => ['field', 'sheet', 'table'].includes(input.kind);
+  const isUsed = (/** @type {Input} */ input) => ['field', 'sheet', 'table'].includes(input.kind);
+  // (what is not used comes first, so that it is seen)
+  const shown = [...inputs.filter(input => !isUsed(input)), ...inputs.filter(isUsed)];
   document.body.classList.toggle('has-files', inputs.length > 0);
   $('choose-text').textContent = text(inputs.length > 0 ? 'addMore' : 'choose');
   $('inputs').textContent = '';
-  for (const input of inputs) {
+  for (const input of shown) {
     const item = element('li', '', $('inputs'), { className: isUsed(input) ? '' : 'unused' });
     element('span', input.name, item, { className: 'name' });
     element('span', kindText(input), item, { className: 'kind' });
@@ -100,9 +110,11 @@ function showInputs() {
 /** Shows all that is known, in the language that is spoken. */
 function show() {
   document.documentElement.lang = spoken();
-  for (const part of /** @type {NodeListOf<HTMLElement>} */ (document.querySelectorAll('[data-text]')))
+  /** @type {(selector: string) => NodeListOf<HTMLElement>} */
+  const all = selector => document.querySelectorAll(selector);
+  for (const part of all('[data-text]'))
     part.textContent = text(part.dataset.text, { ...$('made').dataset });
-  for (const part of /** @type {NodeListOf<HTMLElement>} */ (document.querySelectorAll('[data-label]')))
+  for (const part of all('[data-label]'))
     part.setAttribute('aria-label', text(part.dataset.label));
   $('in-force').textContent = limitsLine(limits);
   showInputs();
@@ -199,7 +211,10 @@ const desk = {
   },
 };
 
-/** The one card that is printed; else all whose results were opened. @type {Card | null} */
+/**
+ * The one card that is printed; else all whose results were opened.
+ * @type {Card | null}
+ */
 let only = null;
 
 onbeforeprint = () => {

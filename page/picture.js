@@ -18,8 +18,11 @@ import { text } from './texts.js';
  * same set, or target, stands at one height in all strips.
  * @typedef {{ title: string, heading: string, strips: Strip[],
  *   levelOf: (row: Residual) => number }} Panel
- * An axis: its step and its end, in 0.001 mgon, and where so many of these stand.
- * @typedef {{ step: number, end: number, x: (units: number) => number }} Axis
+ * What all panels of a picture share, so that one below another can be compared: their width; the
+ * greatest size of a residual, and the step and the end of the axis, in 0.001 mgon; and where so
+ * many of these stand.
+ * @typedef {{ width: number, greatest: number, step: number, end: number,
+ *   x: (units: number) => number }} Axis
  */
 
 // Lengths in pixels.
@@ -101,8 +104,11 @@ function grouped(/** @type {Strip[]} */ strips) {
  */
 function panelsOf(/** @type {Residuals} */ { rows, sets, targets }) {
   const names = { target: targets, set: sets };
+  /** @type {(key: 'target' | 'set', other: 'target' | 'set', title: string) => Panel[]} */
   const panelsBy = (key, other, title) => {
-    const levelOf = row => (2 * names[other].indexOf(row[other]) + 1) / names[other].length - 1;
+    const levels = names[other];
+    const levelOf = (/** @type {Residual} */ row) =>
+      (2 * levels.indexOf(row[other]) + 1) / levels.length - 1;
     const all = names[key].map(name => ({ name, rows: rows.filter(row => row[key] === name) }));
     return grouped(all).map((strips, _, groups) => {
       const part = groups.length > 1 ? `, ${strips[0].name} – ${strips.at(-1).name}` : '';
@@ -148,24 +154,32 @@ function stepTo(/** @type {number} */ end, /** @type {number} */ most) {
 }
 
 /**
- * The axis of a panel of this width, between the names and the numbers of its strips.
- * @param {Panel} panel
+ * The axis of panels of this width, between the names and the numbers of their strips.
+ * @param {Panel[]} panels
  * @param {number} greatest
  * @param {number} width
  * @returns {Axis}
  */
-function axisOf({ heading, strips }, greatest, width) {
-  const longest = Math.max(heading.length, ...strips.map(({ name }) => name.length));
+function axisOf(panels, greatest, width) {
+  const names = panels.flatMap(({ heading, strips }) =>
+    [heading, ...strips.map(({ name }) => name)]);
+  const longest = Math.max(...names.map(name => name.length));
   const left = GAP + longest * ADVANCE + EDGE, right = width - GAP - NUMBER - EDGE;
   const middle = (left + right) / 2, reach = (right - left) / 2;
   const end = endOf(greatest), step = stepTo(end, Math.floor(reach / STEP));
-  return { step, end, x: units => middle + units / end * reach };
+  return { width, greatest, step, end, x: units => middle + units / end * reach };
 }
 
 // ---------------------------------------------------------------- drawing
 
-/** What stands above the strips, and the lines of the axis through them. */
-function drawAxis(/** @type {Axis} */ { step, end, x }, heading, width, bottom, parent) {
+/**
+ * What stands above the strips, and the lines of the axis through them.
+ * @param {Axis} axis
+ * @param {string} heading
+ * @param {number} bottom
+ * @param {Element} parent
+ */
+function drawAxis({ width, step, end, x }, heading, bottom, parent) {
   const letters = { y: ABOVE - 2 * GAP, fill: QUIET }, bold = { ...letters, 'font-weight': 600 };
   shape('text', { x: GAP, ...bold }, parent, heading);
   shape('text', { x: width - GAP, 'text-anchor': 'end', ...bold }, parent, text('greatest'));
@@ -177,14 +191,19 @@ function drawAxis(/** @type {Axis} */ { step, end, x }, heading, width, bottom, 
   }
 }
 
-/** Dots at these places: lines that are too short to be seen, with round ends. */
-function drawDots(/** @type {number[][]} */ places, /** @type {number} */ size, parent) {
+/**
+ * Dots at these places: lines that are too short to be seen, with round ends.
+ * @param {number[][]} places
+ * @param {number} size
+ * @param {Element} parent
+ */
+function drawDots(places, size, parent) {
   const d = places.map(([x, y]) => `M${written(x)} ${written(y)}h.01`).join('');
   const round = { 'stroke-width': size, 'stroke-linecap': 'round' };
   shape('path', { d, fill: 'none', stroke: DOT, ...round }, parent);
 }
 
-function drawDiamond(/** @type {number[]} */ [x, y], parent) {
+function drawDiamond(/** @type {number[]} */ [x, y], /** @type {Element} */ parent) {
   const corners = [[x - DIAMOND, y], [x, y - DIAMOND], [x + DIAMOND, y], [x, y + DIAMOND]];
   shape('polygon', { points: corners.flat().map(written).join(' '), fill: GREATEST }, parent);
 }
@@ -192,21 +211,22 @@ function drawDiamond(/** @type {number[]} */ [x, y], parent) {
 /**
  * Draws a panel.
  * @param {Panel} panel
- * @param {number} greatest the greatest size of all residuals, in 0.001 mgon
- * @param {number} width
+ * @param {Axis} axis
  * @param {Element} parent
  * @returns {number} how high it is
  */
-function drawPanel(panel, greatest, width, parent) {
-  const { heading, strips, levelOf } = panel, axis = axisOf(panel, greatest, width);
-  const isGreatest = row => greatest > 0 && Math.abs(unitsOf(row)) === greatest;
-  const topOf = nth => ABOVE + nth * STRIP, bottom = topOf(strips.length);
+function drawPanel({ heading, strips, levelOf }, axis, parent) {
+  const { width, greatest } = axis;
+  const isGreatest = (/** @type {Residual} */ row) =>
+    greatest > 0 && Math.abs(unitsOf(row)) === greatest;
+  const topOf = (/** @type {number} */ nth) => ABOVE + nth * STRIP, bottom = topOf(strips.length);
   for (let nth = 0; nth < strips.length; nth += 2)
     shape('rect', { x: 0, y: topOf(nth), width, height: STRIP, fill: STRIPE }, parent);
-  drawAxis(axis, heading, width, bottom, parent);
+  drawAxis(axis, heading, bottom, parent);
   strips.forEach(({ name, rows }, nth) => {
     const middle = topOf(nth) + STRIP / 2, most = greatestOf({ rows });
-    const placeOf = row => [axis.x(unitsOf(row)), middle + levelOf(row) * SPREAD];
+    const placeOf = (/** @type {Residual} */ row) =>
+      [axis.x(unitsOf(row)), middle + levelOf(row) * SPREAD];
     const others = rows.filter(row => !isGreatest(row)), isSparse = rows.length <= SPARSE;
     const look = isGreatest(most) ? { fill: GREATEST, 'font-weight': 700 } : { fill: INK };
     const letters = { y: middle + BELOW, ...look }, number = signed(most.residual);
@@ -220,6 +240,9 @@ function drawPanel(panel, greatest, width, parent) {
 
 /**
  * A picture of this width and height, with a title and a description for those who can't see it.
+ * @param {string} title
+ * @param {string} description
+ * @param {number} width
  * @param {(svg: Element) => number} draw what draws in it, and answers how high that is
  */
 function pictureOf(title, description, width, draw) {
@@ -251,8 +274,9 @@ export function showPicture(/** @type {Residuals} */ residuals, /** @type {Eleme
     const width = widthOf(around);
     if (width === drawn) return;
     drawn = width;
+    const axis = axisOf(panels, greatest, width);
     around.replaceChildren(...panels.map(panel =>
-      pictureOf(panel.title, said, width, svg => drawPanel(panel, greatest, width, svg))));
+      pictureOf(panel.title, said, width, svg => drawPanel(panel, axis, svg))));
   };
   draw();
   new ResizeObserver(draw).observe(around);
@@ -274,24 +298,24 @@ function inLight(/** @type {Element} */ svg) {
 }
 
 /**
- * The picture as a file: the station and the field file with its digest, and all panels below each
- * other.
- * @param {import('./files.js').Station} station
+ * The picture as a file: what it is of, a line for each, and all panels below each other.
+ * @param {string} title
+ * @param {string[]} origin
  * @param {Residuals} residuals
  */
-export function pictureFile({ field, listed }, residuals) {
-  const texts = pictureTexts(residuals), greatest = greatestUnits(residuals);
-  const title = `${text('station', { name: listed.name })}: ${text('residuals')}`;
+export function pictureFile(title, origin, residuals) {
+  const texts = pictureTexts(residuals), panels = panelsOf(residuals);
+  const axis = axisOf(panels, greatestUnits(residuals), FILED - 2 * MARGIN);
   const svg = pictureOf(title, texts.join(' '), FILED, whole => {
     let y = MARGIN + LETTER;
     const large = { y, fill: INK, 'font-size': TITLE, 'font-weight': 700 };
     shape('rect', { width: '100%', height: '100%', fill: PAPER }, whole);
     shape('text', { x: MARGIN, ...large }, whole, title);
-    for (const line of [...texts, field.name, text('digest', { digest: field.digest })])
+    for (const line of [...texts, ...origin])
       shape('text', { x: MARGIN, y: y += LINE_HEIGHT, fill: QUIET }, whole, line);
-    for (const panel of panelsOf(residuals)) {
+    for (const panel of panels) {
       const part = shape('g', { transform: `translate(${MARGIN} ${y += MARGIN})` }, whole);
-      y += drawPanel(panel, greatest, FILED - 2 * MARGIN, part);
+      y += drawPanel(panel, axis, part);
     }
     return y + MARGIN;
   });

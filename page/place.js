@@ -1,12 +1,13 @@
-// Where a refusal says that the fault stands: a line of the field file, a row of a sheet or a table, or
-// a target or an observation of the station.
+// Where a refusal says that the fault stands: a line of the field file, a row of a sheet or a
+// table, or a target or an observation of the station.
 import { textOf } from './files.js';
 import { each, pairsOf, recordsOf } from './records.js';
 import { text } from './texts.js';
 
 /**
- * A place: its name in words, and the lines around it with their numbers. In the line that is meant the
- * part from `first` to `end` is marked, or all of it.
+ * @typedef {import('./files.js').Input} Input
+ * A place: its name in words, and the lines around it with their numbers. In the line that is meant
+ * the part from `first` to `end` is marked, or all of it.
  * @typedef {{ number: string, text: string, isMeant: boolean }} Line
  * @typedef {{ where: string, lines: Line[], first: number, end: number }} Place
  */
@@ -16,9 +17,11 @@ const AROUND = 2;
 
 const LF = 10, CR = 13, BLANK = 32;
 
-// A line's bytes as letters, those outside 20 to 7E (hex) as signs that are seen.
-const signOf = byte => byte < 0x20 ? 0x2400 + byte : byte < 0x7f ? byte : 0xfffd;
-const seen = bytes => Array.from(bytes, byte => String.fromCharCode(signOf(byte))).join('');
+const signOf = (/** @type {number} */ byte) =>
+  byte < 0x20 ? 0x2400 + byte : byte < 0x7f ? byte : 0xfffd;
+/** A line's bytes as letters, those outside 20 to 7E (hex) as signs that are seen. */
+const seen = (/** @type {Uint8Array} */ bytes) =>
+  Array.from(bytes, byte => String.fromCharCode(signOf(byte))).join('');
 
 /**
  * The lines of a field file as an editor counts them, up to some after that of a block: that line's
@@ -40,7 +43,14 @@ function linesTo(/** @type {Uint8Array} */ bytes, /** @type {number} */ block) {
   return { lines, meant: meant < 0 ? lines.length : meant };
 }
 
-/** The lines around one, each as it is shown. */
+/**
+ * The lines around one, each as it is shown.
+ * @template T
+ * @param {T[]} lines
+ * @param {number} meant
+ * @param {(line: T) => string} shown
+ * @returns {Line[]}
+ */
 function around(lines, meant, shown) {
   const first = Math.max(0, meant - AROUND);
   return lines.slice(first, meant + AROUND + 1).map((line, nth) =>
@@ -57,21 +67,32 @@ function meantIn(/** @type {string} */ line, /** @type {string} */ fault) {
   return found ? [found.index, found.index + found[0].length] : [0, line.length];
 }
 
-/** The faults that speak of one word, by the index of that word. */
+/**
+ * The faults that speak of one word, by the index of that word.
+ * @type {Record<string, RegExp>}
+ */
 const FAULTS_OF_WORDS = {
-  11: /^TooManyTargets/,
+  11: /^(TooManyTargets|ReadTwice|FaceMissing|Order|EndsElsewhere|OtherTargets)/,
   21: /^(Hz|FaceTwice|TwoC)/,
-  22: /^(Zenith|TwoI|FaceUnclear)/,
+  22: /^(Zenith|TwoI|FaceUnclear|FirstFace)/,
   42: /^(StationName|SetNumber|StationTwice|SetTwice)/,
 };
 
 /** The index of the word that a fault speaks of, or no index at all. */
 function wordOf(/** @type {string} */ fault) {
   const [, number] = fault.match(/^WordTwice (\d+)/) ?? [];
-  return number ?? Object.keys(FAULTS_OF_WORDS).find(index => FAULTS_OF_WORDS[index].test(fault)) ?? 'none';
+  const name = fault.replace(/^mark: /, '');
+  const indices = Object.keys(FAULTS_OF_WORDS);
+  return number ?? indices.find(index => FAULTS_OF_WORDS[index].test(name)) ?? 'none';
 }
 
-/** A block of a field file. */
+/**
+ * A block of a field file.
+ * @param {Input} file
+ * @param {number} block
+ * @param {string} fault
+ * @returns {Place}
+ */
 function blockIn(file, block, fault) {
   const { lines, meant } = linesTo(file.bytes, block);
   const shown = around(lines, meant, seen), line = shown.find(one => one.isMeant);
@@ -81,38 +102,53 @@ function blockIn(file, block, fault) {
   return { where, lines: shown, first, end };
 }
 
-/** A row of a sheet or a table: the nth of all, or of those of a kind. */
+/**
+ * A row of a sheet or a table: the nth of all, or of those of a kind.
+ * @param {Input} file
+ * @param {number} nth
+ * @returns {Place | null}
+ */
 function rowIn(file, nth, kind = '') {
   const all = textOf(file.bytes), rows = recordsOf(all);
   const row = rows.filter(({ fields }) => !kind || fields[0] === kind)[nth - 1];
   if (!row) return null;
-  const meant = rows.indexOf(row), line = row.end - row.first;
-  const where = text(kind ? 'rowOfKind' : 'rowOfFile', { row: meant + 1, name: file.name, kind, nth });
-  return { where, lines: around(rows, meant, one => all.slice(one.first, one.end)), first: 0, end: line };
+  const meant = rows.indexOf(row), end = row.end - row.first;
+  const about = { row: meant + 1, name: file.name, kind, nth };
+  const where = text(kind ? 'rowOfKind' : 'rowOfFile', about);
+  const lines = around(rows, meant, one => all.slice(one.first, one.end));
+  return { where, lines, first: 0, end };
 }
 
-/** A line of its own, which stands in no file. */
+/**
+ * A line of its own, which stands in no file.
+ * @param {string} where
+ * @param {string} line
+ * @returns {Place}
+ */
 const alone = (where, line) =>
   ({ where, lines: [{ number: '', text: line, isMeant: true }], first: 0, end: line.length });
 
+/** @type {Record<string, string>} */
 const KIND_OF_FAULT = { Target: 'target', Set: 'set', Obs: 'obs' };
 
 /**
  * What a refusal speaks of; none where it names no place, or there is nothing.
  * @param {string} refusal
- * @param {import('./files.js').Input} field
- * @param {import('./files.js').Input} [other] the sheet or the table
+ * @param {Input} field
+ * @param {Input} [other] the sheet or the table
  * @param {import('./files.js').Station} [station]
  * @returns {Place | null}
  */
 export function placeOf(refusal, field, other, station) {
-  const found = pattern => refusal.match(pattern)?.slice(1);
+  const found = (/** @type {RegExp} */ pattern) => refusal.match(pattern)?.slice(1);
   let words;
-  if (words = found(/^refused: block (\d+): (.*)/)) return blockIn(field, Number(words[0]), words[1]);
+  if (words = found(/^refused: block (\d+): (.*)/))
+    return blockIn(field, Number(words[0]), words[1]);
   if (words = found(/^refused: (?:sheet|table) row (\d+): /)) return rowIn(other, Number(words[0]));
   if (words = found(/^refused: kernel: (Target|Set|Obs)(?:Row|Sum) (\d+)/))
     return rowIn(other, Number(words[1]), KIND_OF_FAULT[words[0]]);
-  if (words = found(/^refused: kernel: Residual (\d+)/)) return rowIn(other, Number(words[0]), 'obs');
+  if (words = found(/^refused: kernel: Residual (\d+)/))
+    return rowIn(other, Number(words[0]), 'obs');
   if (found(/^refused: kernel: Datum/)) return rowIn(other, 1, 'target');
   if (found(/^refused: no station/) && !station && other) return rowIn(other, 1);
   if (!station) return null;

@@ -7,35 +7,55 @@ import { limitsLine } from './limits.js';
 import { showResults } from './results.js';
 import { spoken, text } from './texts.js';
 
+/**
+ * How each language writes a date; English as it does where angles are in gon.
+ * @type {Record<string, string>}
+ */
+const DATES = { en: 'en-GB', de: 'de', fr: 'fr' };
+
+/** @typedef {import('./answers.js').Card} Card */
+
 /** What the page is made of, as its foot says it. */
 const made = () => document.getElementById('made').dataset;
 
-function row(label, parent) {
+/** A row of the facts: the text of this name, and room for what it says. */
+function row(/** @type {string} */ label, /** @type {Element} */ parent) {
   element('dt', text(label), parent);
   return element('dd', '', parent);
 }
 
 /** The files of a card, each with its digest. */
-function showFiles(/** @type {import('./answers.js').Card} */ card, parent) {
+function showFiles(/** @type {Card} */ card, /** @type {Element} */ parent) {
   for (const file of filesOf(card)) {
     const line = element('div', file.name, parent);
     if (file.digest) ofProgram('code', ` ${text('digest', { digest: file.digest })}`, line);
   }
 }
 
-function showAnswers(/** @type {import('./answers.js').Card} */ card, limits, parent) {
-  if (card.answers.length === 0) element('div', `${headlineOfCard(card)} ${text('notCompared')}`, parent);
+/**
+ * What was answered of a card, each with the program's line and the command.
+ * @param {Card} card
+ * @param {import('./limits.js').Limits} limits
+ * @param {Element} parent
+ */
+function showAnswers(card, limits, parent) {
+  if (card.answers.length === 0)
+    element('div', `${headlineOfCard(card)} ${text('notCompared')}`, parent);
   for (const answer of card.answers) {
     const mood = answer.status === ACCEPTED ? 'good' : 'bad';
-    const said = `${answer.other.name}: ${saidOf(answer, limits)}`;
+    const said = text('labelled', { label: answer.other.name, said: saidOf(answer, limits) });
     element('div', said, parent, { className: `said ${mood}` });
     ofProgram('samp', answer.line, element('div', '', parent));
     ofProgram('code', answer.command, element('div', '', parent));
   }
 }
 
-/** What was recognized where codes were put into a copy, and the command that makes it. */
-function showMarks(/** @type {import('./answers.js').Card} */ { marked, recognized, title }, parent) {
+/**
+ * What was recognized where codes were put into a copy, and the command that makes it.
+ * @param {Card} card
+ * @param {Element} parent
+ */
+function showMarks({ marked, recognized, title }, parent) {
   for (const one of recognized.filter(({ station }) => station === title))
     element('div', recognizedText(one), parent);
   ofProgram('code', marked.command, element('div', '', parent));
@@ -43,17 +63,18 @@ function showMarks(/** @type {import('./answers.js').Card} */ { marked, recogniz
 
 /**
  * The protocol of a card whose results are loaded.
- * @param {import('./answers.js').Card} card
- * @param {Record<string, number | null>} limits
+ * @param {Card} card
+ * @param {import('./limits.js').Limits} limits
  * @param {Element} parent
  */
 export function showProtocol(card, limits, parent) {
   const part = element('article', '', parent, { className: 'protocol' }), { listed } = card.station;
-  element('h1', `${text('protocol')}: ${text('station', { name: listed.name })}`, part);
+  element('h1', text('protocol', { name: listed.name }), part);
   const facts = element('dl', '', part, { className: 'facts' });
   showFiles(card, row('files', facts));
-  const now = { dateStyle: /** @type {const} */ ('long'), timeStyle: /** @type {const} */ ('short') };
-  row('date', facts).textContent = new Date().toLocaleString(spoken(), now);
+  /** @type {Intl.DateTimeFormatOptions} */
+  const now = { dateStyle: 'long', timeStyle: 'short' };
+  row('date', facts).textContent = new Date().toLocaleString(DATES[spoken()], now);
   row('observed', facts).textContent = text('counts', countsOf(listed));
   if (card.marked) showMarks(card, row('marks', facts));
   row('limits', facts).textContent = limitsLine(limits);
@@ -64,7 +85,11 @@ export function showProtocol(card, limits, parent) {
   element('p', text('madeBy', { ...made() }), part, { className: 'quiet foot' });
 }
 
-/** The protocol as a file of its own, with the style of the page. */
+/**
+ * The protocol as a file of its own, with the style of the page.
+ * @param {Card} card
+ * @param {import('./limits.js').Limits} limits
+ */
 export function protocolFile(card, limits) {
   const whole = document.implementation.createHTMLDocument(`${stemOf(card.field)} ${card.title}`);
   whole.documentElement.lang = spoken();

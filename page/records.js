@@ -1,5 +1,6 @@
-// What stands in the texts of the program: records of comma-separated text, the stations of a list, the
-// residuals and the report of a station, the differences of a table. Nothing here decides anything.
+// What stands in the texts of the program: records of comma-separated text, the stations of a list,
+// the residuals and the report of a station, the differences of a table. Nothing here decides
+// anything.
 
 /** @typedef {{ first: number, end: number, fields: string[] }} TextRecord */
 
@@ -12,11 +13,11 @@ export function recordsOf(text) {
   /** @type {TextRecord[]} */
   const records = [];
   let fields = [''], first = 0, isQuoted = false, wasQuoted = false;
-  const end = at => {
+  const end = (/** @type {number} */ at) => {
     if (at > first) records.push({ first, end: at, fields });
     [fields, first, isQuoted, wasQuoted] = [[''], at + 1, false, false];
   };
-  const add = letter => { fields[fields.length - 1] += letter; };
+  const add = (/** @type {string} */ letter) => { fields[fields.length - 1] += letter; };
   for (let at = 0; at < text.length; at++) {
     const letter = text[at];
     if (isQuoted) {
@@ -46,13 +47,14 @@ export function recordsOf(text) {
 export const each = values => [...new Set(values)];
 
 const STATION_WITH_SETS =
-  /^note: station (.*): (\d+) sets?, (\d+) targets?; (\d+) readings? before them and (\d+) after stay outside$/;
+  /^note: station (.*): (\d+) sets?, (\d+) targets?; (\d+) readings? before them and (\d+) after /;
 const STATION_WITHOUT_SETS = /^note: station (.*): no sets; (\d+) readings? stays? outside$/;
 
 /**
- * What was told of a station where codes were put in: its sets, and how many readings stay outside before
- * and after them; of one without sets no more than these, as if all came after.
- * @typedef {{ station: string, sets: number, targets: number, before: number, after: number }} Recognized
+ * What was told of a station where codes were put in: its sets, and how many readings stay outside
+ * before and after them; of one without sets no more than these, as if all came after.
+ * @typedef {{ station: string, sets: number, targets: number, before: number,
+ *   after: number }} Recognized
  */
 
 /**
@@ -61,7 +63,8 @@ const STATION_WITHOUT_SETS = /^note: station (.*): no sets; (\d+) readings? stay
  */
 export const recognizedIn = (/** @type {string} */ notes) => notes.split('\n').flatMap(note => {
   const [, one, after] = note.match(STATION_WITHOUT_SETS) ?? [];
-  if (one !== undefined) return { station: one, sets: 0, targets: 0, before: 0, after: Number(after) };
+  if (one !== undefined)
+    return { station: one, sets: 0, targets: 0, before: 0, after: Number(after) };
   const [, station, ...numbers] = note.match(STATION_WITH_SETS) ?? [];
   if (station === undefined) return [];
   const [sets, targets, before, outside] = numbers.map(Number);
@@ -73,7 +76,8 @@ export const recognizedIn = (/** @type {string} */ notes) => notes.split('\n').f
 /**
  * A two-face direction of a list: the differences in 0.01 mgon.
  * @typedef {{ set: string, target: string, twoC: number, twoI: number }} Pair
- * @typedef {{ name: string, sets: number, targets: number, directions: number, list: string }} Listed
+ * @typedef {{ name: string, sets: number, targets: number, directions: number,
+ *   list: string }} Listed
  */
 
 /**
@@ -123,7 +127,8 @@ export const readingsIn = (/** @type {string} */ words) =>
  */
 export function residualsIn(/** @type {string} */ text) {
   const [, ...records] = recordsOf(text);
-  const rows = records.map(({ fields: [set, target, , , residual] }) => ({ set, target, residual }));
+  const rows = records.map(({ fields: [set, target, , , residual] }) =>
+    ({ set, target, residual }));
   return { rows, sets: each(rows.map(row => row.set)), targets: each(rows.map(row => row.target)) };
 }
 
@@ -134,20 +139,22 @@ export const sizeOf = (/** @type {string} */ number) => Math.abs(Number(number))
 export const greatestOf = (/** @type {{ rows: Residual[] }} */ { rows }) =>
   rows.reduce((a, b) => sizeOf(b.residual) > sizeOf(a.residual) ? b : a);
 
+const ACCURACY = /\nDegrees of freedom +(\d+)\nStandard deviation +(\S+)[^\n]*$/;
+
 /**
- * What a report says at its end: the degrees of freedom, and the standard deviation of one two-face direction
- * in mgon, or 'none'.
+ * What a report says at its end: the degrees of freedom, and the standard deviation of one two-face
+ * direction in mgon, or 'none'.
  */
 export function accuracyIn(/** @type {string} */ report) {
-  const [, degrees, deviation] = report.match(/\nDegrees of freedom +(\d+)\nStandard deviation +(\S+)[^\n]*$/) ?? [];
+  const [, degrees, deviation] = report.match(ACCURACY) ?? [];
   return { degrees: Number(degrees), deviation };
 }
 
 // ---------------------------------------------------------------- differences
 
 /**
- * By target what a table states and the least-squares direction, in gon, and their difference after the best
- * rotation, in mgon, as the call wrote them.
+ * By target what a table states and the least-squares direction, in gon, and their difference after
+ * the best rotation, in mgon, as the call wrote them.
  * @typedef {{ target: string, stated: string, least: string, difference: string }} Difference
  */
 
@@ -157,5 +164,6 @@ export function accuracyIn(/** @type {string} */ report) {
  */
 export function differencesIn(/** @type {string} */ text) {
   const [, ...records] = recordsOf(text);
-  return records.map(({ fields: [target, stated, least, difference] }) => ({ target, stated, least, difference }));
+  return records.map(({ fields: [target, stated, least, difference] }) =>
+    ({ target, stated, least, difference }));
 }

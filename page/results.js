@@ -4,13 +4,21 @@ import { element, ofProgram } from './elements.js';
 import { meaningOf } from './headlines.js';
 import { showPicture } from './picture.js';
 import { accuracyIn, differencesIn, residualsIn } from './records.js';
-import { accuracyNote, differencesTable, directionsTable, facesTables, residualsTable } from './tables.js';
+import {
+  accuracyNote, differencesTable, directionsTable, facesTables, residualsTable,
+} from './tables.js';
 import { text } from './texts.js';
 
-/** @typedef {import('./answers.js').Card} Card */
+/**
+ * @typedef {import('./answers.js').Answer} Answer
+ * @typedef {import('./answers.js').Card} Card
+ */
+
+/** A table of so many sets fits beside the directions; where there are more the picture does. */
+const FEW_SETS = 5;
 
 /** Why there are no adjusted directions, and so no residuals. */
-function showRefused(/** @type {import('./answers.js').Answer} */ answer, parent) {
+function showRefused(/** @type {Answer} */ answer, /** @type {Element} */ parent) {
   ofProgram('samp', answer.line, element('p', '', parent));
   ofProgram('p', meaningOf(answer), parent);
 }
@@ -28,7 +36,7 @@ function showRefused(/** @type {import('./answers.js').Answer} */ answer, parent
 function sectionsOf({ station, results, answers }) {
   const { directions, residuals, report } = results;
   /** @type {Section[]} */
-  const sections = answers.filter(({ differences }) => differences).map(({ differences, other }) => ({
+  const sections = answers.filter(one => one.differences).map(({ differences, other }) => ({
     title: text('differences', { name: other.name }),
     fill(part) {
       differencesTable(differencesIn(differences), part);
@@ -44,33 +52,43 @@ function sectionsOf({ station, results, answers }) {
   });
   if (residuals.status === ACCEPTED) {
     const read = residualsIn(residuals.line);
-    sections.push({
+    /** @type {Section} */
+    const table = {
       title: text('residuals'),
       fill(part) {
         residualsTable(read, part);
         if (report.status === ACCEPTED) accuracyNote(accuracyIn(report.line), part);
       },
-    });
-    sections.push({ title: text('picture'), className: 'across', fill: part => showPicture(read, part) });
+    };
+    /** @type {Section} */
+    const picture = {
+      title: text('picture'), className: 'across', fill: part => showPicture(read, part),
+    };
+    sections.push(...read.sets.length > FEW_SETS ? [picture, table] : [table, picture]);
   }
   sections.push({ title: text('faces'), fill: part => facesTables(station, part) });
   return sections;
 }
 
-function showSection(/** @type {Section} */ { title, fill, className = '' }, parent) {
+/**
+ * Shows a section of the results.
+ * @param {Section} section
+ * @param {Element} parent
+ */
+function showSection({ title, fill, className = '' }, parent) {
   const part = element('section', '', parent, { className });
   element('h3', title, part);
   fill(part);
 }
 
 /** Shows the results of a station. */
-export function showResults(/** @type {Card} */ card, parent) {
+export function showResults(/** @type {Card} */ card, /** @type {Element} */ parent) {
   const around = element('div', '', parent, { className: 'beside' });
   for (const section of sectionsOf(card)) showSection(section, around);
 }
 
 /** Shows them one after the other, so that no large station holds the window. */
-export async function showResultsInTurn(/** @type {Card} */ card, parent) {
+export async function showResultsInTurn(/** @type {Card} */ card, /** @type {Element} */ parent) {
   const around = element('div', '', parent, { className: 'beside' });
   for (const section of sectionsOf(card)) {
     showSection(section, around);

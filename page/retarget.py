@@ -8,6 +8,7 @@ function with a frame. It stops at what it doesn't know.
 
 import re
 import sys
+from typing import NoReturn
 
 LAYOUT = "e-m:e-p:64:64-p10:8:8-p20:8:8-i64:64-i128:128-n32:64-S128-ni:1:10:20"
 TRIPLE = "wasm64-unknown-unknown"
@@ -23,11 +24,12 @@ OF_WRAPPERS, OF_RUNTIME, OF_BODIES = 900, 998, 999
 
 EXPORT = re.compile(r"define (?!internal)(.*?)@(\w+)\((.*)\) #\d+ \{$")
 
-# What an export answers, in the one module and in the other, where a byte fills the whole word. (The
-# module doesn't tell whether a byte has a sign; no export answers one that has.)
+# What an export answers, in the one module and in the other, where a byte fills the whole word.
+# (The module doesn't tell whether a byte has a sign; no export answers one that has.)
 ANSWERS = {"zeroext i1": "zeroext i1", "i8": "zeroext i8", "i32": "i32", "i64": "i64"}
 
-# At a call after one that was cut off by a trap, memory may be half written: rattle lets none begin.
+# At a call after one that was cut off by a trap, memory may be half written: rattle lets none
+# begin.
 WRAPPER = """\
 define noundef {kind} @{name}({params}) #{group} {{
 start:
@@ -43,7 +45,8 @@ run:
 }}
 """
 
-# A parameter put into its slot, which stands right before: one of two words, as a slice is, or lanes.
+# A parameter put into its slot, which stands right before: one of two words, as a slice is, or
+# lanes.
 FILLED = re.compile(
     r"""  call void @llvm\.memset\.p0\.i64\(ptr (%r\d+), .*
 (?:(?:  %r\d+ = zext i\d+ %a\d+ to i64
@@ -78,17 +81,18 @@ attributes #{OF_RUNTIME} = {{ nounwind }}
 attributes #{OF_BODIES} = {{ noinline nounwind {NEW_MARKS} }}"""
 
 
-def stop(why):
+def stop(why: str) -> NoReturn:
+    """Ends with what isn't known."""
     sys.exit(f"retarget: {why}")
 
 
-def replaced(pattern, new, text):
+def replaced(pattern: str, new: str, text: str) -> str:
     """The text with the one place that fits the pattern replaced."""
     text, count = re.subn(pattern, new, text)
     return text if count == 1 else stop(f"{count} places fit {pattern}")
 
 
-def renamed(text):
+def renamed(text: str) -> str:
     """The module under the names of the new target."""
     text = replaced(r'target datalayout = ".*"', f'target datalayout = "{LAYOUT}"', text)
     text = replaced(r'target triple = ".*"', f'target triple = "{TRIPLE}"', text)
@@ -99,8 +103,8 @@ def renamed(text):
     return text if " phi " not in text else stop("a block begins with phi")
 
 
-def export_of(head, nth):
-    """The head of an export's body, its wrapper and the wrapper's marks; none where it is no export."""
+def export_of(head: str, nth: int) -> tuple[str, str, str] | None:
+    """The head of an export's body, its wrapper and the wrapper's marks; none of others."""
     found = EXPORT.match(head)
     if not found:
         return None
@@ -110,13 +114,13 @@ def export_of(head, nth):
         stop(f"{name} answers {kind}")
     kind = ANSWERS[kind]
     bare, args = kind.replace("zeroext", "").strip(), params.replace("noundef ", "")
-    words = {"kind": kind, "name": name, "params": params, "bare": bare, "args": args, "group": group}
+    words = {"kind": kind, "name": name, "params": params, "bare": bare, "args": args}
     body = f'define internal noundef {kind} @"rattle::export {name}"({params}) #{OF_BODIES} {{'
     marks = f'attributes #{group} = {{ nounwind {NEW_MARKS} "wasm-export-name"="{name}" }}'
-    return body, WRAPPER.format(**words), marks
+    return body, WRAPPER.format(**words, group=group), marks
 
 
-def guarded(function):
+def guarded(function: list[str]) -> list[str]:
     """A function's lines, with the check of the stack's end after the slots of its frame, if any.
 
     Where the last slot is a parameter's, it is filled before.
@@ -132,8 +136,10 @@ def guarded(function):
     return [*function[:after], CHECK, *function[after:-1], TRAP, function[-1]]
 
 
-def retargeted(text):
-    lines, out, wrappers, marks = renamed(text).splitlines(), [], [], []
+def retargeted(text: str) -> str:
+    """The module for wasm64."""
+    lines = renamed(text).splitlines()
+    out, wrappers, marks = list[str](), list[str](), list[str]()
     at, first = 0, None
     while at < len(lines):
         if not lines[at].startswith("define "):

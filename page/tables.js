@@ -1,4 +1,5 @@
-// The results of a station as tables: targets as rows, and sets as columns, in groups that fit on a page.
+// The results of a station as tables: targets as rows, and sets as columns, in groups that fit on a
+// page.
 import { element, tableOf } from './elements.js';
 import { FACE, decimal, signed } from './numbers.js';
 import { each, greatestOf, pairsOf, recordsOf, sizeOf } from './records.js';
@@ -7,6 +8,11 @@ import { text } from './texts.js';
 /** So many sets stand side by side. */
 const ABREAST = 8;
 
+/**
+ * @typedef {import('./elements.js').Cell} Cell
+ * @typedef {import('./files.js').Station} Station
+ */
+
 const NOT_OBSERVED = { text: '\u00d7', mark: 'missing' };
 
 /**
@@ -14,21 +20,29 @@ const NOT_OBSERVED = { text: '\u00d7', mark: 'missing' };
  * @param {string} caption
  * @param {string[]} targets
  * @param {string[]} sets
- * @param {(set: string, target: string) => import('./elements.js').Cell | undefined} cell
+ * @param {(set: string, target: string) => Cell | undefined} cell
  * @param {Element} parent
+ * @param {string} className
  */
 function bySets(caption, targets, sets, cell, parent, className) {
   for (let first = 0; first < sets.length; first += ABREAST) {
     const group = sets.slice(first, first + ABREAST), isAll = group.length === sets.length;
     const part = isAll ? '' : `, ${text('setsOf', { first: group[0], last: group.at(-1) })}`;
     const headings = [text('target'), ...group.map(set => text('setNumber', { set }))];
-    const rows = targets.map(target => [target, ...group.map(set => cell(set, target) ?? NOT_OBSERVED)]);
+    const rows = targets.map(target =>
+      [target, ...group.map(set => cell(set, target) ?? NOT_OBSERVED)]);
     const kind = isAll ? className : `${className} grouped`;
     tableOf(caption + part, headings, /** @type {any} */ (rows), parent, kind);
   }
 }
 
-/** The adjusted directions, from what `directions` wrote, and in how many sets each target was observed. */
+/**
+ * The adjusted directions, from what `directions` wrote, and in how many sets each target was
+ * observed.
+ * @param {string} table
+ * @param {Station} station
+ * @param {Element} parent
+ */
 export function directionsTable(table, station, parent) {
   const pairs = pairsOf(station.listed);
   const rows = recordsOf(table).map(({ fields: [target, direction] }) => {
@@ -41,8 +55,8 @@ export function directionsTable(table, station, parent) {
 }
 
 /**
- * A number that a call wrote as a cell: with its sign, the greatest in size marked, and a bar that is as
- * long as its part of that.
+ * A number that a call wrote as a cell: with its sign, the greatest in size marked, and a bar that
+ * is as long as its part of that.
  */
 function cellWithBar(/** @type {string} */ number, /** @type {number} */ greatest) {
   const isGreatest = greatest > 0 && sizeOf(number) === greatest;
@@ -53,10 +67,12 @@ function cellWithBar(/** @type {string} */ number, /** @type {number} */ greates
 }
 
 /**
- * The differences of a table by target, each as a number and as a bar, the greatest marked: beside the target,
- * so that a phone shows them.
+ * The differences of a table by target, each as a number and as a bar, the greatest marked: beside
+ * the target, so that a phone shows them.
+ * @param {import('./records.js').Difference[]} differences
+ * @param {Element} parent
  */
-export function differencesTable(/** @type {import('./records.js').Difference[]} */ differences, parent) {
+export function differencesTable(differences, parent) {
   const greatest = Math.max(...differences.map(one => sizeOf(one.difference)));
   const rows = differences.map(({ target, stated, least, difference }) =>
     [target, cellWithBar(difference, greatest), { text: stated }, { text: least }]);
@@ -64,10 +80,15 @@ export function differencesTable(/** @type {import('./records.js').Difference[]}
   tableOf(text('differencesCaption'), headings, /** @type {any} */ (rows), parent, 'numbers bars');
 }
 
-/** The residuals, each as a number and as a bar: the longest bar is the greatest residual. */
-export function residualsTable(/** @type {import('./records.js').Residuals} */ residuals, parent) {
+/**
+ * The residuals, each as a number and as a bar: the longest bar is the greatest residual.
+ * @param {import('./records.js').Residuals} residuals
+ * @param {Element} parent
+ */
+export function residualsTable(residuals, parent) {
   const { rows, sets, targets } = residuals, greatest = sizeOf(greatestOf(residuals).residual);
   const byPlace = new Map(rows.map(row => [`${row.set} ${row.target}`, row.residual]));
+  /** @type {(set: string, target: string) => Cell | undefined} */
   const cell = (set, target) => {
     const residual = byPlace.get(`${set} ${target}`);
     return residual === undefined ? undefined : cellWithBar(residual, greatest);
@@ -75,20 +96,32 @@ export function residualsTable(/** @type {import('./records.js').Residuals} */ r
   bySets(text('residualsCaption'), targets, sets, cell, parent, 'numbers bars pictured');
 }
 
-/** The standard deviation, as the report has it. */
+/**
+ * The standard deviation, as the report has it.
+ * @param {{ degrees: number, deviation: string }} accuracy
+ * @param {Element} parent
+ */
 export function accuracyNote({ degrees: n, deviation: size }, parent) {
-  element('p', text(n > 0 ? 'deviation' : 'noFreedom', { n, size }), parent, { className: 'quiet' });
+  const said = text(n > 0 ? 'deviation' : 'noFreedom', { n, size });
+  element('p', said, parent, { className: 'quiet' });
 }
 
+/**
+ * The kinds of face differences, and what is said of each.
+ * @type {['twoC' | 'twoI', string][]}
+ */
+const FACES = [['twoC', 'twoCCaption'], ['twoI', 'twoICaption']];
+
 /** The face differences of a station, the greatest of each kind marked. */
-export function facesTables(station, parent) {
+export function facesTables(/** @type {Station} */ station, /** @type {Element} */ parent) {
   const around = element('div', '', parent, { className: 'beside' });
   const pairs = pairsOf(station.listed);
   const sets = each(pairs.map(pair => pair.set)), targets = each(pairs.map(pair => pair.target));
-  for (const [name, caption] of [['twoC', 'twoCCaption'], ['twoI', 'twoICaption']]) {
+  for (const [name, caption] of FACES) {
     const greatest = Math.max(...pairs.map(pair => Math.abs(pair[name])));
     const byPlace = new Map(pairs.map(pair => [`${pair.set} ${pair.target}`, pair[name]]));
-    const mgon = units => decimal(BigInt(units), BigInt(FACE), 2);
+    const mgon = (/** @type {number} */ units) => decimal(BigInt(units), BigInt(FACE), 2);
+    /** @type {(set: string, target: string) => Cell | undefined} */
     const cell = (set, target) => {
       const units = byPlace.get(`${set} ${target}`);
       if (units === undefined) return undefined;
@@ -103,10 +136,11 @@ export function facesTables(station, parent) {
 
 const fieldText = (/** @type {string} */ field) =>
   /[",\r\n]/.test(field) ? `"${field.replaceAll('"', '""')}"` : field;
-const csv = rows => rows.map(row => `${row.map(fieldText).join(',')}\n`).join('');
+const csv = (/** @type {string[][]} */ rows) =>
+  rows.map(row => `${row.map(fieldText).join(',')}\n`).join('');
 
 /** The face differences as a file: in mgon. */
-export const facesFile = station => csv([
+export const facesFile = (/** @type {Station} */ station) => csv([
   ['set', 'target', '2c mgon', '2i mgon'],
   ...pairsOf(station.listed).map(({ set, target, twoC, twoI }) =>
     [set, target, ...[twoC, twoI].map(units => decimal(BigInt(units), BigInt(FACE), 2))]),

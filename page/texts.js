@@ -4,7 +4,11 @@
 /** The languages, by their codes. */
 export const LANGUAGES = { en: 'English', de: 'Deutsch', fr: 'Français' };
 
-/** Each text by its name. `{word}` is filled in; before `|` stands the text for one, then that for more. */
+/**
+ * Each text by its name. `{word}` is filled in; before `|` stands the text for one, then that for
+ * more. The blanks of French signs are made narrow where it is spoken.
+ * @type {Record<string, Record<string, string>>}
+ */
 export const TEXTS = {
   tagline: {
     en: 'Are your adjusted directions right? Check them against the raw field file.',
@@ -29,7 +33,7 @@ export const TEXTS = {
   },
   dropKinds: {
     en: 'A field file (GSI) alone gives adjusted directions, residuals and the protocol. With the table of directions (CSV: target, gon) or the sheet of your program these are checked.',
-    de: 'Eine Felddatei (GSI) allein ergibt ausgeglichene Richtungen, Verbesserungen und das Protokoll. Mit der Richtungstabelle (CSV: Ziel, gon) oder dem Sheet (CSV mit Brüchen) Ihres Programms werden diese geprüft.',
+    de: 'Eine Felddatei (GSI) allein ergibt ausgeglichene Richtungen, Verbesserungen und das Protokoll. Mit der Richtungstabelle (CSV: Ziel, gon) oder dem Rechenblatt (CSV mit Brüchen) Ihres Programms werden diese geprüft.',
     fr: 'Un fichier de terrain (GSI) seul donne les directions compensées, les résidus et le protocole. Avec la table de directions (CSV : cible, gon) ou la feuille exacte (CSV) de votre programme, celles-ci sont vérifiées.',
   },
   choose: { en: 'Choose files', de: 'Dateien wählen', fr: 'Choisir des fichiers' },
@@ -38,7 +42,7 @@ export const TEXTS = {
   removeAll: { en: 'Remove all', de: 'Alle entfernen', fr: 'Tout retirer' },
   remove: { en: 'Remove {name}', de: '{name} entfernen', fr: 'Retirer {name}' },
   kindField: { en: 'field file', de: 'Felddatei', fr: 'fichier de terrain' },
-  kindSheet: { en: 'sheet of {station}', de: 'Sheet von {station}', fr: 'feuille de {station}' },
+  kindSheet: { en: 'sheet of {station}', de: 'Rechenblatt von {station}', fr: 'feuille de {station}' },
   kindTable: { en: 'table of directions', de: 'Richtungstabelle', fr: 'table de directions' },
   kindSpreadsheet: {
     en: 'not used: a spreadsheet; save its two columns as CSV',
@@ -57,21 +61,23 @@ export const TEXTS = {
   },
   kindOther: {
     en: 'not used: neither a field file, nor a sheet, nor a table of directions',
-    de: 'nicht verwendet: weder Felddatei noch Sheet noch Richtungstabelle',
+    de: 'nicht verwendet: weder Felddatei noch Rechenblatt noch Richtungstabelle',
     fr: 'non utilisé : ni fichier de terrain, ni feuille, ni table de directions',
   },
   belongsTo: { en: 'Station of {name}', de: 'Station von {name}', fr: 'Station de {name}' },
-  byName: { en: 'found by itself', de: 'selbst gefunden', fr: 'trouvée automatiquement' },
+  byName: { en: 'found automatically', de: 'automatisch gefunden', fr: 'trouvée automatiquement' },
+  labelled: { en: '{label}: {said}', de: '{label}: {said}', fr: '{label} : {said}' },
   limits: { en: 'Limits', de: 'Grenzen', fr: 'Limites' },
+  limitsInForce: { en: 'Limits:', de: 'Grenzen:', fr: 'Limites :' },
   inForce: {
-    en: '2c {twoC}, 2i {twoI}, residuals {residual}, tables within {within} mgon',
-    de: '2c {twoC}, 2i {twoI}, Verbesserungen {residual}, Tabellen auf {within} mgon',
-    fr: '2c {twoC}, 2i {twoI}, résidus {residual}, tables à {within} mgon près',
+    en: '2c {twoC}, 2i {twoI}, residuals {residual} mgon, tables within {within} mgon',
+    de: '2c {twoC}, 2i {twoI}, Verbesserungen {residual} mgon, Tabellen auf {within} mgon genau',
+    fr: '2c {twoC}, 2i {twoI}, résidus {residual} mgon, tables à {within} mgon près',
   },
   inForceByDecimals: {
-    en: '2c {twoC}, 2i {twoI}, residuals {residual}, tables within 0.01 mgon or as they are rounded',
-    de: '2c {twoC}, 2i {twoI}, Verbesserungen {residual}, Tabellen auf 0.01 mgon oder wie sie gerundet sind',
-    fr: '2c {twoC}, 2i {twoI}, résidus {residual}, tables à 0.01 mgon près ou selon leur arrondi',
+    en: '2c {twoC}, 2i {twoI}, residuals {residual} mgon, tables within 0.01 mgon or as they are rounded',
+    de: '2c {twoC}, 2i {twoI}, Verbesserungen {residual} mgon, Tabellen auf 0.01 mgon genau oder wie sie gerundet sind',
+    fr: '2c {twoC}, 2i {twoI}, résidus {residual} mgon, tables à 0.01 mgon près ou selon leur arrondi',
   },
   residualStated: {
     en: 'The page itself states 10 mgon for residuals where you state none.',
@@ -82,13 +88,13 @@ export const TEXTS = {
   limitTwoI: { en: '2i at most, in mgon', de: '2i höchstens, in mgon', fr: '2i au plus, en mgon' },
   limitResidual: {
     en: 'Residuals of a sheet at most, in mgon',
-    de: 'Verbesserungen eines Sheets höchstens, in mgon',
+    de: 'Verbesserungen eines Rechenblatts höchstens, in mgon',
     fr: 'Résidus d’une feuille au plus, en mgon',
   },
   limitWithin: {
-    en: 'A table agrees within, in mgon',
-    de: 'Eine Tabelle stimmt überein auf, in mgon',
-    fr: 'Une table concorde à moins de, en mgon',
+    en: 'A table may differ by, in mgon',
+    de: 'Eine Tabelle darf abweichen um, in mgon',
+    fr: 'Une table peut différer de, en mgon',
   },
   limitDecimals: {
     en: 'Decimals of the directions, in gon',
@@ -144,11 +150,12 @@ export const TEXTS = {
   summaryBad: { en: '{n} refused', de: '{n} zurückgewiesen', fr: 'refus : {n}' },
   summaryRead: { en: '{n} read, not compared', de: '{n} gelesen, nicht verglichen', fr: '{n} sans comparaison' },
   summaryOpen: { en: '{n} to do', de: '{n} zu tun', fr: '{n} à faire' },
+  between: { en: '; ', de: '; ', fr: ' ; ' },
   station: { en: 'Station {name}', de: 'Station {name}', fr: 'Station {name}' },
   moodGood: { en: 'In order', de: 'In Ordnung', fr: 'En ordre' },
   moodBad: { en: 'Refused', de: 'Zurückgewiesen', fr: 'Refusé' },
   moodOpen: { en: 'To do', de: 'Zu tun', fr: 'À faire' },
-  moodRead: { en: 'Not compared', de: 'Nicht verglichen', fr: 'Non comparée' },
+  moodRead: { en: 'Not compared', de: 'Nicht verglichen', fr: 'Sans comparaison' },
   accepted: {
     en: 'Accepted. Greatest residual {size} mgon, set {set}, {target}.',
     de: 'Angenommen. Größte Verbesserung {size} mgon, Satz {set}, {target}.',
@@ -162,7 +169,7 @@ export const TEXTS = {
   acceptedBare: { en: 'Accepted.', de: 'Angenommen.', fr: 'Accepté.' },
   agrees: {
     en: 'Agrees. {n} target within {within} mgon of the least-squares directions.|Agrees. {n} targets within {within} mgon of the least-squares directions.',
-    de: 'Stimmt überein. {n} Ziel auf {within} mgon bei den Richtungen der kleinsten Quadrate.|Stimmt überein. {n} Ziele auf {within} mgon bei den Richtungen der kleinsten Quadrate.',
+    de: 'Stimmt überein. {n} Ziel weicht höchstens {within} mgon von den Richtungen nach kleinsten Quadraten ab.|Stimmt überein. {n} Ziele weichen höchstens {within} mgon von den Richtungen nach kleinsten Quadraten ab.',
     fr: 'Concorde. {n} cible à {within} mgon près des directions des moindres carrés.|Concorde. {n} cibles à {within} mgon près des directions des moindres carrés.',
   },
   agreesBare: { en: 'Agrees.', de: 'Stimmt überein.', fr: 'Concorde.' },
@@ -173,9 +180,9 @@ export const TEXTS = {
     fr: 'Refusé. Les directions s’écartent de {apart} mgon ; la limite est {within} mgon.',
   },
   refusedApartByDecimals: {
-    en: 'Refused. The directions are {apart} mgon apart, more than 0.01 mgon and than they are rounded.',
-    de: 'Zurückgewiesen. Die Richtungen weichen {apart} mgon ab, mehr als 0.01 mgon und als sie gerundet sind.',
-    fr: 'Refusé. Les directions s’écartent de {apart} mgon, plus que 0.01 mgon et que leur arrondi.',
+    en: 'Refused. The directions are {apart} mgon apart: more than 0.01 mgon, and more than rounding explains.',
+    de: 'Zurückgewiesen. Die Richtungen weichen {apart} mgon ab: mehr als 0.01 mgon und mehr, als Rundung erklärt.',
+    fr: 'Refusé. Les directions s’écartent de {apart} mgon : plus que 0.01 mgon, et plus que l’arrondi n’explique.',
   },
   readWell: {
     en: 'Read without a fault: {sets}, {targets}, {directions}.',
@@ -185,17 +192,17 @@ export const TEXTS = {
   notCompared: {
     en: 'Not compared with the results of a program.',
     de: 'Nicht mit den Ergebnissen eines Programms verglichen.',
-    fr: 'Non comparée aux résultats d’un programme.',
+    fr: 'Sans comparaison avec les résultats d’un programme.',
   },
   nothingCompared: {
     en: 'No results of your program were given yet: add its table of directions or its sheet, and they are checked.',
-    de: 'Es liegt noch kein Ergebnis Ihres Programms vor: Fügen Sie seine Richtungstabelle oder sein Sheet hinzu, dann wird es geprüft.',
+    de: 'Es liegt noch kein Ergebnis Ihres Programms vor: Fügen Sie seine Richtungstabelle oder sein Rechenblatt hinzu, dann wird es geprüft.',
     fr: 'Aucun résultat de votre programme pour l’instant : ajoutez sa table de directions ou sa feuille, et elle sera vérifiée.',
   },
   nothingChecked: {
-    en: 'Nothing was checked: no code 20 opens a set in this file.',
-    de: 'Nichts wurde geprüft: Kein Code 20 eröffnet in dieser Datei einen Satz.',
-    fr: 'Rien n’a été vérifié : aucun code 20 n’ouvre une série dans ce fichier.',
+    en: 'Nothing was checked: this file has no sets.',
+    de: 'Nichts wurde geprüft: Diese Datei hat keine Sätze.',
+    fr: 'Rien n’a été vérifié : ce fichier n’a aucune série.',
   },
   nothingNamed: {
     en: 'Nothing was checked yet: the station needs a name.',
@@ -226,6 +233,11 @@ export const TEXTS = {
     en: 'Station {station}: {sets}, {targets}. {before} before the sets and {after} after them stay outside.',
     de: 'Station {station}: {sets}, {targets}. {before} vor den Sätzen und {after} danach bleiben außerhalb.',
     fr: 'Station {station} : {sets}, {targets}. {before} avant les séries et {after} après restent en dehors.',
+  },
+  recognizedAll: {
+    en: 'Station {station}: {sets}, {targets}. No reading stays outside.',
+    de: 'Station {station}: {sets}, {targets}. Keine Ablesung bleibt außerhalb.',
+    fr: 'Station {station} : {sets}, {targets}. Aucune lecture ne reste en dehors.',
   },
   recognizedNone: {
     en: 'Station {station}: no sets. Its {n} reading stays outside, and nothing of it was checked.|Station {station}: no sets. Its {n} readings stay outside, and nothing of them was checked.',
@@ -323,6 +335,16 @@ export const TEXTS = {
   difference: { en: 'Difference', de: 'Unterschied', fr: 'Écart' },
   saveDifferences: { en: 'Save differences (CSV)', de: 'Unterschiede speichern (CSV)', fr: 'Enregistrer les écarts (CSV)' },
   residuals: { en: 'Residuals', de: 'Verbesserungen', fr: 'Résidus' },
+  residualsOf: {
+    en: 'Residuals of station {name}',
+    de: 'Verbesserungen der Station {name}',
+    fr: 'Résidus de la station {name}',
+  },
+  printed: {
+    en: 'What “station_check residuals” printed',
+    de: 'Was „station_check residuals“ ausgegeben hat',
+    fr: 'Ce que « station_check residuals » a écrit',
+  },
   residualsCaption: {
     en: 'Residuals in mgon: adjusted direction less orientation less reading; × is not observed',
     de: 'Verbesserungen in mgon: ausgeglichene Richtung minus Orientierung minus Ablesung; × ist nicht beobachtet',
@@ -347,14 +369,14 @@ export const TEXTS = {
   deviation: {
     en: 'Standard deviation of one two-face direction: {size} mgon, {n} degree of freedom.|Standard deviation of one two-face direction: {size} mgon, {n} degrees of freedom.',
     de: 'Standardabweichung einer Richtung aus beiden Lagen: {size} mgon, {n} Freiheitsgrad.|Standardabweichung einer Richtung aus beiden Lagen: {size} mgon, {n} Freiheitsgrade.',
-    fr: 'Écart-type d’une direction des deux cercles : {size} mgon, {n} degré de liberté.|Écart-type d’une direction des deux cercles : {size} mgon, {n} degrés de liberté.',
+    fr: 'Écart-type d’une direction moyenne des deux cercles : {size} mgon, {n} degré de liberté.|Écart-type d’une direction moyenne des deux cercles : {size} mgon, {n} degrés de liberté.',
   },
   noFreedom: {
     en: 'No degree of freedom: the residuals say nothing of the accuracy.',
     de: 'Kein Freiheitsgrad: Die Verbesserungen sagen nichts über die Genauigkeit.',
     fr: 'Aucun degré de liberté : les résidus ne disent rien de la précision.',
   },
-  faces: { en: 'Face differences', de: 'Lagedifferenzen', fr: 'Écarts des deux cercles' },
+  faces: { en: 'Face differences', de: 'Lagedifferenzen', fr: 'Écarts entre les deux cercles' },
   twoCCaption: {
     en: '2c in mgon; the greatest, {size}, is marked',
     de: '2c in mgon; der größte Wert, {size}, ist markiert',
@@ -371,16 +393,22 @@ export const TEXTS = {
   direction: { en: 'Direction', de: 'Richtung', fr: 'Direction' },
   seenIn: { en: 'Sets', de: 'Sätze', fr: 'Séries' },
   ofSets: { en: '{n} of {all}', de: '{n} von {all}', fr: '{n} sur {all}' },
+  save: { en: 'Save …', de: 'Speichern …', fr: 'Enregistrer …' },
   saveDirections: { en: 'Save directions (CSV)', de: 'Richtungen speichern (CSV)', fr: 'Enregistrer les directions (CSV)' },
   saveResiduals: { en: 'Save residuals (CSV)', de: 'Verbesserungen speichern (CSV)', fr: 'Enregistrer les résidus (CSV)' },
   savePicture: { en: 'Save picture (SVG)', de: 'Bild speichern (SVG)', fr: 'Enregistrer l’image (SVG)' },
   saveReport: { en: 'Save report (TXT)', de: 'Bericht speichern (TXT)', fr: 'Enregistrer le rapport (TXT)' },
   saveFaces: { en: 'Save 2c and 2i (CSV)', de: '2c und 2i speichern (CSV)', fr: 'Enregistrer 2c et 2i (CSV)' },
-  saveMeans: { en: 'Save sheet of means', de: 'Sheet der Mittel speichern', fr: 'Enregistrer la feuille des moyennes' },
+  saveMeans: { en: 'Save sheet of means', de: 'Rechenblatt der Mittel speichern', fr: 'Enregistrer la feuille des moyennes' },
   saveProtocol: { en: 'Save protocol', de: 'Protokoll speichern', fr: 'Enregistrer le protocole' },
+  print: { en: 'Print', de: 'Drucken', fr: 'Imprimer' },
   printProtocol: { en: 'Print protocol', de: 'Protokoll drucken', fr: 'Imprimer le protocole' },
   saved: { en: 'Saved as {name}.', de: 'Gespeichert als {name}.', fr: 'Enregistré sous {name}.' },
-  protocol: { en: 'Protocol of sets', de: 'Satzmessprotokoll', fr: 'Protocole de séries' },
+  protocol: {
+    en: 'Protocol of sets: Station {name}',
+    de: 'Satzmessprotokoll: Station {name}',
+    fr: 'Protocole de séries : station {name}',
+  },
   answer: { en: 'Answer', de: 'Antwort', fr: 'Réponse' },
   date: { en: 'Date of the check', de: 'Datum der Prüfung', fr: 'Date de la vérification' },
   counts: {
@@ -416,6 +444,11 @@ export const speak = (/** @type {string} */ code) => { language = code; };
 export const spoken = () => language;
 
 /**
+ * French text with narrow blanks, at which no line ends, before its signs and within its quotes.
+ */
+const inFrench = (/** @type {string} */ said) => said.replace(/ (?=[:;?!»])|(?<=«) /g, '\u202f');
+
+/**
  * The text of this name, with these values filled in; `n` chooses between one and more.
  * @param {string} name
  * @param {Record<string, string | number>} [values]
@@ -423,5 +456,6 @@ export const spoken = () => language;
 export function text(name, values = {}) {
   const [one, more] = TEXTS[name][language].split('|');
   const isOne = more === undefined || new Intl.PluralRules(language).select(Number(values.n)) === 'one';
-  return (isOne ? one : more).replace(/\{(\w+)\}/g, (_, word) => String(values[word]));
+  const said = isOne ? one : more;
+  return (language === 'fr' ? inFrench(said) : said).replace(/\{(\w+)\}/g, (_, word) => String(values[word]));
 }

@@ -8,8 +8,8 @@
 /** What a call ends with that was stopped. */
 export class Stopped extends Error {}
 
-const part = id => document.getElementById(id).textContent;
-const bytesOf = text => new TextEncoder().encode(text);
+const part = (/** @type {string} */ id) => document.getElementById(id).textContent;
+const bytesOf = (/** @type {string} */ text) => new TextEncoder().encode(text);
 
 /** @type {Worker | null} */
 let worker = null;
@@ -18,7 +18,7 @@ const waiting = new Map();
 let count = 0;
 
 /** Hands a message to the worker; answers what comes back. */
-function sent(message) {
+function sent(/** @type {object} */ message) {
   return new Promise((resolve, reject) => {
     waiting.set(++count, { resolve, reject });
     worker.postMessage({ id: count, ...message });

@@ -5,12 +5,16 @@ import { readingsIn } from './records.js';
 /** @type {Promise<WebAssembly.Module>} */
 let core;
 
-/** How many readings with a direction a field file has: its words may be many, and are counted here. */
-async function readings(module, gsi) {
+/**
+ * How many readings with a direction a field file has: its words may be many, and are counted here.
+ */
+async function readings(/** @type {WebAssembly.Module} */ module, /** @type {Uint8Array} */ gsi) {
   const { status, shown: [words] } = await calls.words(module, gsi);
-  return { status, shown: [new TextEncoder().encode(String(readingsIn(new TextDecoder().decode(words))))] };
+  const count = String(readingsIn(new TextDecoder().decode(words)));
+  return { status, shown: [new TextEncoder().encode(count)] };
 }
 
+/** @type {typeof calls} */
 const asked = { ...calls, readings };
 
 onmessage = async ({ data: { module, id, name, inputs } }) => {

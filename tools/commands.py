@@ -18,7 +18,7 @@ BASH = SHARE / "bash-completion" / "completions" / "station_check"
 ZSH = SHARE / "zsh" / "site-functions" / "_station_check"
 FISH = SHARE / "fish" / "vendor_completions.d" / "station_check.fish"
 
-# The operands that are paths.
+# The operands that are paths, and what stands for the value of an option that is one.
 PATHS = {"GSI", "SHEET", "TABLE"}
 
 # The parts of a help text: what stands before its first heading, and what stands below each.
@@ -178,6 +178,8 @@ def bash_part(found: list[Command]) -> Iterator[str]:
     names = " ".join(command.name for command in found)
     yield f"_station_check_commands='{names} help'"
     yield f"_station_check_valued='{' '.join(option.name for option in options_of(found) if option.value)}'"
+    yield "# Of these the ones whose value is a path."
+    yield f"_station_check_filed='{' '.join(option.name for option in options_of(found) if option.value in PATHS)}'"
     yield "declare -gA _station_check_options=("
     for command in found:
         if command.options:
@@ -200,14 +202,15 @@ def fish_part(found: list[Command]) -> Iterator[str]:
     yield f"{seen} {names}' -F"
     for option, having in options_of(found).items():
         names = " ".join(command.name for command in having)
-        valued = " -x" if option.value else ""
+        valued = " -r -F" if option.value in PATHS else " -x" if option.value else ""
         yield f'{seen} {names}\' -l {option.name[2:]}{valued} -d "{option.summary()}"'
     yield f"{seen} help' -a '{' '.join(command.name for command in found)}'"
 
 
 def zsh_option(option: Option) -> str:
     said = f"[{lowered(option.summary()).replace(':', ',')}]"
-    return f"'{option.name}={said}:{option.wanted()}'" if option.value else f"'{option.name}{said}'"
+    action = ":_files" if option.value in PATHS else ""
+    return f"'{option.name}={said}:{option.wanted()}{action}'" if option.value else f"'{option.name}{said}'"
 
 
 def zsh_operand(place: int, name: str, text: str) -> str:

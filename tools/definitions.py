@@ -1,7 +1,7 @@
 """Makes docs/DEFINITIONS.md from the comments in specs/: `python3 tools/definitions.py`.
 
 The page has what the promise of an acceptance rests on, then that of an agreement, and then those of
-differences, of residuals and of a report: the file of each promise and all that it cites, however far, in
+differences, of residuals and of reports: the file of each promise and all that it cites, however far, in
 reading order, with the comment that it begins with. Those of records are there for an acceptance; of the
 other promises for the file of the promise alone. The other definitions are read where they stand.
 """
@@ -23,6 +23,8 @@ AGREEMENT = ("station_compare", "Agreeing")
 DIFFERENCES = ("station_differences", "Stating")
 RESIDUALS = ("station_residuals", "Stating")
 REPORT = ("station_report", "Stating")
+TABLE_REPORT = ("table_report", "Stating")
+REPORT_ROWS = ("report_rows", "Stating")
 
 USE = re.compile(r"^use Rattle\.(\w+)\.specs\.(\w+)(?:\.|$| as)", re.MULTILINE)
 DEFINITION = re.compile(r"^(?:abbrev|unfoldable) pub ([^\s:]+)|^pub (?:record|data) ([^\s:]+)")
@@ -50,7 +52,7 @@ A source may *tell* contracts which bytes it still gives, and whether it then fa
 
 Every source has *histories*: by number, which bytes it may have given since it was made. `Adds` says that they have grown by some bytes, and the contract of `read` says that each read adds to all of them what it gave. That there are no other bytes in them is not said. So `HasGiven` says of a reader, before and after some reads, that these were the bytes: its histories have grown by them, and whatever it may give now, it might then have given these bytes and after them that. The contract of `check_bytes` names bytes of the field file and of the sheet that their readers have given so, and keeps the promise of these bytes and of whatever may be left in the readers after them. Where it accepts, both readers have ended, so nothing is left and the bytes are all; where it answers a failed read, that reader has broken off; and of `check_sources` no read failed at any other answer.
 
-`check_bytes` is one function for every source. It can't tell which histories a source keeps, nor whether it tells its bytes, so what is proved of it holds of a reader that keeps each byte as of a file, for which the standard library's contract says nothing of what was read. The field file's reader is taken in and dropped: `UntilDropped` says that there is a state of the reader after it was taken in of which the promise is kept; `check_sources` gives the reader back, and so says it of the very state. What that leaves open is out of memory in the place of a failed read.
+`check_bytes` is one function for every source. It can't tell which histories a source keeps, nor whether it tells its bytes, so what is proved of it holds of a reader that keeps each byte as of a file, for which the standard library's contract says nothing of what was read. The field file's reader is taken in and dropped: `UntilDropped` says that there is a state of the reader after it was taken in of which the promise is kept; `check_sources` gives the reader back, and so says it of the very state. What `UntilDropped` leaves open is a read after that state, which no answer tells of, and so out of memory in the place of a failed read.
 
 A source over a source can keep a history of its own: `Digesting` of [`byte_digests`](../crates/byte_digests/README.md) feeds what it gives to SHA-256, so that its first history is what a digest stands for.
 """
@@ -218,8 +220,10 @@ What refusals, lists and texts are, and how the code keeps things: no acceptance
 
 def page() -> str:
     contract = [Spec(*pair) for pair in CONTRACT]
-    roots = ACCEPTANCE, AGREEMENT, DIFFERENCES, RESIDUALS, REPORT
-    accepted, agreement, differences, residuals, report = (closure(Spec(*root)) for root in roots)
+    roots = ACCEPTANCE, AGREEMENT, DIFFERENCES, RESIDUALS, REPORT, TABLE_REPORT, REPORT_ROWS
+    accepted, agreement, differences, residuals, report, beside, rows = (
+        closure(Spec(*root)) for root in roots
+    )
     known = [*accepted, *contract]
     compared = [*known, *agreement]
     believed = [
@@ -231,6 +235,18 @@ def page() -> str:
         *belief_beside("residuals", "What `residuals` prints", residuals, [*compared, *differences]),
         *belief_beside(
             "a report", "What `report` prints", report, [*compared, *differences, *residuals]
+        ),
+        *belief_beside(
+            "a report with a table",
+            "What `report --table` prints",
+            beside,
+            [*compared, *differences, *residuals, *report],
+        ),
+        *belief_beside(
+            "the rows of a report",
+            "What `report --csv` prints",
+            rows,
+            [*compared, *differences, *residuals, *report, *beside],
         ),
     ]
     return "\n".join([INTRODUCTION, *believed, EVERY_READER, OTHERS])

@@ -9,10 +9,14 @@ import subprocess
 import tempfile
 import time
 from contextlib import contextmanager
-from typing import NamedTuple
+from pathlib import Path
+from typing import Any, Iterator, NamedTuple
 
 NAMES = ["chromium", "chromium-browser", "google-chrome", "chrome"]
-FLAGS = ["--headless=new", "--no-sandbox", "--disable-gpu", "--disable-dev-shm-usage", "--accept-lang=en"]
+FLAGS = [
+    "--headless=new", "--no-sandbox", "--disable-gpu", "--disable-dev-shm-usage",
+    "--accept-lang=en",
+]
 
 # How long the browser may take for an answer, in seconds.
 PATIENCE = 60
@@ -21,7 +25,7 @@ PATIENCE = 60
 READS, WRITES = 3, 4
 
 
-def browser():
+def browser() -> str | None:
     """The command of a browser that is here; none where there is none."""
     return next(filter(None, map(shutil.which, NAMES)), None)
 
@@ -32,16 +36,25 @@ class Part(NamedTuple):
     role: str
     name: str
     text: str  # what stands right in it
-    states: dict
+    states: dict[str, Any]
 
 
 class Page:
-    """A page that is open in a browser of its own; what is no page of ours has nothing to settle."""
+    """A page that is open in a browser of its own; one that doesn't check has nothing to settle."""
 
-    def __init__(self, path, width=1000, height=1400, scheme="light", settled=True):
-        self.folder = tempfile.TemporaryDirectory(prefix="page-browser-", ignore_cleanup_errors=True)
+    def __init__(
+        self,
+        path: Path,
+        width: int = 1000,
+        height: int = 1400,
+        scheme: str = "light",
+        checks: bool = True,
+    ) -> None:
+        self.folder = tempfile.TemporaryDirectory(prefix="page-", ignore_cleanup_errors=True)
         self.downloads = os.path.join(self.folder.name, "downloads")
-        self.count, self.events, self.rest, self.session = 0, [], b"", None
+        self.count, self.events, self.rest = 0, list[dict[str, Any]](), b""
+        self.session: str | None = None
+        self.checks = checks
         self.start()
         target = self.call("Target.createTarget", url="about:blank")["targetId"]
         attached = self.call("Target.attachToTarget", targetId=target, flatten=True)
@@ -50,38 +63,43 @@ class Page:
             self.call(f"{domain}.enable")
         screen = {"width": width, "height": height, "deviceScaleFactor": 1, "mobile": False}
         self.call("Emulation.setDeviceMetricsOverride", **screen)
-        self.call("Emulation.setEmulatedMedia", features=[{"name": "prefers-color-scheme", "value": scheme}])
+        features = [{"name": "prefers-color-scheme", "value": scheme}]
+        self.call("Emulation.setEmulatedMedia", features=features)
         self.call("Page.navigate", url=path.as_uri())
         self.wait("document.readyState === 'complete'")
-        if settled:
-            self.settle()
+        self.settle()
 
-    def start(self):
+    def start(self) -> None:
+        """Starts the browser, with a pipe to it and one back."""
         (asked, self.asks), (self.hears, told) = os.pipe(), os.pipe()
-        words = [browser(), *FLAGS, "--remote-debugging-pipe", f"--user-data-dir={self.folder.name}"]
+        words = [browser() or NAMES[0], *FLAGS, "--remote-debugging-pipe"]
+        words.append(f"--user-data-dir={self.folder.name}")
 
-        def place():
+        def place() -> None:
             """Puts the two ends where the browser has them, out of each other's way first."""
             ends = [fcntl.fcntl(end, fcntl.F_DUPFD, WRITES + 1) for end in (asked, told)]
             for end, at in zip(ends, (READS, WRITES)):
                 os.dup2(end, at)
 
-        quiet = {"stdout": subprocess.DEVNULL, "stderr": subprocess.DEVNULL}
-        self.run = subprocess.Popen(words, pass_fds=[READS, WRITES], preexec_fn=place, **quiet)
+        null, ends = subprocess.DEVNULL, [READS, WRITES]
+        self.run = subprocess.Popen(
+            words, pass_fds=ends, preexec_fn=place, stdout=null, stderr=null
+        )
         os.close(asked)
         os.close(told)
 
-    def close(self):
+    def close(self) -> None:
+        """Ends the browser."""
         self.run.terminate()
         self.run.wait(PATIENCE)
         os.close(self.asks)
         os.close(self.hears)
         self.folder.cleanup()
 
-    def call(self, method, **params):
+    def call(self, method: str, **params: Any) -> dict[str, Any]:
         """What the browser answers to a call; events on the way are kept."""
         self.count += 1
-        said = {"id": self.count, "method": method, "params": params}
+        said: dict[str, Any] = {"id": self.count, "method": method, "params": params}
         if self.session:
             said["sessionId"] = self.session
         data = json.dumps(said).encode() + b"\0"
@@ -95,7 +113,8 @@ class Page:
                 return heard["result"]
             self.events.append(heard)
 
-    def hear(self):
+    def hear(self) -> dict[str, Any]:
+        """What the browser says next."""
         while b"\0" not in self.rest:
             data = os.read(self.hears, 1 << 20)
             if not data:
@@ -104,14 +123,15 @@ class Page:
         one, _, self.rest = self.rest.partition(b"\0")
         return json.loads(one)
 
-    def js(self, code):
+    def js(self, code: str) -> Any:
         """The value of an expression in the page."""
-        found = self.call("Runtime.evaluate", expression=code, awaitPromise=True, returnByValue=True)
+        how = {"awaitPromise": True, "returnByValue": True}
+        found = self.call("Runtime.evaluate", expression=code, **how)
         if "exceptionDetails" in found:
             raise RuntimeError(found["exceptionDetails"])
         return found["result"].get("value")
 
-    def wait(self, code):
+    def wait(self, code: str) -> Any:
         """Waits until an expression is true, and answers it."""
         end = time.monotonic() + PATIENCE
         while not (found := self.js(code)):
@@ -120,7 +140,7 @@ class Page:
             time.sleep(0.02)
         return found
 
-    def give(self, *paths):
+    def give(self, *paths: Path) -> None:
         """Chooses files by the button; the page has answered when this returns."""
         self.js("$('choose').onclick()")
         root = self.call("DOM.getDocument")["root"]["nodeId"]
@@ -128,7 +148,7 @@ class Page:
         with self.answered():
             self.call("DOM.setFileInputFiles", nodeId=field, files=[str(path) for path in paths])
 
-    def drop(self, *paths):
+    def drop(self, *paths: Path) -> None:
         """Drops files onto the middle of the window."""
         where = self.js("[innerWidth / 2, innerHeight / 2]")
         data = {"items": [], "files": [str(path) for path in paths], "dragOperationsMask": 1}
@@ -136,36 +156,41 @@ class Page:
             for kind in ("dragEnter", "dragOver", "drop"):
                 self.call("Input.dispatchDragEvent", type=kind, x=where[0], y=where[1], data=data)
 
-    def fill(self, name, value):
+    def fill(self, name: str, value: str | int) -> None:
         """Types a number into a field."""
         with self.answered():
             self.js(f"$('{name}').value = {json.dumps(str(value))}; $('{name}').onchange()")
 
-    def empty(self):
+    def empty(self) -> None:
         """Takes all files away."""
         with self.answered():
             self.js("$('remove-all').onclick()")
 
     @contextmanager
-    def answered(self):
+    def answered(self) -> Iterator[None]:
         """What is done in it changes what is asked: waits until that is answered."""
         before = self.js("state")
         yield
         self.wait(f"state > {before}")
         self.settle()
 
-    def settle(self):
+    def settle(self) -> None:
         """Waits until the page has done all that was asked of it, opened results included."""
-        self.wait("$('main').getAttribute('aria-busy') === 'false' && "
-                  "document.querySelector('details.results[open]:not(.filled)') === null")
+        if self.checks:
+            self.wait("$('main').getAttribute('aria-busy') === 'false' && "
+                      "document.querySelector('details.results[open]:not(.filled)') === null")
 
-    def text(self, selector):
+    def text(self, selector: str) -> Any:
+        """The text of the first element that fits; none where there is none."""
         return self.js(f"document.querySelector({json.dumps(selector)})?.textContent")
 
-    def texts(self, selector):
-        return self.js(f"[...document.querySelectorAll({json.dumps(selector)})].map(e => e.textContent)")
+    def texts(self, selector: str) -> list[str]:
+        """The texts of all elements that fit."""
+        all_of = f"[...document.querySelectorAll({json.dumps(selector)})]"
+        texts: list[str] = self.js(f"{all_of}.map(e => e.textContent)")
+        return texts
 
-    def parts(self):
+    def parts(self) -> Iterator[Part]:
         """The parts of the page of which a screen reader is told."""
         nodes = self.call("Accessibility.getFullAXTree")["nodes"]
         name_of = {node["nodeId"]: node.get("name", {}).get("value", "") for node in nodes}
@@ -175,12 +200,19 @@ class Page:
                 states = {one["name"]: one["value"].get("value") for one in node["properties"]}
                 yield Part(node["role"]["value"], name_of[node["nodeId"]], text, states)
 
-    def press(self, text):
+    def press(self, text: str) -> None:
         """Presses the button with this text."""
-        self.js(f"[...document.querySelectorAll('button')].find(b => b.textContent === {json.dumps(text)}).click()")
+        has_text = f"b => b.textContent === {json.dumps(text)}"
+        self.js(f"[...document.querySelectorAll('button')].find({has_text}).click()")
         self.settle()
 
-    def saved(self, text, name):
+    def key(self, name: str, code: int, text: str = "") -> None:
+        """Presses a key, which has this number, and may write a text."""
+        pressed = {"key": name, "code": name, "text": text, "windowsVirtualKeyCode": code}
+        for kind in ("keyDown", "keyUp"):
+            self.call("Input.dispatchKeyEvent", type=kind, **pressed)
+
+    def saved(self, text: str, name: str) -> bytes:
         """The bytes of the file of this name that the button with this text saves."""
         os.makedirs(self.downloads, exist_ok=True)
         self.call("Page.setDownloadBehavior", behavior="allow", downloadPath=self.downloads)
@@ -194,28 +226,34 @@ class Page:
         with open(path, "rb") as file:
             return file.read()
 
-    def requests(self):
+    def requests(self) -> list[str]:
         """The addresses that were asked for."""
         self.js("0")
         sent = [one for one in self.events if one.get("method") == "Network.requestWillBeSent"]
         return [one["params"]["request"]["url"] for one in sent]
 
-    def complaints(self):
+    def complaints(self) -> list[Any]:
         """What went wrong in the page, as its console shows it."""
         self.js("0")
-        told = {"Runtime.exceptionThrown": "exceptionDetails", "Runtime.consoleAPICalled": "args", "Log.entryAdded": "entry"}
-        return [one["params"][told[one["method"]]] for one in self.events if one.get("method") in told]
+        told = {
+            "Runtime.exceptionThrown": "exceptionDetails",
+            "Runtime.consoleAPICalled": "args",
+            "Log.entryAdded": "entry",
+        }
+        events = [one for one in self.events if one.get("method") in told]
+        return [one["params"][told[one["method"]]] for one in events]
 
-    def printed(self):
+    def printed(self) -> bytes:
         """The bytes of the page as it is printed, in PDF."""
         data = self.call("Page.printToPDF", preferCSSPageSize=True)["data"]
         return base64.b64decode(data)
 
-    def picture(self, path, above=None):
+    def picture(self, path: Path, above: str | None = None) -> None:
         """Puts a picture of the page, as far as the top of an element, at a path."""
         below = "document.documentElement.scrollHeight"
         if above:
             below = f"document.querySelector({json.dumps(above)}).getBoundingClientRect().top"
-        clip = {"x": 0, "y": 0, "scale": 1, "width": self.js("innerWidth"), "height": self.js(below)}
+        size = {"width": self.js("innerWidth"), "height": self.js(below)}
+        clip = {"x": 0, "y": 0, "scale": 1, **size}
         data = self.call("Page.captureScreenshot", captureBeyondViewport=True, clip=clip)["data"]
         path.write_bytes(base64.b64decode(data))

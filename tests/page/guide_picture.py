@@ -1,6 +1,7 @@
 """Makes the picture of the page in the guide anew: `python3 tests/page/guide_picture.py`.
 
-The page has to be made before, and a Chromium has to be there. Look at the picture before you keep it.
+The page has to be made before, and a Chromium has to be there. Look at the picture before you keep
+it.
 """
 
 from pathlib import Path
@@ -18,7 +19,7 @@ BELOW = ".digests"
 WIDTH, HEIGHT = 1100, 1400
 
 
-def main():
+def main() -> None:
     page = browser.Page(PAGE, WIDTH, HEIGHT)
     page.give(EXAMPLE.with_suffix(".gsi"), EXAMPLE.with_suffix(".csv"))
     page.picture(PICTURE, BELOW)

@@ -81,10 +81,12 @@ def node():
 
 def is_of_page(case):
     """Whether the files of a case can be handed in: they are there, and none is a folder. What the
-    program notes beside an empty list is its own, and so are the rows of a list and limits in mgon."""
+    program notes beside an empty list is its own, and so are the rows of a list, tables in degrees,
+    reports with a table and limits in mgon."""
     paths = [case.folder / word for word in case.args if "." in word]
     is_noted = case.args[:1] == ["list"] and case.expected[0] == 0 and case.expected[2]
-    is_own = is_noted or "--csv" in case.args or any(word.endswith("mgon") for word in case.args)
+    is_stated = any(word in ("--csv", "--degrees") or word.startswith("--table") for word in case.args)
+    is_own = is_noted or is_stated or any(word.endswith("mgon") for word in case.args)
     return not is_own and case.expected[0] < 2 and all(path.is_file() for path in paths)
 
 

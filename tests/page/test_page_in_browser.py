@@ -31,7 +31,7 @@ CASES = ROOT / "conformance" / "answered"
 
 P7_LINE = "accepted P7: 4 sets, 6 targets, 22 directions, greatest residual 85967/1344"
 P7_HEADLINE = "Accepted. Greatest residual 0.320 mgon, set 4, TOWER."
-NOTHING_CHECKED = "Nothing was checked: no code 20 opens a set in this file."
+NOTHING_CHECKED = "Nothing was checked: this file has no sets."
 NOTHING_NAMED = "Nothing was checked yet: the station needs a name."
 NOTHING_RECOGNIZED = "Nothing was checked: the sets of this job are not recognized."
 
@@ -55,6 +55,7 @@ WIDE = (1, 40, 30)
 FILES = {"field": FIELD, "sheet": SHEET, "table": TABLE}
 LAST_LINE = "410012+00000030\r\n"
 TAB = "\N{SYMBOL FOR HORIZONTAL TABULATION}"
+TAB_KEY, ENTER_KEY, ESCAPE_KEY = ("Tab", 9), ("Enter", 13, "\r"), ("Escape", 27)
 MINUS = "\N{MINUS SIGN}"
 
 # A fault of a file: of which kind it is, the old and the new text; and what is then shown: the refusal,
@@ -63,67 +64,67 @@ FAULTS = [
     (
         ("field", "110004+0", "   \r\n110004X0"),
         "refused: block 4: Word 1",
-        "Line 5 of fault.gsi, block 4:",
+        "Line 5 of fault.gsi, block 4",
         "110004X0000000B",
     ),
     (
         ("field", "25000010 22.102+30000000", "25000010 22.102+3000000\t"),
         "refused: block 5: Byte 47",
-        "Line 5 of fault.gsi, block 5:",
+        "Line 5 of fault.gsi, block 5",
         TAB,
     ),
     (
         ("field", "25000010 22.102+30000000", "2500001X 22.102+30000000"),
         "refused: block 5: Hz Digits",
-        "Line 5 of fault.gsi, block 5:",
+        "Line 5 of fault.gsi, block 5",
         "21.102+2500001X",
     ),
     (
         ("field", "25000010 22.102+30000000", "25100010 22.102+30000000"),
         "refused: block 5: TwoC",
-        "Line 5 of fault.gsi, block 5:",
+        "Line 5 of fault.gsi, block 5",
         "21.102+25100010",
     ),
     (
         ("field", LAST_LINE, "410012+00000020 42....+00000003\r\n"),
         "refused: block 13: EmptySet",
-        "The end of fault.gsi:",
+        "The end of fault.gsi",
         None,
     ),
     (
         ("sheet", "obs,1,B,10000010,0", "\n\nobs,1,B,x,0"),
         "refused: sheet row 7: Number",
-        "Row 7 of fault.csv:",
+        "Row 7 of fault.csv",
         "obs,1,B,x,0",
     ),
     (
         ("sheet", "sheet,1,S1,4,", "sheet,1,S2,4,"),
         "refused: no station",
-        "Row 1 of fault.csv:",
+        "Row 1 of fault.csv",
         "sheet,1,S2,4,",
     ),
     (
         ("sheet", "obs,1,B,10000010,0", "obs,1,B,10000011,0"),
         "refused: kernel: ObsRow 2",
-        "Row 7 of fault.csv, obs row 2:",
+        "Row 7 of fault.csv, obs row 2",
         "obs,1,B,10000011,0",
     ),
     (
         ("sheet", "target,,B,40000024,", "target,,B,40000025,"),
         "refused: kernel: TargetSum 2",
-        "Row 3 of fault.csv, target row 2:",
+        "Row 3 of fault.csv, target row 2",
         "target,,B,40000025,",
     ),
     (
         ("table", "B,50.000030", "C,50.000030"),
         "refused: table row 2: Unknown",
-        "Row 2 of fault.csv:",
+        "Row 2 of fault.csv",
         "C,50.000030",
     ),
     (
         ("table", "B,50.000030\n", ""),
         "refused: table: Missing 2",
-        "Target 2 of station S1:",
+        "Target 2 of station S1",
         "B",
     ),
 ]
@@ -438,10 +439,10 @@ class PageInBrowserTest(TimedTest):
         self.assertEqual("system-ui, sans-serif", svg.get("font-family"))
         texts = [one.text for one in parts if one.tag.endswith("}text")]
         digest = hashlib.sha256(P7_FIELD.read_bytes()).hexdigest()
-        for said in ("Station P7: Residuals", P7_FIELD.name, f"SHA-256 {digest}", "MAST", "+0.320"):
+        for said in ("Residuals of station P7", P7_FIELD.name, f"SHA-256 {digest}", "MAST", "+0.320"):
             self.assertIn(said, texts)
         # Nothing stands outside of it.
-        page = browser.Page(self.file("saved.svg", saved[0].encode()), settled=False)
+        page = browser.Page(self.file("saved.svg", saved[0].encode()), checks=False)
         self.addCleanup(page.close)
         self.assertEqual([], page.js(
             "[...document.querySelectorAll('text')].filter(e => { const box = e.getBoundingClientRect(), all = document"
@@ -562,6 +563,14 @@ class PageInBrowserTest(TimedTest):
                 self.assertFalse([text for text in paragraphs if "\n" in text or text.startswith("refused:")])
             page.empty()
 
+    def test_on_a_phone_what_is_meant_is_in_sight(self):
+        text = FIELD.read_text().replace("25000010 22.102+30000000", "25000010 22.102+3000000X")
+        page = self.page(self.file("fault.gsi", text.encode()), size=PHONE)
+        self.assertEqual("22.102+3000000X", page.text("mark"))
+        in_sight = "(() => { const [a, b] = ['mark', '.lines'].map(e => document.querySelector(e).getBoundingClientRect());"
+        self.assertTrue(page.wait(f"{in_sight} return b.left <= a.left && a.right <= b.right }})()"))
+        self.assertGreater(page.js("document.querySelector('.lines').scrollLeft"), 0)
+
     def test_the_decimals_of_a_table_tell_its_limit_where_none_is_stated(self):
         page = self.page(P7_FIELD, self.file("four.csv", FOUR_DECIMALS))
         agrees = "Agrees. 6 targets within 0.025 mgon of the least-squares directions."
@@ -620,7 +629,7 @@ class PageInBrowserTest(TimedTest):
             self.assertEqual("table", page.js(f"kindOf('a.txt', new TextEncoder().encode({json.dumps(text)}))"), text)
         page.give(P7_FIELD, self.file("gon.csv", FOUR_DECIMALS.replace(b"\n", b" gon\n")))
         self.assertEqual("refused: table row 1: Number", page.text(".exact samp"))
-        self.assertIn("leave out the unit", page.text(".explanation"))
+        self.assertIn("Leave out the unit", page.text(".explanation"))
 
     def test_what_belongs_together_is_found_by_name_and_by_station(self):
         page = self.page(P7_FIELD, FIELD, P7_TABLE, TABLE, P7_SHEET, SHEET)
@@ -668,7 +677,7 @@ class PageInBrowserTest(TimedTest):
 
     def test_limits_are_stated_in_mgon_and_those_in_force_are_shown(self):
         page = self.page(FIELD, SHEET)
-        in_force = "2c 20, 2i 20, residuals 10, tables within 0.01 mgon or as they are rounded"
+        in_force = "2c 20, 2i 20, residuals 10 mgon, tables within 0.01 mgon or as they are rounded"
         self.assertEqual(in_force, page.text("#in-force"))
         page.fill("residual", "0")
         self.assertEqual("refused: kernel: Residual 1", page.text(".exact samp"))
@@ -678,7 +687,7 @@ class PageInBrowserTest(TimedTest):
         self.assertEqual(command, page.text(".exact code"))
         page.fill("two-c", "0.07")
         self.assertEqual("refused: block 5: TwoC", page.text(".exact samp"))
-        self.assertIn("2c 0.07, 2i 20, residuals 0.005,", page.text("#in-force"))
+        self.assertIn("2c 0.07, 2i 20, residuals 0.005 mgon,", page.text("#in-force"))
         page.fill("two-c", "")
         self.assertIn("2c 20,", page.text("#in-force"))
         for name, value, ends in [
@@ -791,7 +800,7 @@ class PageInBrowserTest(TimedTest):
     def test_what_has_no_protocol_is_printed_as_it_is_shown(self):
         text = FIELD.read_text().replace("25000010", "2500001X", 1)
         (printed,) = self.printed(self.page(self.file("fault.gsi", text.encode())))
-        for said in ("Refused.", "refused: block 5: Hz Digits", "Line 5 of fault.gsi, block 5:", "What to do: "):
+        for said in ("Refused.", "refused: block 5: Hz Digits", "Line 5 of fault.gsi, block 5", "What to do: "):
             self.assertIn(said, printed)
         self.assertNotIn("Add files", printed)
 
@@ -855,8 +864,7 @@ class PageInBrowserTest(TimedTest):
         page.js("document.activeElement.blur()")
         reached = []
         for _ in range(page.js("document.querySelectorAll('*').length")):
-            for kind in ("keyDown", "keyUp"):
-                page.call("Input.dispatchKeyEvent", type=kind, key="Tab", code="Tab", windowsVirtualKeyCode=9)
+            page.key(*TAB_KEY)
             here = page.js("{ const e = document.activeElement; e.id || e.textContent || e.tagName }")
             if reached and here == reached[0]:
                 break
@@ -864,6 +872,28 @@ class PageInBrowserTest(TimedTest):
         wanted = "[...document.querySelectorAll('button, input, select, summary')].filter(e => e.checkVisibility())"
         for name in page.js(f"{wanted}.map(e => e.id || e.textContent || e.tagName)"):
             self.assertIn(name, reached)
+
+    def test_the_menu_of_what_is_saved_opens_and_closes_by_keyboard(self):
+        page = self.page(P7_FIELD)
+        is_open, here = "document.querySelector('.menu').open", "document.activeElement.textContent"
+        page.js("document.querySelector('.menu summary').focus()")
+        page.key(*ENTER_KEY)
+        page.key(*TAB_KEY)
+        self.assertEqual((True, "Save protocol"), (page.js(is_open), page.js(here)))
+        page.key(*ESCAPE_KEY)
+        self.assertEqual((False, "Save …"), (page.js(is_open), page.js(here)))
+        page.key(*ENTER_KEY)
+        for _ in page.texts(".menu button"):
+            page.key(*TAB_KEY)
+            self.assertTrue(page.js(is_open))
+        page.key(*TAB_KEY)
+        self.assertFalse(page.js(is_open))
+        # What was pressed is done, and the menu is left where it was opened.
+        page.js("document.querySelector('.menu summary').focus()")
+        page.key(*ENTER_KEY)
+        page.saved("Save directions (CSV)", "P7_directions.csv")
+        self.assertEqual((False, "Save …"), (page.js(is_open), page.js(here)))
+        self.assertEqual("Saved as P7_directions.csv.", page.text(".results [role=status]"))
 
     def test_a_screen_reader_is_told_of_all_that_is_reached_and_of_each_verdict(self):
         page = self.page(FIELD, SHEET)
@@ -873,6 +903,9 @@ class PageInBrowserTest(TimedTest):
         self.assertEqual([], [part for part in reached if not part.name])
         kinds = Counter(part.role for part in reached)
         self.assertEqual((5, 1), (kinds["textbox"], kinds["combobox"]))
+        named = [part.name for part in page.parts() if part.role in ("article", "table", "image", "heading")]
+        self.assertEqual(("station_check", True), (named[0], all(named)), named)
+        self.assertIn("Station S1", named)
         told = [part for part in page.parts() if part.states.get("live") == "polite" and part.role == "status"]
         self.assertTrue(any(part.text.startswith("Station S1: Refused.") and part.states["atomic"] for part in told), told)
         page.fill("two-c", "-1")
@@ -896,6 +929,11 @@ class PageInBrowserTest(TimedTest):
         used = {name for script in scripts for name in re.findall(r"'(\w+)'", script)}
         of_parts = {*re.findall(r'data-(?:text|label)="(\w+)"', PAGE.read_text())}
         self.assertEqual({*texts}, used & {*texts} | of_parts)
+
+    def test_a_sign_of_french_text_is_never_alone_on_a_line(self):
+        page = self.page()
+        for said in page.js("speak('fr'), Object.keys(TEXTS).flatMap(name => [1, 2].map(n => text(name, { n })))"):
+            self.assertNotRegex(said, "(?<!\u202f)[:;?!»]|«(?!\u202f)")
 
     def test_no_text_of_the_page_is_without_its_translations(self):
         page = self.page(P7_FIELD, P7_SHEET, self.file("four.csv", FOUR_DECIMALS), self.file(*UNUSED[0][:2]))

@@ -1,6 +1,7 @@
 """The page in Firefox: the answers that are shown, of each kind of file."""
 
 import shutil
+import subprocess
 import unittest
 
 import firefox
@@ -24,7 +25,7 @@ STEPS = [
     (("fill", "residual", 0), "Station S1: Refused. A residual is above its limit."),
     (("fill", "residual", 11), WRONG),
     (("fill", "residual", "0.005"), S1),
-    (("give", EXAMPLE_TABLE), "Station S1: Agrees. 2 targets within 0 mgon of the least-squares directions."),
+    (("give", EXAMPLE_TABLE), f"{S1} Agrees. 2 targets within 0 mgon of the least-squares directions."),
     (("give", EXAMPLES[0]), "1 read, not compared; 1 in order"),
     (("give", EXAMPLES[2]), "2 in order"),
     (("press", "#remove-all"), "Ready for your files."),
@@ -67,6 +68,17 @@ class PageInFirefoxTest(TimedTest):
                 f"return [getComputedStyle(part).{name}, getComputedStyle(probe).color]"
             )
             self.assertEqual(expected, shown)
+
+    @unittest.skipUnless(shutil.which("pdftotext"), "no pdftotext is found")
+    def test_the_protocol_of_a_usual_station_has_one_page(self):
+        page = self.page()
+        page.drop(*EXAMPLES[:2])
+        firefox.until(lambda: page.text(".results.filled"))
+        to_text = ["pdftotext", "-layout", "-", "-"]
+        said = subprocess.run(to_text, input=page.printed(), stdout=subprocess.PIPE, check=True).stdout.decode()
+        self.assertEqual(1, said.count("\f"))
+        for text in ("Protocol of sets: Station P7", "Residuals as a picture", "SHA-256 of the module inside"):
+            self.assertIn(text, said)
 
 
 if __name__ == "__main__":

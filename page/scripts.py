@@ -1,0 +1,87 @@
+"""Joins the modules of the page's scripts, and makes examples/residuals.html of those that draw
+residuals: `python3 page/scripts.py`.
+
+A page that is opened from a folder can't load modules, so those of a script stand in it one after
+the other, as they are but for what they say of each other.
+"""
+
+import re
+import sys
+from collections import Counter
+from pathlib import Path
+
+HERE = Path(__file__).resolve().parent
+
+# The modules of each script, in the order in which they need each other: of the worker, which needs
+# no page around it; of the page; and of the residuals of a station in a file of their own.
+SCRIPTS = {
+    "calls": ["calls.js", "numbers.js", "records.js", "worker.js"],
+    "page": [
+        "texts.js", "numbers.js", "records.js", "files.js", "work.js", "limits.js", "place.js",
+        "answers.js", "elements.js", "tables.js", "picture.js", "headlines.js", "results.js",
+        "protocol.js", "cards.js", "page.js",
+    ],
+    "residuals": [
+        "texts.js", "numbers.js", "records.js", "elements.js", "tables.js", "picture.js",
+        "residuals.js",
+    ],
+}
+
+# How results look, and the page around them.
+STYLES = {"results": ["results.css"], "page": ["results.css", "style.css"]}
+
+# The page that examples/residuals.py fills in, and what it is made of.
+RESIDUALS = HERE.parent / "examples" / "residuals.html"
+TEMPLATE = HERE / "residuals.html"
+
+# What a module says of its names for others: it is left out where all stand in one script.
+IMPORT = re.compile(r"^import \{[^}]*\} from '\./(\w+\.js)';\n", re.MULTILINE)
+EXPORT = re.compile(r"^export (?=(?:async )?(?:const|let|class|function)\b)", re.MULTILINE)
+
+# What a module declares for all of itself: a name, and constants that stand after another on its
+# line.
+DECLARED = re.compile(r"^(?:export )?(?:async )?(?:const|let|class|function) (.*)", re.MULTILINE)
+NAME = re.compile(r"^[$\w]+|(?<=, )[A-Z_]+(?= = )")
+
+# A text of the page's own, with its name; and a word that may name one.
+TEXT = re.compile(r"^  (\w+): \{(?:.*\},|\n(?:    .*\n)+  \},)\n", re.MULTILINE)
+WORD = re.compile(r"""['"](\w+)['"]""")
+
+
+def joined(modules: list[str]) -> str:
+    """The modules of a script in one text; stops where a name stands for two things in it."""
+    texts = [(HERE / name).read_text() for name in modules]
+    lines = [line for text in texts for line in {*DECLARED.findall(text)}]
+    counts = Counter(name for line in lines for name in NAME.findall(line))
+    if twice := [name for name, count in counts.items() if count > 1]:
+        sys.exit(f"page: these names stand in two modules of one script: {', '.join(twice)}")
+    return "'use strict';\n\n" + "\n".join(EXPORT.sub("", IMPORT.sub("", text)) for text in texts)
+
+
+def styled(name: str) -> str:
+    """The style of this name."""
+    return "\n".join((HERE / one).read_text() for one in STYLES[name])
+
+
+def filled(template: str, values: dict[str, str]) -> str:
+    """A template with each of these values in the place of its name between two @."""
+    places = re.compile(f"@({'|'.join(map(re.escape, values))})@")
+    return places.sub(lambda place: values[place[1]], template)
+
+
+def residuals_page() -> str:
+    """The page that shows the residuals of a station, which examples/residuals.py puts in. It has
+    no texts that it doesn't need."""
+    template, script = TEMPLATE.read_text(), joined(SCRIPTS["residuals"])
+    needed = {*WORD.findall(template + script)}
+    script = TEXT.sub(lambda text: text[0] if text[1] in needed else "", script)
+    return filled(template, {"style": styled("results"), "script": script})
+
+
+def main() -> None:
+    RESIDUALS.write_text(residuals_page())
+    print(f"{RESIDUALS}: {RESIDUALS.stat().st_size} bytes")
+
+
+if __name__ == "__main__":
+    main()
