@@ -9,10 +9,7 @@ use std::alloc::AllocError;
 fn push_blanks(text: &mut Vec<u8>, count: usize) -> Result<(), AllocError>
     ensures { OnOk result (text.new.items ≡ text.old.items ++ replicate count spec.blank) }
 {
-    for _ in 0..count {
-        text.push(b' ')?;
-    }
-    Ok(())
+    text.resize(text.len().saturating_add(count), b' ')
 }
 
 /// Adds a field to a text, in a column that begins with it.

@@ -206,3 +206,32 @@ fn quotients_are_cut(rt: HostRuntime) -> Result<(), Fail> {
     );
     Ok(())
 }
+
+#[test]
+fn quotients_are_found_at_every_length(rt: HostRuntime) -> Result<(), Fail> {
+    // Units of 1 to 12 words, whose highest word holds few bits or many, and whose others hold none
+    // or all: the highest words alone then tell as much as 3 too many.
+    for (first, other) in [
+        (1, 0),
+        (1, LARGEST),
+        (4_294_967_296, LARGEST),
+        (LARGEST, LARGEST),
+    ] {
+        let mut unit = Wide::new(first);
+        for _ in 0..12 {
+            for times in [0, 1, 2, 999, 8_589_934_592] {
+                let number = product(&rt, &unit, times);
+                assert_eq!(rt; times_in(&rt, &number, &unit, times + 1), times);
+                assert_eq!(rt; times_in(&rt, &number, &unit, 17_179_869_184), times);
+                let number = difference(&rt, &product(&rt, &unit, times + 1), &Wide::new(1));
+                assert_eq!(rt; times_in(&rt, &number, &unit, times + 1), times);
+                assert_eq!(rt; times_in(&rt, &number, &unit, 17_179_869_184), times);
+            }
+            let shifted = product(&rt, &product(&rt, &unit, 1 << 32), 1 << 32);
+            unit = shifted
+                .checked_mul_add(1, other)
+                .expect(&rt, "a unit that fits");
+        }
+    }
+    Ok(())
+}

@@ -6,7 +6,7 @@ ghost use Rattle.wide_number.specs.Limbs.{limb_weight, value_below};
 pub(crate) const LIMBS: usize = 13;
 
 /// What a limb holds is below this: 2^64.
-const BASE: u128 = 18_446_744_073_709_551_616;
+pub(crate) const BASE: u128 = 18_446_744_073_709_551_616;
 
 /// A limb with a product of limbs and a carry added: the new limb, and the carry to the next.
 fn multiplied(limb: u64, by: u64, factor: u64, carry: u64) -> (u64, u64)

@@ -38,6 +38,11 @@ impl Wide {
         Wide { limbs }
     }
 
+    /// Its limbs, the lowest first.
+    pub(crate) fn limbs(&self) -> &[u64; LIMBS] {
+        &self.limbs
+    }
+
     /// Adds a number times a factor, where the sum is known to fit.
     pub fn add_product(&mut self, by: &Wide, factor: u64)
         requires { self.old + by.now * factor < WIDE_LIMIT }

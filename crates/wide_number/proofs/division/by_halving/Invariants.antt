@@ -1,5 +1,5 @@
 use Rattle.std.proofs.Common.{◌-◌, ◌*◌, ◌≤◌, ◌<◌}
-use Rattle.wide_number.proofs.division.quotient.Given as goal
+use Rattle.wide_number.proofs.division.by_halving.Given as goal
 
 abbrev pub invariant-loop-high : goal.invariant-loop-high
 invariant-loop-high l = record {
