@@ -67,12 +67,14 @@ ifndef IS_WITHIN
 MAKEFLAGS += --jobs=$(JOBS)
 endif
 
-# The two longest chains of proofs, in which each crate stands on the one before: the whole takes as
-# long as they do. So each of them is proved by as many processes as `rt` finds room for, and what is
-# proved beside them by one, which takes less processor time in all, and yields to them.
+# The longest chains of proofs, in which each crate stands on the one before: the whole takes as long
+# as they do. So each of them is proved by as many processes as `rt` finds room for, and what is
+# proved beside them by one, which takes less processor time in all, and yields to them. The program
+# comes last, when nothing is proved beside it, and gets them all.
+CHAIN_OF_BLOCKS := adjust_kernel gsi_word station_book station_check
 CHAIN := adjust_kernel sheet_format station_check station_compare station_residuals station_report table_report station_record station_program
 CHAIN_OF_WORDS := adjust_kernel sheet_format direction_table limit_texts command_line station_program
-IS_BESIDE = $(if $(filter $*,$(CHAIN) $(CHAIN_OF_WORDS))$(filter 1,$(JOBS)),,yes)
+IS_BESIDE = $(if $(filter $*,$(CHAIN) $(CHAIN_OF_BLOCKS) $(CHAIN_OF_WORDS))$(filter 1,$(JOBS)),,yes)
 
 # What each recipe that proves begins with.
 NEED_TOOLCHAIN = command -v $(RT) > /dev/null || { \
@@ -201,7 +203,7 @@ $(CRATES:%=$(PROVED)/%): $(PROVED)/%: crates.txt HANDLES | $(PROVED)
 	@rm -rf $(foreach crate,$(under_$*),$(ROOM)/crates/$(crate)/out/incremental) $(ROOM)/crates/$*/out
 	@mv crates/$*/out $(ROOM)/crates/$*
 	@(cd $(ROOM)/crates/$* && log=out/build.log && \
-	$(if $(IS_BESIDE),nice )$(RT) $(if $(filter $*,$(PROGRAM_CRATE)),run,lib)$(if $(IS_BESIDE), --jobs 1) \
+	$(if $(IS_BESIDE),nice )$(RT) $(if $(filter $*,$(PROGRAM_CRATE)),run --jobs $(JOBS),lib)$(if $(IS_BESIDE), --jobs 1) \
 	  < /dev/null > $$log.new 2>&1 && { \
 	  [ -s $$log.new ] || { [ -s $$log ] && [ -z "$$(find . -name out -prune -o -type f -newer $$log \
 	  \( -name '*.rt' -o -name '*.antt' \) -print)" ]; } || $(RT) check > $$log.new 2>&1; }); \
