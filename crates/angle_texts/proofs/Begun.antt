@@ -1,8 +1,10 @@
 -- Beginnings of texts that have two parts.
-use Rattle.std.proofs.Common.{◌≡◌, ◌∙◌, ◌++◌, ℕ, List, length, take, drop, ap, sym, refl}
+use Rattle.std.proofs.Common.{◌≡◌, ◌∙◌, ◌++◌, ◌∷◌, ◌+◌, ◌/◌, ◌%◌, ◌^◌, ℕ, List, [], length}
+use Rattle.std.proofs.Common.{take, drop, decimal, ap, sym, refl, subst}
 use Rattle.std.proofs.Common.{append_assoc}
 use Rattle.std.proofs.lemmas.List.{take-append-drop, take_at}
 use Rattle.angle_texts.specs.Beginnings.{IsBegun}
+use Rattle.direction_table.specs.Texts.{decimals_of, direction_text}
 
 -- The first part is a beginning.
 pub first_part : (first rest old new : List ℕ) → new ≡ old ++ first
@@ -41,3 +43,24 @@ of_second first second old middle new h p =
           ∙ ap (λ (l : List ℕ). old ++ l)
           (sym (ap (take (length got)) whole ∙ take_at got rest (length got) refl))));
     }
+
+-- Six decimals are five and one more.
+pub six_decimals : (direction : ℕ) → direction_text 6 direction
+    ≡ direction_text 5 direction ++ ((48 + direction / 10 ^ 3 % 10) ∷ [])
+six_decimals direction =
+    sym (append_assoc (decimal (direction / 10 ^ 9)) (46 ∷ decimals_of 5 direction)
+    ((48 + direction / 10 ^ 3 % 10) ∷ []))
+
+-- A beginning of five decimals is one of six.
+pub of_five : (direction : ℕ) (old new : List ℕ) → IsBegun (direction_text 5 direction) old new
+    → IsBegun (direction_text 6 direction) old new
+of_five direction old new p =
+    subst (λ text. IsBegun text old new) (sym (six_decimals direction))
+    (of_first (direction_text 5 direction) ((48 + direction / 10 ^ 3 % 10) ∷ []) old new p)
+
+-- Five decimals are a beginning of six.
+pub all_five : (direction : ℕ) (old new : List ℕ) → new ≡ old ++ direction_text 5 direction
+    → IsBegun (direction_text 6 direction) old new
+all_five direction old new h =
+    subst (λ text. IsBegun text old new) (sym (six_decimals direction))
+    (first_part (direction_text 5 direction) ((48 + direction / 10 ^ 3 % 10) ∷ []) old new h)

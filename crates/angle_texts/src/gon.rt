@@ -1,4 +1,4 @@
-//! A direction in gon.
+//! Directions in gon.
 ghost use Rattle.std.specs.Prelude.{◌≡◌, ◌++◌, OnOk, OnErr};
 ghost use Rattle.angle_texts.specs.Beginnings.{IsBegun};
 ghost use Rattle.direction_table.specs.Texts.{direction_text};
@@ -11,16 +11,16 @@ use std::alloc::AllocError;
 const GON: u64 = 1_000_000_000;
 
 /// Adds a direction in gon to a text, which is in units of 0.000000001 gon: the gon, a point and
-/// six decimals. What lies below the sixth decimal is left out.
+/// five decimals. What lies below the fifth decimal is left out.
 ///
 /// The only error is that memory was refused; then a beginning of it may have been added.
 // Results have many rows, and digits at stated places take a third of the time of `push_direction`.
 #[tactic(auto, using(crate::proofs::Begun::first_part))]
-pub fn push_gon(text: &mut Vec<u8>, direction: u64) -> Result<(), AllocError>
+pub fn push_short_gon(text: &mut Vec<u8>, direction: u64) -> Result<(), AllocError>
     ensures added { OnOk result
-        (text.new.items ≡ text.old.items ++ direction_text 6 direction) }
+        (text.new.items ≡ text.old.items ++ direction_text 5 direction) }
     ensures begun { OnErr result
-        (IsBegun (direction_text 6 direction) text.old.items text.new.items) }
+        (IsBegun (direction_text 5 direction) text.old.items text.new.items) }
 {
     let mut gons = Buffer::new();
     text.extend_from_slice(gons.format(direction / GON).as_bytes())?;
@@ -31,7 +31,22 @@ pub fn push_gon(text: &mut Vec<u8>, direction: u64) -> Result<(), AllocError>
         digit(direction / 1_000_000),
         digit(direction / 100_000),
         digit(direction / 10_000),
-        digit(direction / 1_000),
     ])?;
+    Ok(())
+}
+
+/// Adds a direction in gon to a text, which is in units of 0.000000001 gon: the gon, a point and
+/// six decimals. What lies below the sixth decimal is left out.
+///
+/// The only error is that memory was refused; then a beginning of it may have been added.
+#[tactic(auto, using(crate::proofs::Begun::of_five, crate::proofs::Begun::all_five))]
+pub fn push_gon(text: &mut Vec<u8>, direction: u64) -> Result<(), AllocError>
+    ensures added { OnOk result
+        (text.new.items ≡ text.old.items ++ direction_text 6 direction) }
+    ensures begun { OnErr result
+        (IsBegun (direction_text 6 direction) text.old.items text.new.items) }
+{
+    push_short_gon(text, direction)?;
+    text.push(digit(direction / 1_000))?;
     Ok(())
 }

@@ -4,6 +4,7 @@
 //! | Call | Adds to a text |
 //! |---|---|
 //! | `push_gon` | a direction in gon, with six decimals |
+//! | `push_short_gon` | a direction in gon, with five decimals |
 //! | `push_mgon` | an angle in mgon, with three decimals |
 //! | `push_short_mgon` | an angle in mgon, with two decimals |
 //! | `push_thousandths` | a number with three decimals |
@@ -13,5 +14,5 @@ mod digit;
 mod gon;
 mod mgon;
 
-pub use gon::push_gon;
+pub use gon::{push_gon, push_short_gon};
 pub use mgon::{push_mgon, push_short_mgon, push_thousandths};

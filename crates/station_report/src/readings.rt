@@ -10,17 +10,13 @@ ghost use Rattle.angle_texts.specs.MgonTexts.{short_mgon_text};
 use crate::columns::{push_left, push_right, push_right_number};
 use crate::places::{faces_at, name_of, number_of, observation_at};
 use adjust_kernel::{LONGEST_NAME, Station, TURN};
-use angle_texts::{push_gon, push_short_mgon};
-use direction_table::{Decimals, push_direction};
+use angle_texts::{push_gon, push_short_gon, push_short_mgon};
 use directions_apart::HALF_UNIT;
 use station_book::{CIRCLE, HALF_CIRCLE, Surveyed};
 use std::alloc::{AllocError, Global};
 
 /// Units of 0.000000001 gon in 0.00001 gon, in which is read.
 pub const READ_UNIT: u64 = 10_000;
-
-/// The decimals of a gon with which is read.
-const READ_DECIMALS: u32 = 5;
 
 /// The direction that was read in face I, in units of 0.00001 gon.
 pub fn reading_one(value: u32, two_c: i32) -> u32
@@ -66,8 +62,7 @@ fn push_read(text: &mut Vec<u8>, field: &mut Vec<u8>, units: u32) -> Result<(), 
         (text.new.items ≡ text.old.items ++ right_text 12 (spec.read_text units)) }
 {
     field.clear();
-    let decimals = Decimals::new(READ_DECIMALS).unwrap();
-    push_direction(field, READ_UNIT * u64::from(units), decimals)?;
+    push_short_gon(field, READ_UNIT * u64::from(units))?;
     push_right(text, 12, field)?;
     Ok(())
 }
