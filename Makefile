@@ -71,8 +71,8 @@ endif
 # as they do. So each of them is proved by as many processes as `rt` finds room for, and what is
 # proved beside them by one, which takes less processor time in all, and yields to them. The program
 # comes last, when nothing is proved beside it, and gets them all.
-CHAIN_OF_BLOCKS := adjust_kernel gsi_word station_book station_check
 CHAIN := adjust_kernel sheet_format station_check station_compare station_residuals station_report table_report station_record station_program
+CHAIN_OF_BLOCKS := gsi_word station_book station_check
 CHAIN_OF_WORDS := adjust_kernel sheet_format direction_table limit_texts command_line station_program
 IS_BESIDE = $(if $(filter $*,$(CHAIN) $(CHAIN_OF_BLOCKS) $(CHAIN_OF_WORDS))$(filter 1,$(JOBS)),,yes)
 

@@ -156,7 +156,7 @@ class CompletionsTest(ProgramTest):
             ("station_check list --two", FACE_LIMITS),
             ("station_check list f", ["field.gsi"]),
             ("station_check explain Two", ["TwoC", "TwoI"]),
-            ("station_check help m", ["means"]),
+            ("station_check help m", ["mark", "means"]),
         ]:
             with self.subTest(line):
                 self.assertEqual(expected, self.of_fish(line))

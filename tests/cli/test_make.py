@@ -196,26 +196,30 @@ class MakeTest(ProgramTest):
                 self.assertEqual(most > 1, max(running) > 1)
 
     def test_what_is_proved_beside_the_longest_chain_yields_to_it(self):
-        """It has one process, and a lower priority; where crates are proved one by one none has."""
+        """It has one process, and a lower priority; where crates are proved one by one none has.
+        The program, which comes last, has as many as there are."""
         here = os.nice(0)
         beside, alone = f"{min(here + 10, 19)} lib --jobs 1", f"{here} lib"
-        for jobs, low in [("JOBS=4", beside), ("JOBS=1", alone)]:
+        for jobs, low in [(4, beside), (1, alone)]:
             with self.subTest(jobs):
                 self.make("clean")
-                self.make("run", jobs)
+                self.make("run", f"JOBS={jobs}")
                 asked = {crate: (self.folder / f"asked_{crate}").read_text() for crate in PROVED}
                 self.assertEqual({alone}, {asked["station_compare"]})
-                self.assertEqual(f"{here} run", asked["station_program"])
+                self.assertEqual(f"{here} run --jobs {jobs}", asked["station_program"])
                 self.assertEqual({low}, {asked[crate] for crate in ("low", "middle", "station_explain")})
 
     def test_the_longest_chains_are_of_crates(self):
-        chains = re.findall(r"^CHAIN\w* := (.*)$", (ROOT / "Makefile").read_text(), re.MULTILINE)
+        """Each ends with the program, or goes on as the first does."""
+        found = re.findall(r"^CHAIN\w* := (.*)$", (ROOT / "Makefile").read_text(), re.MULTILINE)
         lines = dict(re.findall(r"^(\w+)[^:]*:(.*)$", (ROOT / "crates.txt").read_text(), re.MULTILINE))
-        self.assertEqual(2, len(chains))
-        for chain in map(str.split, chains):
+        first, *others = map(str.split, found)
+        self.assertEqual("station_program", first[-1])
+        self.assertEqual(2, len(others))
+        for chain in (first, *others):
             for low, crate in zip(chain, chain[1:]):
                 self.assertIn(low, lines[crate].split())
-            self.assertEqual("station_program", chain[-1])
+            self.assertIn(chain[-1], first)
 
     def test_crates_on_the_same_library_are_proved_side_by_side(self):
         made = self.make("run", "JOBS=4", MEET="middle station_explain")
