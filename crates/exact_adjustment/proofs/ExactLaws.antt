@@ -1,6 +1,6 @@
 -- An exact adjustment is least, and every other least choice is it but for a rotation and turns.
-use Rattle.std.proofs.Common.{◌≡◌, ℕ, suc, ◌*◌, ◌≤◌, List, [], ◌∷◌, map, length, All, ℤ, pos}
-use Rattle.std.proofs.Common.{arith, ap, refl, sym, ◌∙◌, subst}
+use Rattle.std.proofs.Common.{◌≡◌, ℕ, suc, ◌*◌, ◌≤◌, List, [], ◌∷◌, map, length, All, ℤ, pos, arith}
+use Rattle.std.proofs.Common.{ap, refl, sym, ◌∙◌, subst}
 use Rattle.std.proofs.lemmas.List.{length-map}
 use Rattle.std.proofs.lemmas.List.Elements.{All-cons}
 use Rattle.std.proofs.Math.IntN.{◌*ℤ◌}
@@ -21,7 +21,7 @@ use Rattle.adjust_kernel.proofs.TurnLaws.{taken, taken_squares}
 use Rattle.exact_adjustment.specs.LeastOf.{AreTied, IsLeastOf, observed_with}
 use Rattle.exact_adjustment.specs.Adjustments.{AdjustmentValue, choice_by}
 use Rattle.exact_adjustment.specs.Exact.{IsExact, KeepsLimit, IsSameButTurned, observed_by}
-use Rattle.exact_adjustment.proofs.SideLaws.{get_or-pos}
+use Rattle.exact_adjustment.proofs.SideLaws.{get_or-pos, length-turned}
 use Rattle.adjust_kernel.proofs.ObsLaws.{few_obs}
 
 -- Other turns take the place of earlier ones.
@@ -32,12 +32,6 @@ turns_again (r ∷ rs) [] ls h = absurd (omega (arith, h))
 turns_again (r ∷ rs) (k ∷ ks) [] h = refl
 turns_again (r ∷ rs) (k ∷ ks) (l ∷ ls) h =
     ap (λ xs. record r { turn = l } ∷ xs) (turns_again rs ks ls (omega (arith, h)))
-
-pub as_many : (rs : List TurnedObservation) (ks : List ℤ) → length ks ≡ length rs
-    → length (with_turns rs ks) ≡ length rs
-as_many [] ks h = refl
-as_many (r ∷ rs) [] h = absurd (omega (arith, h))
-as_many (r ∷ rs) (k ∷ ks) h = omega (arith, as_many rs ks (omega (arith, h)))
 
 pub placed : (sets targets : ℕ) (obs : List Obs) (ks : List ℤ) → All (IsObs sets targets) obs
     → All (IsPlaced sets targets) (with_turns (map (λ o. turned_by o (pos 0)) obs) ks)
@@ -55,8 +49,7 @@ module _ (station : StationValue) (a : AdjustmentValue) (is_station : IsStation 
   long = exact.each ∙ sym (length-map station.obs (λ o. turned_by o (pos 0)))
 
   pub count : length (observed_by station a) ≡ length station.obs
-  count = as_many (map (λ o. turned_by o (pos 0)) station.obs) a.turns long
-      ∙ length-map station.obs (λ o. turned_by o (pos 0))
+  count = length-turned station.obs a.turns exact.each
 
   pub few : length station.obs ≤ MOST_ROWS
   few = few_obs (length station.sets) (length station.targets) station.obs is_station.obs

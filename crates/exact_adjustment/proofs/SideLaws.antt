@@ -1,23 +1,20 @@
 -- The two sides of a sum of residuals, one observation more.
 use Rattle.std.proofs.Common.{◌≡◌, ℕ, zero, suc, ◌+◌, ◌*◌, ◌≤◌, ◌<◌, List, [], ◌∷◌, map, length}
-use Rattle.std.proofs.Common.{get_or}
-use Rattle.std.proofs.Common.{ℤ, pos, negsuc, arith, ap, refl, ◌∙◌}
+use Rattle.std.proofs.Common.{get_or, Bool, cond, take, ℤ, pos, negsuc, arith, ap, refl, ◌∙◌}
 use Rattle.std.proofs.Math.IntN.{◌*ℤ◌, ◌-ℤ◌, ◌+ℤ◌}
 use Rattle.std.proofs.Math.Nat.{mul-le-mul_left}
 use Rattle.std.proofs.lemmas.Int.{ints}
 use Rattle.adjust_kernel.specs.declared.bounds.TheConstants.{TURN}
 use Rattle.adjust_kernel.specs.declared.obs.Obs.{Obs}
 use Rattle.adjust_kernel.specs.Pairs.{turned_by}
+use Rattle.adjust_kernel.specs.Sums.{int_sum_where}
 use Rattle.adjust_kernel.specs.TurnedObservations.{TurnedObservation}
-use Rattle.adjust_kernel.proofs.Ring.{num, ◌⊖◌, ◌⊗◌, same_value}
+use Rattle.adjust_kernel.proofs.SumLaws.{int_sum_by_more}
 use Rattle.std.proofs.Common.{ap₂}
 use Rattle.std.specs.Int.RustNames.{unsigned_abs}
-use Rattle.std.proofs.lemmas.List.{get_or-map}
 use Rattle.adjust_kernel.specs.Residuals.{residual}
-use Rattle.adjust_kernel.specs.Stations.{StationValue}
 use Rattle.exact_adjustment.specs.Adjustments.{AdjustmentValue, choice_by}
-use Rattle.exact_adjustment.specs.Exact.{IsGreatestAbove, KeepsLimit, size_at}
-use Rattle.adjust_kernel.proofs.GreatestLaws.{size_within}
+use Rattle.exact_adjustment.proofs.Products.{products}
 use Rattle.exact_adjustment.specs.Sides.{turned}
 
 pub length-turned : (obs : List Obs) (ks : List ℤ) → length ks ≡ length obs
@@ -35,6 +32,18 @@ get_or-turned (p ∷ obs) (j ∷ ks) zero o k d h l = refl
 get_or-turned (p ∷ obs) (j ∷ ks) (suc n) o k d h l =
     get_or-turned obs ks n o k d (omega (arith, h)) (omega (arith, l))
 
+-- One observation more, in a sum over those that pass a test.
+pub sum_more : (p : TurnedObservation → Bool) (f : TurnedObservation → ℤ) (obs : List Obs)
+    (ks : List ℤ) (n : ℕ) (o : Obs) (k : ℤ) → length ks ≡ length obs → n < length obs
+    → int_sum_where p f (take (n + 1) (turned obs ks)) ≡ int_sum_where p f (take n (turned obs ks))
+    +ℤ (let r = turned_by (get_or obs n o) (get_or ks n k) in cond (p r) (f r) (pos 0))
+sum_more p f obs ks n o k each inside =
+    let d : TurnedObservation = record { set = 0; target = 0; value = 0; turn = pos 0 } in
+    int_sum_by_more (λ x. cond (p x) (f x) (pos 0)) (turned obs ks) n d
+    (omega (arith, inside, length-turned obs ks each))
+    ∙ ap (λ r. int_sum_where p f (take n (turned obs ks)) +ℤ cond (p r) (f r) (pos 0))
+    (get_or-turned obs ks n o k d each inside)
+
 pub get_or-pos : (xs : List ℕ) (n : ℕ) → get_or (map pos xs) n (pos 0) ≡ pos (get_or xs n 0)
 get_or-pos [] n = refl
 get_or-pos (x ∷ xs) zero = refl
@@ -45,11 +54,6 @@ same_inside [] n a b l = absurd (omega (arith, l))
 same_inside (x ∷ xs) zero a b l = refl
 same_inside (x ∷ xs) (suc n) a b l = same_inside xs n a b (omega (arith, l))
 
-scaled : (d m n : ℕ) → pos d *ℤ (pos m -ℤ pos n) ≡ pos (d * m) -ℤ pos (d * n)
-scaled d m n =
-    same_value (num (pos d) ⊗ (num (pos m) ⊖ num (pos n))) (num (pos (d * m)) ⊖ num (pos (d * n)))
-    (omega arith)
-
 -- What a residual adds to both sides.
 pub sides_step : (left right a o d v lifted lift left2 right2 : ℕ) (k : ℤ)
     → left2 ≡ left + a + d * lift → right2 ≡ right + o + d * lifted
@@ -57,10 +61,7 @@ pub sides_step : (left right a o d v lifted lift left2 right2 : ℕ) (k : ℤ)
     → (pos left2 -ℤ pos right2)
     ≡ (pos left -ℤ pos right) +ℤ (pos a -ℤ pos o -ℤ pos d *ℤ (pos v +ℤ pos TURN *ℤ k))
 sides_step left right a o d v lifted lift left2 right2 k e f g =
-    let y : (pos v +ℤ pos TURN *ℤ k) ≡ pos lifted -ℤ pos lift = omega (arith, ints, g) in
-    let z : pos d *ℤ (pos v +ℤ pos TURN *ℤ k) ≡ pos (d * lifted) -ℤ pos (d * lift) =
-    ap (λ x. pos d *ℤ x) y ∙ scaled d lifted lift in
-    omega (arith, ints, e, f, z)
+    let h = simp products at (ap (λ x. pos d *ℤ x) g) in simp products (omega (arith, ints))
 
 -- A side grows by less than 20 turns an observation.
 pub bound_step : (side a d lift i side2 : ℕ) → side2 ≡ side + a + d * lift
@@ -89,38 +90,9 @@ one_step a o d v lifted lift left right k e f g =
     let h = sides_step 0 0 a o d v lifted lift left right k (omega (arith, e)) (omega (arith, f)) g
     in omega (arith, ints, h)
 
--- The size of a residual at a place.
-pub size_at_place : (station : StationValue) (a : AdjustmentValue) (n : ℕ) (o : Obs) (k : ℤ)
-    → length a.turns ≡ length station.obs → n < length station.obs
-    → size_at station a n
-    ≡ unsigned_abs (residual (choice_by a)
-    (turned_by (get_or station.obs n o) (get_or a.turns n k)))
-size_at_place station a n o k each inside =
-    let d : TurnedObservation = record { set = 0; target = 0; value = 0; turn = pos 0 } in
-    let there : n < length (turned station.obs a.turns) =
-    omega (arith, inside, length-turned station.obs a.turns each) in
-    ap unsigned_abs (get_or-map (residual (choice_by a)) (turned station.obs a.turns) n d (pos 0)
-    there
-    ∙ ap (residual (choice_by a)) (get_or-turned station.obs a.turns n o k d each inside))
-
--- Where some residual is above a limit, it is not kept.
-pub above_is_not_kept : (station : StationValue) (a : AdjustmentValue) (limit place : ℕ)
-    → length a.turns ≡ length station.obs → IsGreatestAbove station a limit place
-    → KeepsLimit station a limit → ⊥
-above_is_not_kept station a limit place each g k =
-    let d : TurnedObservation = record { set = 0; target = 0; value = 0; turn = pos 0 } in
-    let there : place < length (turned station.obs a.turns) =
-    omega (arith, g.first.inside, length-turned station.obs a.turns each) in
-    let e : size_at station a place ≡ unsigned_abs (residual (choice_by a)
-    (get_or (turned station.obs a.turns) place d)) =
-    ap unsigned_abs
-    (get_or-map (residual (choice_by a)) (turned station.obs a.turns) place d (pos 0) there) in
-    omega (arith, g.above, e, size_within (limit * a.denominator) _ (k place d there))
-
 -- What agrees with an observation, by angles in whole half units.
 pub whole_residual : (x y v : ℤ) → x -ℤ y -ℤ v ≡ x -ℤ y -ℤ pos 1 *ℤ v
-whole_residual x y v = same_value (num x ⊖ num y ⊖ num v) (num x ⊖ num y ⊖ num (pos 1) ⊗ num v)
-    (omega arith)
+whole_residual x y v = omega (arith, ints)
 
 pub none_by_size : (z : ℤ) → unsigned_abs z ≡ 0 → z ≡ pos 0
 none_by_size (pos zero) e = refl

@@ -2,7 +2,8 @@
 //! side.
 ghost use Rattle.std.specs.Prelude.{◌≡◌, ◌+◌, ◌*◌, ◌<◌, ◌≤◌, ℕ, pos, ◌+ℤ◌, ◌-ℤ◌, ◌*ℤ◌, ◌↔◌, IsTrue};
 ghost use Rattle.std.specs.Prelude.{length, All};
-ghost use Rattle.adjust_kernel.specs.Residuals.{set_sum, target_sum};
+ghost use Rattle.adjust_kernel.specs.Pairs.{turned_by};
+ghost use Rattle.adjust_kernel.specs.Residuals.{residual, set_sum, target_sum};
 ghost use Rattle.adjust_kernel.specs.Stations.{IsObs};
 ghost use Rattle.adjust_kernel.specs.Within.{IsWithin};
 ghost use Rattle.adjust_kernel.specs.declared.bounds.TheConstants.{LARGEST_TURN, TURN};
@@ -18,7 +19,7 @@ use wide_number::Wide;
 const LIFT: u64 = LARGEST_TURN as u64 * TURN as u64;
 
 /// An observation with its full turns, lifted.
-pub(crate) fn lifted(value: u32, turn: i8) -> u64
+fn lifted(value: u32, turn: i8) -> u64
     requires value { value < TURN }
     requires turn { IsWithin LARGEST_TURN turn }
     ensures value { pos result ≡ (pos value +ℤ pos TURN *ℤ turn) +ℤ pos LIFT }
@@ -29,7 +30,7 @@ pub(crate) fn lifted(value: u32, turn: i8) -> u64
 }
 
 /// Adds a residual: what is positive to one side, what is negative to the other.
-pub(crate) fn add_sides(
+fn add_sides(
     left: &mut Wide,
     right: &mut Wide,
     denominator: &Wide,
@@ -46,6 +47,39 @@ pub(crate) fn add_sides(
     left.add_product(denominator, LIFT);
     right.add_product(orientation, 1);
     right.add_product(denominator, lifted);
+}
+
+/// Adds the residual of an observation with these full turns to the two sides. Each grows by less
+/// than 20 turns.
+pub(crate) fn add_residual(
+    left: &mut Wide,
+    right: &mut Wide,
+    denominator: &Wide,
+    directions: &[Wide],
+    orientations: &[Wide],
+    obs: &Obs,
+    turn: i8,
+)
+    requires obs { IsObs (length orientations.now) (length directions.now) obs.now }
+    requires turn { IsWithin LARGEST_TURN turn }
+    requires directions { AreOnCircle denominator.now directions.now }
+    requires orientations { AreOnCircle denominator.now orientations.now }
+    requires left { left.old + denominator.now * (20 * TURN) < WIDE_LIMIT }
+    requires right { right.old + denominator.now * (20 * TURN) < WIDE_LIMIT }
+    ensures sum { (pos left.new -ℤ pos right.new) ≡ (pos left.old -ℤ pos right.old)
+        +ℤ residual (choice_in denominator.now directions.now orientations.now)
+        (turned_by obs.now turn) }
+    ensures left { left.new ≤ left.old + denominator.now * (20 * TURN) }
+    ensures right { right.new ≤ right.old + denominator.now * (20 * TURN) }
+{
+    add_sides(
+        left,
+        right,
+        denominator,
+        &directions[obs.target as usize],
+        &orientations[obs.set as usize],
+        lifted(obs.value, turn),
+    );
 }
 
 /// Whether the residuals of a target add to 0.
@@ -73,13 +107,14 @@ fn is_target_even(
     for place in 0..obs.len() {
         let one = &obs[place];
         if one.target == target {
-            add_sides(
+            add_residual(
                 &mut left,
                 &mut right,
                 denominator,
-                &directions[one.target as usize],
-                &orientations[one.set as usize],
-                lifted(one.value, turns[place]),
+                directions,
+                orientations,
+                one,
+                turns[place],
             );
         }
     }
@@ -111,13 +146,14 @@ fn is_set_even(
     for place in 0..obs.len() {
         let one = &obs[place];
         if one.set == set {
-            add_sides(
+            add_residual(
                 &mut left,
                 &mut right,
                 denominator,
-                &directions[one.target as usize],
-                &orientations[one.set as usize],
-                lifted(one.value, turns[place]),
+                directions,
+                orientations,
+                one,
+                turns[place],
             );
         }
     }

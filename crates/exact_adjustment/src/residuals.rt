@@ -10,7 +10,7 @@ ghost use Rattle.exact_adjustment.specs.Adjustments.{choice_by};
 ghost use Rattle.exact_adjustment.specs.Exact.{IsExact, IsGreatestAbove, KeepsLimit};
 
 use crate::adjustment::Adjustment;
-use crate::certificate::{add_sides, lifted};
+use crate::certificate::add_residual;
 use adjust_kernel::{Obs, ResidualLimit, Station};
 use wide_number::Wide;
 
@@ -35,18 +35,16 @@ fn residual_size(adjustment: &Adjustment, obs: &Obs, turn: i8) -> Wide
     ensures { result ≡ unsigned_abs
         (residual (choice_by adjustment.now) (turned_by obs.now turn)) }
 {
-    let denominator = adjustment.denominator();
-    let direction = &adjustment.directions()[obs.target as usize];
-    let orientation = &adjustment.orientations()[obs.set as usize];
     let mut left = Wide::zero();
     let mut right = Wide::zero();
-    add_sides(
+    add_residual(
         &mut left,
         &mut right,
-        denominator,
-        direction,
-        orientation,
-        lifted(obs.value, turn),
+        adjustment.denominator(),
+        adjustment.directions(),
+        adjustment.orientations(),
+        obs,
+        turn,
     );
     difference(left, right)
 }

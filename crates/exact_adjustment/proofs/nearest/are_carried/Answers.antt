@@ -1,14 +1,10 @@
-use Rattle.std.proofs.Common.{◌≡◌, ◌<◌, ◌+◌, ℕ, length, pos, ap, arith, get_or}
-use Rattle.std.proofs.Common.{true, subst, FitsSigned}
+use Rattle.std.proofs.Common.{◌<◌, length, pos, ap, arith, get_or, FitsSigned}
 use Rattle.std.proofs.lemmas.Int.{ints, to_z-of_z}
 use mir.Syntax.{w8}
-use Rattle.adjust_kernel.specs.Marks.{mark}
-use Rattle.adjust_kernel.specs.Pairs.{turned_by}
 use Rattle.adjust_kernel.specs.Residuals.{choice_of}
-use Rattle.exact_adjustment.specs.Carrying.{GoesAlong}
-use Rattle.exact_adjustment.specs.Nearest.{obs_of, place_of}
-use Rattle.exact_adjustment.proofs.CarriedLaws.{has_obs, place_inside}
+use Rattle.exact_adjustment.specs.Nearest.{place_of}
 use Rattle.exact_adjustment.proofs.CarrySteps.{all_agree, one_step_more, start_marked}
+use Rattle.exact_adjustment.proofs.ObservedLaws.{place_inside}
 use Rattle.exact_adjustment.proofs.nearest.are_carried.Goals as goal
 
 pub loop-step-init : goal.loop-step-init
@@ -23,31 +19,25 @@ loop-step-init c =
 
 pub returns-then-are_marked-clause-carried : goal.returns-then-are_marked-clause-carried
 returns-then-are_marked-clause-carried c =
-    let station = c.args.station.now in
-    let all : (n : ℕ) → n < length station.sets + length station.targets
-    → mark c.loop-step.marks n ≡ true =
-    rw (c.sets-sets.ensures.value, c.targets.ensures.value) at c.if-are_marked.ensures.all in
-    all_agree station c.obs-obs.ensures.valid c.args.turns.now
+    all_agree c.args.station.now c.obs-obs.ensures.valid c.args.turns.now
     (choice_of 1 c.args.directions.now c.args.orientations.now) c.requires.each c.loop-step.marks
-    c.loop-step.step c.loop-step.invariant all
+    c.loop-step.step c.loop-step.invariant
+    (rw (c.sets-sets.ensures.value, c.targets.ensures.value) at c.if-are_marked.ensures.all)
 
 pub loop-step-preserved : goal.loop-step-preserved
 loop-step-preserved c =
     let station = c.args.station.now in
     let ks = c.args.turns.now in
-    let step = c.loop-step.step in
-    let angles = choice_of 1 c.args.directions.now c.args.orientations.now in
-    let place = place_of station step in
-    let k = get_or ks place (pos 0) in
+    let place = place_of station c.loop-step.step in
     let inside : place < length station.obs =
-    place_inside station ks angles c.requires.each (has_obs station c.obs-obs.ensures.valid) step in
+    place_inside station c.obs-obs.ensures.valid c.loop-step.step in
     let turn = c.requires.turns place (pos 0) (omega (arith, inside, c.requires.each)) in
-    let low = turn.low in
-    let high = turn.high in
-    let fits : FitsSigned w8 k = omega (arith, ints, low, high) in
-    let along = rw (c.obs-obs.ensures.value, c.requires.each_set, c.requires.each_target)
-    at c.if-not-is_carried.ensures in
-    one_step_more station c.obs-obs.ensures.valid ks angles c.requires.each c.loop-step.marks step
-    c.loop-step.invariant c.is_carried.new.marks
-    (subst (λ z. GoesAlong (length station.sets) (length station.targets) c.loop-step.marks
-    c.is_carried.new.marks angles (turned_by (obs_of station step) z)) (to_z-of_z w8 k fits) along)
+    let fits : FitsSigned w8 (get_or ks place (pos 0)) = omega (arith, ints) in
+    one_step_more station c.obs-obs.ensures.valid ks
+    (choice_of 1 c.args.directions.now c.args.orientations.now) c.requires.each c.loop-step.marks
+    c.loop-step.step c.loop-step.invariant c.is_carried.new.marks
+    (simp to_z-of_z at (rw (
+      c.obs-obs.ensures.value,
+      c.requires.each_set,
+      c.requires.each_target,
+    ) at c.if-not-is_carried.ensures))

@@ -1,35 +1,19 @@
-use Rattle.std.proofs.Common.{◌≡◌, ◌+◌, ◌*◌, ◌∙◌, get_or, sym, ap, arith, pos, FitsSigned}
+use Rattle.std.proofs.Common.{FitsSigned, ap, rules, ◌∙◌}
+use Rattle.std.proofs.Math.IntN.{+ℤ_idl}
 use Rattle.std.specs.Int.RustNames.{unsigned_abs}
-use Rattle.std.proofs.Math.IntN.{◌*ℤ◌, ◌+ℤ◌}
-use Rattle.std.proofs.lemmas.Int.{ints, to_z-of_z}
+use Rattle.std.proofs.lemmas.Int.{to_z-of_z}
 use mir.Syntax.{w8}
-use Rattle.adjust_kernel.specs.declared.bounds.TheConstants.{TURN}
-use Rattle.exact_adjustment.specs.declared.certificate.TheConstants.{LIFT}
-use Rattle.exact_adjustment.proofs.SideLaws.{one_step, residual_is, same_inside}
 use Rattle.exact_adjustment.proofs.residuals.residual_size.Goals as goal
 
 pub returns : goal.returns
 returns c =
-    let a = c.args.adjustment.now in
-    let o = c.args.obs.now in
-    let low = c.requires.turn.low in
-    let high = c.requires.turn.high in
-    let fits : FitsSigned w8 c.args.turn = omega (arith, ints, low, high) in
-    let direction : c.index-directions-obs.result ≡ get_or a.directions o.target 0 =
-    c.index-directions-obs.is ∙ rw c.directions.ensures.value
-    (same_inside a.directions o.target _ 0 c.requires.obs.target) in
-    let orientation : c.index-orientations-obs.result ≡ get_or a.orientations o.set 0 =
-    c.index-orientations-obs.is ∙ rw c.orientations.ensures.value
-    (same_inside a.orientations o.set _ 0 c.requires.obs.set) in
-    let left : c.add_sides.new.left ≡ get_or a.directions o.target 0 + a.denominator * LIFT =
-    rw (← direction, ← c.denominator-denominator.ensures.value)
-    (omega (arith, c.add_sides.ensures.left, c.zero-left.ensures)) in
-    let right : c.add_sides.new.right
-    ≡ get_or a.orientations o.set 0 + a.denominator * c.lifted.result =
-    rw (← orientation, ← c.denominator-denominator.ensures.value)
-    (omega (arith, c.add_sides.ensures.right, c.zero-right.ensures)) in
-    c.difference.ensures
-    ∙ ap unsigned_abs (one_step _ _ a.denominator o.value c.lifted.result LIFT
-    c.add_sides.new.left c.add_sides.new.right c.args.turn left right (c.lifted.ensures.value
-    ∙ ap (λ z. (pos o.value +ℤ pos TURN *ℤ z) +ℤ pos LIFT) (to_z-of_z w8 c.args.turn fits))
-    ∙ sym (residual_is a o c.args.turn))
+    let fits : FitsSigned w8 c.args.turn = search rules in
+    c.difference.ensures ∙ ap unsigned_abs (simp (
+      to_z-of_z,
+      c.denominator.ensures.value,
+      c.directions.ensures.value,
+      c.orientations.ensures.value,
+      c.zero-left.ensures,
+      c.zero-right.ensures,
+      +ℤ_idl,
+    ) at c.add_residual.ensures.sum)

@@ -1,0 +1,117 @@
+-- What has all sums of residuals 0, with turns that are those of an exact adjustment but for whole
+-- turns of targets and of sets, has the same residuals.
+use Rattle.std.proofs.Common.{◌≡◌, ℕ, ◌≤◌, ◌<◌, ◌==◌, if◌then◌else◌, List, [], ◌∷◌, map, length}
+use Rattle.std.proofs.Common.{Bool, get_or, ℤ, pos, ◌+ℤ◌, arith, ap, refl, sym, ◌∙◌}
+use Rattle.std.proofs.Math.IntN.{◌*ℤ◌, ◌-ℤ◌}
+use Rattle.std.specs.List.{AllByRecursion}
+use Rattle.std.proofs.lemmas.Int.{ints}
+use Rattle.std.proofs.lemmas.List.{ext_get_or, get_or-map, length-map}
+use Rattle.std.proofs.lemmas.List.Elements.{All-weaker, recursion_from_All}
+use Rattle.adjust_kernel.specs.declared.bounds.TheConstants.{TURN}
+use Rattle.adjust_kernel.specs.Least.{DiffersByRotation}
+use Rattle.adjust_kernel.specs.Pairs.{turned_by}
+use Rattle.adjust_kernel.specs.Residuals.{Choice, residual}
+use Rattle.adjust_kernel.specs.Stations.{StationValue, IsStation}
+use Rattle.adjust_kernel.specs.Sums.{int_sum_where}
+use Rattle.adjust_kernel.specs.TurnedObservations.{TurnedObservation}
+use Rattle.adjust_kernel.specs.Turns.{with_turns}
+use Rattle.adjust_kernel.proofs.BalanceLaws.{IsBalanced, all_vanish}
+use Rattle.adjust_kernel.proofs.LeastLaws.{balanced_is_least}
+use Rattle.adjust_kernel.proofs.ObservationLaws.{IsPlaced}
+use Rattle.adjust_kernel.proofs.TurnLaws.{taken, taken_up}
+use Rattle.exact_adjustment.specs.Adjustments.{AdjustmentValue, choice_by}
+use Rattle.exact_adjustment.specs.Exact.{AddsUp, IsExact, observed_by}
+use Rattle.exact_adjustment.specs.LeastOf.{AreTied, observed_with}
+use Rattle.exact_adjustment.proofs.ObservedLaws.{nothing_seen, obs_at, seen_at, turned_at}
+use Rattle.exact_adjustment.proofs.ExactLaws.{adjusted, count, long, placed, turns_again}
+use Rattle.exact_adjustment.proofs.NearTurns.{TurnedBy}
+use Rattle.exact_adjustment.proofs.Products.{products}
+
+-- A rotation leaves residuals as they are.
+rotated : (d e v : ℕ) (a a' o o' k rotation : ℤ) → pos e *ℤ a -ℤ pos d *ℤ a' ≡ rotation
+    → pos e *ℤ o -ℤ pos d *ℤ o' ≡ rotation
+    → pos e *ℤ (a -ℤ o -ℤ pos d *ℤ (pos v +ℤ pos TURN *ℤ k))
+    ≡ pos d *ℤ (a' -ℤ o' -ℤ pos e *ℤ (pos v +ℤ pos TURN *ℤ k))
+rotated d e v a a' o o' k rotation f g = simp products (omega (arith, ints, f, g))
+
+module _ (station : StationValue) (a : AdjustmentValue) (is_station : IsStation station)
+    (tied : AreTied station) (exact : IsExact station a) (c : Choice) (ls : List ℤ)
+    (each : length ls ≡ length station.obs) (some : 1 ≤ c.denominator)
+    (sums : AddsUp station c ls) (t : TurnedBy station a.turns ls) where
+  abbrev rs : List TurnedObservation
+  rs = observed_by station a
+
+  abbrev other : Choice
+  other = taken c t.of_target t.of_set
+
+  abbrev with_whole : TurnedObservation → ℤ
+  with_whole r = r.turn +ℤ t.of_target r.target -ℤ t.of_set r.set
+
+  residual_taken : (r : TurnedObservation)
+      → residual other r ≡ residual c (record r { turn = with_whole r })
+  residual_taken r = taken_up c.denominator r.value (c.direction r.target) (c.orientation r.set)
+      r.turn (t.of_target r.target) (t.of_set r.set)
+
+  turns_are : ls ≡ map with_whole rs
+  turns_are =
+      let many = count station a is_station tied exact in
+      ext_get_or (pos 0) ls (map with_whole rs) (each ∙ sym (length-map rs with_whole ∙ many))
+      (λ n h. let inside : n < length station.obs = omega (arith, h, each) in
+      t.each n inside ∙ sym (get_or-map with_whole rs n nothing_seen (pos 0)
+      (omega (arith, inside, many))
+      ∙ ap with_whole (seen_at station a.turns exact.each n nothing_seen inside)))
+
+  -- Sums of residuals are the same, of some sets and targets.
+  sum_taken : (p : ℕ → ℕ → Bool) (xs : List TurnedObservation)
+      → int_sum_where (λ r. p r.set r.target) (residual other) xs
+      ≡ int_sum_where (λ r. p r.set r.target) (residual c) (with_turns xs (map with_whole xs))
+  sum_taken p [] = refl
+  sum_taken p (r ∷ xs) = λ i. (if p r.set r.target then residual_taken r i else pos 0)
+      +ℤ sum_taken p xs i
+
+  sum_is : (p : ℕ → ℕ → Bool)
+      → int_sum_where (λ r. p r.set r.target) (residual other) rs
+      ≡ int_sum_where (λ r. p r.set r.target) (residual c) (observed_with station ls)
+  sum_is p = sum_taken p rs
+      ∙ ap (int_sum_where (λ (r : TurnedObservation). p r.set r.target) (residual c))
+      (ap (with_turns rs) (sym turns_are) ∙ turns_again (map (λ o. turned_by o (pos 0)) station.obs)
+      a.turns ls (long station a is_station tied exact))
+
+  below : (key : TurnedObservation → ℕ) (n : ℕ)
+      → ((r : TurnedObservation) → IsPlaced (length station.sets) (length station.targets) r
+      → key r < n) → AllByRecursion (λ r. key r < n) rs
+  below key n f = recursion_from_All (λ r. key r < n) rs
+      (All-weaker (IsPlaced (length station.sets) (length station.targets)) (λ r. key r < n) f rs
+      (placed (length station.sets) (length station.targets) station.obs a.turns
+      is_station.obs.within))
+
+  balanced : IsBalanced other rs
+  balanced = record {
+    targets = all_vanish (λ (r : TurnedObservation). r.target) (residual other)
+        (length station.targets) rs
+        (below (λ r. r.target) (length station.targets) (λ r p. p.target_in))
+        (λ n h. sum_is (λ s m. m == n) ∙ sums.target_sums n h);
+    sets = all_vanish (λ (r : TurnedObservation). r.set) (residual other) (length station.sets) rs
+        (below (λ r. r.set) (length station.sets) (λ r p. p.set_in))
+        (λ n h. sum_is (λ s m. s == n) ∙ sums.set_sums n h);
+  }
+
+  differs : DiffersByRotation (length station.sets) (length station.targets) (choice_by a) other
+  differs =
+      let low = (adjusted station a is_station tied exact).least other some in
+      let high = balanced_is_least other rs balanced (choice_by a) exact.rules.positive in
+      (adjusted station a is_station tied exact).unique other some (omega (arith, ints, low, high))
+
+  -- But for the denominators.
+  pub same_residual : (n : ℕ) → n < length station.obs
+      → pos c.denominator *ℤ residual (choice_by a) (turned_at station a.turns n)
+      ≡ pos a.denominator *ℤ residual c (turned_at station ls n)
+  same_residual n inside =
+      let o = obs_at station n in
+      let within = is_station.obs.within n (record { set = 0; target = 0; value = 0 }) inside in
+      rotated a.denominator c.denominator o.value ((choice_by a).direction o.target)
+      (other.direction o.target) ((choice_by a).orientation o.set) (other.orientation o.set)
+      (get_or a.turns n (pos 0)) differs.rotation (differs.directions o.target within.target)
+      (differs.orientations o.set within.set)
+      ∙ ap (λ y. pos a.denominator *ℤ y) (residual_taken (turned_at station a.turns n)
+      ∙ ap (λ k. residual c (turned_by o k)) (sym (t.each n inside)))
