@@ -9,64 +9,26 @@ use Rattle.std.proofs.lemmas.Int.{ints}
 use native.Mathlib.Decide.{dec_le}
 use Rattle.adjust_kernel.specs.Residuals.{Choice}
 use Rattle.adjust_kernel.specs.Within.{IsWithin}
-use Rattle.adjust_kernel.proofs.Ring.{num, ◌⊕◌, ◌⊖◌, ◌⊗◌, same_value}
+use Rattle.exact_adjustment.proofs.Products.{products, times_within}
 use Rattle.directions_apart.specs.Apart.{AreBroughtNear, AreBroughtWithin, IsApart, IsHalfSpread}
 use Rattle.directions_apart.specs.Apart.{circle_of, difference}
 use Rattle.directions_apart.specs.Arcs.{IsArc}
-
--- A fraction that is rounded up has some parts.
-some_parts : (d numerator w : ℕ) → numerator ≤ w * (162_000 * d)
-    → w * (162_000 * d) < numerator + 162_000 * d → 1 ≤ d
-some_parts zero numerator w a b = absurd (omega (arith, a, b))
-some_parts (suc d) numerator w a b = omega arith
-
--- A number within a bound, some times.
-pub times_within : (k m : ℕ) (z : ℤ) → IsWithin (pos m) z → IsWithin (pos (k * m)) (pos k *ℤ z)
-times_within k m (pos a) h =
-    let high = h.high in
-    let e : k * a ≤ k * m = mul-le-mul_left k (omega (arith, ints, high)) in
-    record { low = omega (arith, ints, e); high = omega (arith, ints, e) }
-times_within k m (negsuc a) h =
-    let low = h.low in
-    let e : k * suc a ≤ k * m = mul-le-mul_left k (omega (arith, ints, low)) in
-    let is : pos k *ℤ negsuc a ≡ pos 0 -ℤ pos (k * suc a) =
-    same_value (num (pos k) ⊗ num (negsuc a)) (num (pos 0) ⊖ num (pos (k * suc a)))
-    (omega arith) in
-    record { low = omega (arith, ints, e, is); high = omega (arith, ints, e, is) }
-
-once : (z : ℤ) → pos 1 *ℤ z ≡ z
-once z = same_value (num (pos 1) ⊗ num z) (num z) (omega arith)
 
 -- An angle in an arc is within half its width of the middle.
 in_middle : (w d spread : ℕ) (x start : ℤ) → spread ≤ w * (162_000 * d)
     → start ≤ℤ (pos 1 *ℤ x) → (pos 1 *ℤ x) ≤ℤ (start +ℤ pos spread)
     → IsWithin (pos (162_000 * w * (d * 2))) (pos 2 *ℤ
     (pos 2 *ℤ x -ℤ (pos 2 *ℤ start +ℤ pos spread)))
-in_middle w d spread x start wide low high =
-    let e = once x in
-    record {
-      low = omega (arith, ints, wide, low, high, e);
-      high = omega (arith, ints, wide, low, high, e);
-    }
+in_middle w d spread x start wide low high = omega (arith, ints)
 
 -- What is so near a rotation lies in an arc about it.
 around_low : (m q : ℕ) (x p : ℤ) → IsWithin (pos m) (pos 2 *ℤ (pos q *ℤ x -ℤ p))
     → (pos 2 *ℤ p -ℤ pos m) ≤ℤ (pos (2 * q) *ℤ x)
-around_low m q x p h =
-    let low = h.low in
-    let e : pos 2 *ℤ (pos q *ℤ x -ℤ p) ≡ pos (2 * q) *ℤ x -ℤ pos 2 *ℤ p =
-    same_value (num (pos 2) ⊗ (num (pos q) ⊗ num x ⊖ num p))
-    (num (pos (2 * q)) ⊗ num x ⊖ num (pos 2) ⊗ num p) (omega arith) in
-    omega (arith, ints, e, low)
+around_low m q x p h = let w = simp products at h in omega (arith, ints)
 
 around_high : (m q : ℕ) (x p : ℤ) → IsWithin (pos m) (pos 2 *ℤ (pos q *ℤ x -ℤ p))
     → (pos (2 * q) *ℤ x) ≤ℤ ((pos 2 *ℤ p -ℤ pos m) +ℤ pos (2 * m))
-around_high m q x p h =
-    let high = h.high in
-    let e : pos 2 *ℤ (pos q *ℤ x -ℤ p) ≡ pos (2 * q) *ℤ x -ℤ pos 2 *ℤ p =
-    same_value (num (pos 2) ⊗ (num (pos q) ⊗ num x ⊖ num p))
-    (num (pos (2 * q)) ⊗ num x ⊖ num (pos 2) ⊗ num p) (omega arith) in
-    omega (arith, ints, e, high)
+around_high m q x p h = let w = simp products at h in omega (arith, ints)
 
 -- Half a spread that is so narrow is not rounded up beyond it.
 no_more : (d q n w spread : ℕ) → 1 ≤ q → 2 * q * spread ≤ 2 * (162_000 * n * (d * q))
@@ -123,12 +85,10 @@ module _ (targets : ℕ) (c : Choice) (stated : ℕ → ℤ) (apart : ℕ)
 -- How far directions are apart is one number.
 pub one_apart : (targets : ℕ) (c : Choice) (stated : ℕ → ℤ) (a b : ℕ) → IsApart targets c stated a
     → IsApart targets c stated b → a ≡ b
-one_apart targets c stated a b p q = by (dec_le (suc a) b) (dec_le (suc b) a)
-  where
-    by : Dec (suc a ≤ b) → Dec (suc b ≤ a) → a ≡ b
-    by (yes h) other = absurd (q.no_nearer a h p.brought)
-    by (no h) (yes k) = absurd (p.no_nearer b k q.brought)
-    by (no h) (no k) = omega (arith, h, k)
+one_apart targets c stated a b p q =
+    let f : a < b → ⊥ = λ h. q.no_nearer a h p.brought in
+    let g : b < a → ⊥ = λ h. p.no_nearer b h q.brought in
+    omega (arith, f, g)
 
 -- Another choice is the same but for whole turns of the targets and one rotation.
 pub record AreTurned (targets : ℕ) (c other : Choice) : Type 0 where
@@ -139,57 +99,30 @@ pub record AreTurned (targets : ℕ) (c other : Choice) : Type 0 where
       -ℤ pos c.denominator
       *ℤ (other.direction t -ℤ pos (other.denominator * 80_000_000) *ℤ turns t) ≡ rotation
 
-turned_round : (d e : ℕ) (a b t : ℤ)
-    → pos d *ℤ b -ℤ pos e *ℤ (a -ℤ pos (d * 80_000_000) *ℤ neg_ℤ t)
-    ≡ pos 0 -ℤ (pos e *ℤ a -ℤ pos d *ℤ (b -ℤ pos (e * 80_000_000) *ℤ t))
-turned_round d e a b t =
-    (λ i. pos d *ℤ b -ℤ pos e *ℤ (a -ℤ pos (d * 80_000_000) *ℤ minus i))
-    ∙ same_value
-    (num (pos d) ⊗ num b ⊖ num (pos e) ⊗ (num a ⊖ num (pos (d * 80_000_000)) ⊗
-    (num (pos 0) ⊖ num t)))
-    (num (pos 0) ⊖ (num (pos e) ⊗ num a ⊖ num (pos d) ⊗
-    (num b ⊖ num (pos (e * 80_000_000)) ⊗ num t)))
-    (omega arith)
-  where
-    minus : neg_ℤ t ≡ pos 0 -ℤ t
-    minus = omega (arith, ints)
+turned_round : (d e : ℕ) (a b t r : ℤ)
+    → pos e *ℤ a -ℤ pos d *ℤ (b -ℤ pos (e * 80_000_000) *ℤ t) ≡ r
+    → pos d *ℤ b -ℤ pos e *ℤ (a -ℤ pos (d * 80_000_000) *ℤ (pos 0 -ℤ t)) ≡ pos 0 -ℤ r
+turned_round d e a b t r h = let f = simp products at h in simp products (omega (arith, ints))
 
 pub turned_back : (targets : ℕ) (c other : Choice) → AreTurned targets c other
     → AreTurned targets other c
 turned_back targets c other s = record {
-  turns = λ t. neg_ℤ (s.turns t);
+  turns = λ t. pos 0 -ℤ s.turns t;
   rotation = pos 0 -ℤ s.rotation;
   directions = λ t h. turned_round c.denominator other.denominator (c.direction t)
-      (other.direction t) (s.turns t) ∙ ap (λ z. pos 0 -ℤ z) (s.directions t h);
+      (other.direction t) (s.turns t) s.rotation (s.directions t h);
 }
 
 -- Twice what a rotated difference from the other choice is, by that from the one.
 from_other : (d e q : ℕ) (a b s k t p r : ℤ)
-    → pos 2 *ℤ (pos (q * d) *ℤ ((pos e *ℤ s -ℤ pos 405_000 *ℤ b) +ℤ pos (e * 32_400_000_000_000) *ℤ
-    (k +ℤ t))
-    -ℤ (pos e *ℤ p +ℤ pos (405_000 * q) *ℤ r))
-    ≡ pos e *ℤ (pos 2 *ℤ (pos q *ℤ ((pos d *ℤ s -ℤ pos 405_000 *ℤ a) +ℤ pos
-    (d * 32_400_000_000_000) *ℤ k) -ℤ p))
-    +ℤ pos (810_000 * q) *ℤ ((pos e *ℤ a -ℤ pos d *ℤ (b -ℤ pos (e * 80_000_000) *ℤ t)) -ℤ r)
-from_other d e q a b s k t p r =
-    let d' = num (pos d) in
-    let e' = num (pos e) in
-    same_value
-    (num (pos 2) ⊗ (num (pos (q * d)) ⊗ ((e' ⊗ num s ⊖ num (pos 405_000) ⊗ num b)
-    ⊕ num (pos (e * 32_400_000_000_000)) ⊗ (num k ⊕ num t)) ⊖
-    (e' ⊗ num p ⊕ num (pos (405_000 * q)) ⊗ num r)))
-    (e' ⊗ (num (pos 2) ⊗ (num (pos q) ⊗ ((d' ⊗ num s ⊖ num (pos 405_000) ⊗ num a)
-    ⊕ num (pos (d * 32_400_000_000_000)) ⊗ num k) ⊖ num p))
-    ⊕ num (pos (810_000 * q)) ⊗ ((e' ⊗ num a ⊖ d' ⊗ (num b ⊖ num (pos (e * 80_000_000)) ⊗ num t)) ⊖
-    num r))
-    (omega arith)
-
-nothing_left : (m : ℕ) (x y z r : ℤ) → x ≡ y +ℤ pos m *ℤ (z -ℤ r) → z ≡ r → x ≡ y
-nothing_left m x y z r is e =
-    let none : pos m *ℤ (r -ℤ r) ≡ pos 0 =
-    same_value (num (pos m) ⊗ (num r ⊖ num r)) (num (pos 0)) (omega arith) in
-    let here = ap (λ u. pos m *ℤ (u -ℤ r)) e ∙ none in
-    omega (arith, ints, is, here)
+    → pos e *ℤ a -ℤ pos d *ℤ (b -ℤ pos (e * 80_000_000) *ℤ t) ≡ r
+    → pos e *ℤ (pos 2 *ℤ (pos q *ℤ ((pos d *ℤ s -ℤ pos 405_000 *ℤ a)
+    +ℤ pos (d * 32_400_000_000_000) *ℤ k) -ℤ p))
+    ≡ pos 2 *ℤ (pos (q * d) *ℤ ((pos e *ℤ s -ℤ pos 405_000 *ℤ b)
+    +ℤ pos (e * 32_400_000_000_000) *ℤ (k +ℤ t)) -ℤ (pos e *ℤ p +ℤ pos (405_000 * q) *ℤ r))
+from_other d e q a b s k t p r h =
+    let f = simp products at (ap (λ z. pos (405_000 * q) *ℤ z) h) in
+    simp products (omega (arith, ints))
 
 -- What is brought near a choice is brought as near to the other.
 pub as_near : (targets : ℕ) (c other : Choice) (stated : ℕ → ℤ) (most : ℕ) → 1 ≤ c.denominator
@@ -206,13 +139,12 @@ as_near targets c other stated most some s b =
       circles = λ t. b.circles t +ℤ s.turns t;
       each = λ t h.
           (let bound : e * (most * (d * q)) ≡ most * (e * (q * d)) = omega arith in
-          let same = nothing_left (810_000 * q) _ _ _ s.rotation
-          (from_other d e q (c.direction t) (other.direction t) (stated t) (b.circles t) (s.turns t)
-          b.rotation s.rotation) (s.directions t h) in
-          subst (λ z. IsWithin (pos (most * (e * (q * d)))) z) (sym same)
-          (subst (λ m. IsWithin (pos m) (pos e *ℤ (pos 2 *ℤ (pos q
-          *ℤ (difference c stated t +ℤ pos (circle_of c) *ℤ b.circles t) -ℤ b.rotation)))) bound
-          (times_within e (most * (d * q)) _ (b.each t h))));
+          rw (
+            ← bound,
+            ← from_other d e q (c.direction t) (other.direction t) (stated t)
+                (b.circles t) (s.turns t) b.rotation s.rotation (s.directions t h),
+          )
+          (times_within e (most * (d * q)) _ (b.each t h)));
     }
 
 -- They are as far apart from the other choice.

@@ -1,31 +1,16 @@
 -- The narrowest arc: some arc as narrow as any begins at one of the angles.
 use Rattle.std.proofs.Common.{◌≡◌, ◌⊎◌, inl, inr, ℕ, zero, suc, ◌+◌, ◌-◌, ◌*◌, ◌/◌, ◌≤◌, ◌<◌, ◌≤ℤ◌}
-use Rattle.std.proofs.Common.{◌+ℤ◌, ℤ, pos, negsuc, arith, refl, sym, subst}
+use Rattle.std.proofs.Common.{◌+ℤ◌, ℤ, pos, negsuc, arith, ap, below_more, refl, subst}
 use Rattle.std.specs.Prelude.{min}
 use Rattle.std.specs.Int.{int_rem_euclid}
 use Rattle.std.specs.Int.RustNames.{unsigned_abs}
 use Rattle.std.proofs.Math.IntN.{◌*ℤ◌, ◌-ℤ◌}
 use Rattle.std.proofs.Math.Nat.{le-div_iff_mul-le, mul-le-mul, mul-lt-mul_of_pos_left}
-use Rattle.std.proofs.lemmas.Int.{ints}
+use Rattle.std.proofs.lemmas.Int.{by_lt_z, ints}
 use native.Mathlib.Decide.{dec_le}
-use Rattle.adjust_kernel.proofs.Ring.{num, ◌⊕◌, ◌⊖◌, ◌⊗◌, same_value}
+use Rattle.exact_adjustment.proofs.Products.{products}
 use Rattle.directions_apart.specs.Arcs.{IsArc, IsExtent, IsSpread, IsWayRound}
 use Rattle.directions_apart.proofs.ArcLaws.{way_round_is}
-
--- Of two numbers one is not above the other.
-pub one_is_first : (a b : ℤ) → (a ≤ℤ b) ⊎ (b ≤ℤ a)
-one_is_first (pos a) (pos b) = by (dec_le a b)
-  where
-    by : Dec (a ≤ b) → (pos a ≤ℤ pos b) ⊎ (pos b ≤ℤ pos a)
-    by (yes h) = inl (omega (arith, ints, h))
-    by (no h) = inr (omega (arith, ints, h))
-one_is_first (pos a) (negsuc b) = inr (omega (arith, ints))
-one_is_first (negsuc a) (pos b) = inl (omega (arith, ints))
-one_is_first (negsuc a) (negsuc b) = by (dec_le b a)
-  where
-    by : Dec (b ≤ a) → (negsuc a ≤ℤ negsuc b) ⊎ (negsuc b ≤ℤ negsuc a)
-    by (yes h) = inl (omega (arith, ints, h))
-    by (no h) = inr (omega (arith, ints, h))
 
 -- One of some numbers is the lowest.
 record IsLowest (f : ℕ → ℤ) (count place : ℕ) : Type 0 where
@@ -37,39 +22,28 @@ lowest f zero = (
   0,
   record {
     inside = omega arith;
-    low = λ i h. (let e : i ≡ 0 = omega (arith, h) in
-        subst (λ n. f 0 ≤ℤ f n) (sym e) (omega (arith, ints)));
+    low = λ i h. let e : 0 ≡ i = omega arith in subst (λ n. f 0 ≤ℤ f n) e (omega (arith, ints));
   },
 )
-lowest f (suc count) = by (lowest f count)
-  where
-    by : (place : ℕ) × IsLowest f (suc count) place
-        → (place : ℕ) × IsLowest f (suc (suc count)) place
-    by (place, l) = pick (one_is_first (f place) (f (suc count)))
-      where
-        last : (i : ℕ) → i < suc (suc count) → Dec (i ≤ count) → (m : ℤ) → ((k : ℕ) → k < suc count
-            → m ≤ℤ f k) → m ≤ℤ f (suc count) → m ≤ℤ f i
-        last i h (yes e) m all here = all i (omega (arith, e))
-        last i h (no e) m all here = let same : i ≡ suc count = omega (arith, h, e) in
-            subst (λ n. m ≤ℤ f n) (sym same) here
-
-        pick : (f place ≤ℤ f (suc count)) ⊎ (f (suc count) ≤ℤ f place)
-            → (place : ℕ) × IsLowest f (suc (suc count)) place
-        pick (inl h) = (
-          place,
-          record {
-            inside = (let a = l.inside in omega (arith, a));
-            low = λ i b. last i b (dec_le i count) (f place) l.low h;
-          },
-        )
-        pick (inr h) = (
-          suc count,
-          record {
-            inside = omega arith;
-            low = λ i b. last i b (dec_le i count) (f (suc count)) (λ k a. (let c = l.low k a in
-                omega (arith, ints, c, h))) (omega (arith, ints));
-          },
-        )
+lowest f (suc count) =
+    let (place, l) = lowest f count in
+    by_lt_z (f place) (f (suc count))
+    (λ lt. (
+      place,
+      record {
+        inside = omega (arith, l.inside);
+        low = λ i h. below_more (λ n. f place ≤ℤ f n) (suc count) l.low (omega (arith, ints)) i
+            (omega arith);
+      },
+    ))
+    (λ le. (
+      suc count,
+      record {
+        inside = omega arith;
+        low = λ i h. below_more (λ n. f (suc count) ≤ℤ f n) (suc count)
+            (λ k a. let c = l.low k a in omega (arith, ints)) (omega (arith, ints)) i (omega arith);
+      },
+    ))
 
 -- What is less than a circle onward, but for full circles, is the way round itself.
 within_way : (circle parts width way : ℕ) (k : ℤ) → 1 ≤ parts → way < circle
@@ -77,18 +51,11 @@ within_way : (circle parts width way : ℕ) (k : ℤ) → 1 ≤ parts → way < 
     → pos 0 ≤ℤ (pos parts *ℤ (pos way +ℤ pos circle *ℤ k))
     → (pos parts *ℤ (pos way +ℤ pos circle *ℤ k)) ≤ℤ pos width → parts * way ≤ width
 within_way circle parts width way (pos n) some below narrow low high =
-    let e : pos parts *ℤ (pos way +ℤ pos circle *ℤ pos n)
-    ≡ pos (parts * way + parts * circle * n) =
-    same_value (num (pos parts) ⊗ (num (pos way) ⊕ num (pos circle) ⊗ num (pos n)))
-    (num (pos (parts * way + parts * circle * n))) (omega arith) in
-    omega (arith, ints, e, high)
+    let f = simp products at high in omega (arith, ints)
 within_way circle parts width way (negsuc n) some below narrow low high =
-    let e : pos parts *ℤ (pos way +ℤ pos circle *ℤ negsuc n)
-    ≡ pos (parts * way) -ℤ pos (parts * circle + parts * circle * n) =
-    same_value (num (pos parts) ⊗ (num (pos way) ⊕ num (pos circle) ⊗ num (negsuc n)))
-    (num (pos (parts * way)) ⊖ num (pos (parts * circle + parts * circle * n))) (omega arith) in
+    let e = simp products at low in
     let f : parts * way < parts * circle = mul-lt-mul_of_pos_left below some in
-    absurd (omega (arith, ints, e, f, low))
+    absurd (omega (arith, ints))
 
 -- From the lowest angle of an arc that is less than a circle to another, the way round is no longer
 -- than the arc.
@@ -99,21 +66,12 @@ way_in_arc : (circle parts width way : ℕ) (a b j k turns start : ℤ) → 1 �
     → (pos parts *ℤ (a +ℤ pos circle *ℤ j)) ≤ℤ (pos parts *ℤ (b +ℤ pos circle *ℤ k))
     → (pos parts *ℤ (b +ℤ pos circle *ℤ k)) ≤ℤ (start +ℤ pos width) → parts * way ≤ width
 way_in_arc circle parts width way a b j k turns start some below narrow there first low high =
-    let p = num (pos parts) in
-    let c = num (pos circle) in
-    let b_is : b ≡ a +ℤ pos way -ℤ pos circle *ℤ turns = omega (arith, ints, there) in
-    let apart : pos parts *ℤ ((a +ℤ pos way -ℤ pos circle *ℤ turns) +ℤ pos circle *ℤ k)
-    -ℤ pos parts *ℤ (a +ℤ pos circle *ℤ j)
-    ≡ pos parts *ℤ (pos way +ℤ pos circle *ℤ (k -ℤ turns -ℤ j)) =
-    same_value (p ⊗ ((num a ⊕ num (pos way) ⊖ c ⊗ num turns) ⊕ c ⊗ num k)
-    ⊖ p ⊗ (num a ⊕ c ⊗ num j)) (p ⊗ (num (pos way) ⊕ c ⊗ (num k ⊖ num turns ⊖ num j)))
-    (omega arith) in
-    let is : pos parts *ℤ (b +ℤ pos circle *ℤ k) -ℤ pos parts *ℤ (a +ℤ pos circle *ℤ j)
-    ≡ pos parts *ℤ (pos way +ℤ pos circle *ℤ (k -ℤ turns -ℤ j)) =
-    subst (λ z. pos parts *ℤ (z +ℤ pos circle *ℤ k) -ℤ pos parts *ℤ (a +ℤ pos circle *ℤ j)
-    ≡ pos parts *ℤ (pos way +ℤ pos circle *ℤ (k -ℤ turns -ℤ j))) (sym b_is) apart in
+    let is = simp products at (ap (λ z. pos parts *ℤ z) there) in
+    let f = simp products at first in
+    let l = simp products at low in
+    let h = simp products at high in
     within_way circle parts width way (k -ℤ turns -ℤ j) some below narrow
-    (omega (arith, ints, is, low)) (omega (arith, ints, is, first, high))
+    (simp products (omega (arith, ints))) (simp products (omega (arith, ints)))
 
 -- No arc from one of the angles is narrower.
 abbrev pub IsNoWider : (circle : ℕ) (angle : ℕ → ℤ) (count start narrowest : ℕ) → Type 0
@@ -130,17 +88,11 @@ module _ (circle : ℕ) (angle : ℕ → ℤ) where
   way_is : (start i : ℕ) → 1 ≤ circle → IsWayRound circle (angle start) (angle i) (onward start i)
   way_is start i some = way_round_is circle (angle start) (angle i) some
 
-  once : (z : ℤ) → pos 1 *ℤ z ≡ z
-  once z = same_value (num (pos 1) ⊗ num z) (num z) (omega arith)
-
   in_arc : (start i extent : ℕ) → (w : IsWayRound circle (angle start) (angle i) (onward start i))
       → onward start i ≤ extent
       → (angle start ≤ℤ (pos 1 *ℤ (angle i +ℤ pos circle *ℤ w.turns)))
       × ((pos 1 *ℤ (angle i +ℤ pos circle *ℤ w.turns)) ≤ℤ (angle start +ℤ pos extent))
-  in_arc start i extent w h =
-      let t = w.there in
-      let n = once (angle i +ℤ pos circle *ℤ w.turns) in
-      (omega (arith, ints, t, n), omega (arith, ints, t, n, h))
+  in_arc start i extent w h = let t = w.there in (omega (arith, ints), omega (arith, ints))
 
   -- An extent is the width of an arc.
   extent_arc : (count start extent : ℕ) → 1 ≤ circle → IsExtent circle angle count start extent
