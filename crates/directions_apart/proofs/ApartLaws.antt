@@ -1,12 +1,9 @@
 -- Half the spread of the differences is how near a rotation brings stated directions, and what one
 -- brings near a choice is brought as near to each that is the same but for turns and a rotation.
-use Rattle.std.proofs.Common.{◌≡◌, ℕ, zero, suc, ◌+◌, ◌*◌, ◌≤◌, ◌<◌, ◌≤ℤ◌, ◌+ℤ◌, ℤ, pos, negsuc}
-use Rattle.std.proofs.Common.{arith, ap, sym, ◌∙◌, subst}
+use Rattle.std.proofs.Common.{◌≡◌, ℕ, ◌+◌, ◌*◌, ◌≤◌, ◌<◌, ◌≤ℤ◌, ◌+ℤ◌, ℤ, pos, arith, ap}
 use Rattle.std.proofs.Math.IntN.{◌*ℤ◌, ◌-ℤ◌}
-use Rattle.std.specs.Prelude.{neg_ℤ}
 use Rattle.std.proofs.Math.Nat.{le_of_mul-le-mul_left, mul-le-mul, mul-le-mul_left}
 use Rattle.std.proofs.lemmas.Int.{ints}
-use native.Mathlib.Decide.{dec_le}
 use Rattle.adjust_kernel.specs.Residuals.{Choice}
 use Rattle.adjust_kernel.specs.Within.{IsWithin}
 use Rattle.exact_adjustment.proofs.Products.{products, times_within}
@@ -22,13 +19,10 @@ in_middle : (w d spread : ℕ) (x start : ℤ) → spread ≤ w * (162_000 * d)
 in_middle w d spread x start wide low high = omega (arith, ints)
 
 -- What is so near a rotation lies in an arc about it.
-around_low : (m q : ℕ) (x p : ℤ) → IsWithin (pos m) (pos 2 *ℤ (pos q *ℤ x -ℤ p))
-    → (pos 2 *ℤ p -ℤ pos m) ≤ℤ (pos (2 * q) *ℤ x)
-around_low m q x p h = let w = simp products at h in omega (arith, ints)
-
-around_high : (m q : ℕ) (x p : ℤ) → IsWithin (pos m) (pos 2 *ℤ (pos q *ℤ x -ℤ p))
-    → (pos (2 * q) *ℤ x) ≤ℤ ((pos 2 *ℤ p -ℤ pos m) +ℤ pos (2 * m))
-around_high m q x p h = let w = simp products at h in omega (arith, ints)
+around : (m q : ℕ) (x p : ℤ) → IsWithin (pos m) (pos 2 *ℤ (pos q *ℤ x -ℤ p))
+    → ((pos 2 *ℤ p -ℤ pos m) ≤ℤ (pos (2 * q) *ℤ x))
+    × ((pos (2 * q) *ℤ x) ≤ℤ ((pos 2 *ℤ p -ℤ pos m) +ℤ pos (2 * m)))
+around m q x p h = let w = simp products at h in (omega (arith, ints), omega (arith, ints))
 
 -- Half a spread that is so narrow is not rounded up beyond it.
 no_more : (d q n w spread : ℕ) → 1 ≤ q → 2 * q * spread ≤ 2 * (162_000 * n * (d * q))
@@ -42,20 +36,19 @@ no_more d q n w spread some short least fewer =
 
 module _ (targets : ℕ) (c : Choice) (stated : ℕ → ℤ) (apart : ℕ)
     (is : IsHalfSpread targets c stated apart) where
-  abbrev arc : IsArc (circle_of c) (difference c stated) targets 1 is.spread
-  arc = is.is_spread.held
-
   -- One rotation brings the middle of the arc to 0.
   brought : AreBroughtWithin targets c stated apart
-  brought = record {
-    parts = 2;
-    positive = omega arith;
-    rotation = pos 2 *ℤ arc.start +ℤ pos is.spread;
-    circles = arc.circles;
-    each = λ t h. in_middle apart c.denominator is.spread
-        (difference c stated t +ℤ pos (circle_of c) *ℤ arc.circles t) arc.start
-        is.rounded_up.not_below (arc.low t h) (arc.high t h);
-  }
+  brought =
+      let arc = is.is_spread.held in
+      record {
+        parts = 2;
+        positive = omega arith;
+        rotation = pos 2 *ℤ arc.start +ℤ pos is.spread;
+        circles = arc.circles;
+        each = λ t h. in_middle apart c.denominator is.spread
+            (difference c stated t +ℤ pos (circle_of c) *ℤ arc.circles t) arc.start
+            is.rounded_up.not_below (arc.low t h) (arc.high t h);
+      }
 
   module _ (most : ℕ) (b : AreBroughtNear targets c stated most) where
     abbrev reach : ℕ
@@ -65,21 +58,17 @@ module _ (targets : ℕ) (c : Choice) (stated : ℕ → ℤ) (apart : ℕ)
     reached = record {
       start = pos 2 *ℤ b.rotation -ℤ pos reach;
       circles = b.circles;
-      low = λ t h. around_low reach b.parts _ b.rotation (b.each t h);
-      high = λ t h. around_high reach b.parts _ b.rotation (b.each t h);
+      low = λ t h. (around reach b.parts _ b.rotation (b.each t h)).0;
+      high = λ t h. (around reach b.parts _ b.rotation (b.each t h)).1;
     }
-
-    pub narrowest : 2 * b.parts * is.spread ≤ 2 * reach
-    narrowest =
-        let some = b.positive in
-        is.is_spread.narrowest (2 * b.parts) (2 * reach) (omega (arith, some)) reached
 
   -- Half the spread is how far they are apart.
   pub half_spread_is_apart : IsApart targets c stated apart
   half_spread_is_apart = record {
     brought = brought;
     no_nearer = λ n fewer b. no_more c.denominator b.parts n apart is.spread b.positive
-        (narrowest (162_000 * n) b) is.rounded_up.least fewer;
+        (is.is_spread.narrowest (2 * b.parts) (2 * reach (162_000 * n) b)
+        (omega (arith, b.positive)) (reached (162_000 * n) b)) is.rounded_up.least fewer;
   }
 
 -- How far directions are apart is one number.

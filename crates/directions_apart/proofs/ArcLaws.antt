@@ -1,12 +1,11 @@
 -- The way round a circle, and arcs that hold angles.
-use Rattle.std.proofs.Common.{◌≡◌, ℕ, suc, ◌+◌, ◌*◌, ◌/◌, ◌%◌, ◌≤◌, ◌<◌, ◌+ℤ◌, ℤ, pos, negsuc}
-use Rattle.std.proofs.Common.{arith, ap, below_more, ◌∙◌}
+use Rattle.std.proofs.Common.{◌≡◌, ℕ, ◌+◌, ◌*◌, ◌/◌, ◌≤◌, ◌<◌, ◌+ℤ◌, ℤ, pos, negsuc, arith, ap}
+use Rattle.std.proofs.Common.{below_more, ◌∙◌}
 use Rattle.std.specs.Prelude.{max}
 use Rattle.std.specs.Int.{int_rem_euclid}
 use Rattle.std.specs.Int.RustNames.{unsigned_abs}
 use Rattle.std.proofs.Math.IntN.{◌*ℤ◌, ◌-ℤ◌}
 use Rattle.std.proofs.lemmas.Int.{ints}
-use native.Mathlib.Decide.{dec_le}
 use Rattle.directions_apart.specs.Arcs.{IsExtent, IsWayRound}
 use Rattle.exact_adjustment.proofs.Products.{none_of, products}
 
@@ -14,7 +13,8 @@ use Rattle.exact_adjustment.proofs.Products.{none_of, products}
 left_of_circles : (z : ℤ) (circle : ℕ) → 1 ≤ circle
     → (turns : ℤ) × (pos (unsigned_abs (int_rem_euclid z (pos circle))) ≡ z +ℤ pos circle *ℤ turns)
     × (unsigned_abs (int_rem_euclid z (pos circle)) < circle)
-left_of_circles (pos a) circle h = (pos 0 -ℤ pos (a / circle), simp products (omega (arith, ints)), omega arith)
+left_of_circles (pos a) circle h =
+    (pos 0 -ℤ pos (a / circle), simp products (omega (arith, ints)), omega arith)
 left_of_circles (negsuc a) circle h = (pos (a / circle + 1), omega (arith, ints), omega arith)
 
 -- The way round from an angle to another is their difference, less full circles.
@@ -52,11 +52,8 @@ pub next_extent : (circle : ℕ) (angle : ℕ → ℤ) (count start extent way :
     → IsExtent circle angle count start extent → IsWayRound circle (angle start) (angle count) way
     → IsExtent circle angle (count + 1) start (max extent way)
 next_extent circle angle count start extent way e w = record {
-  held = λ i h other v. below_more (λ i. (other : ℕ) → IsWayRound circle (angle start) (angle i) other
-      → other ≤ max extent way) count
-      (λ i h other v. let a = e.held i h other v in omega arith)
-      (λ other v. let a = one_way circle (angle start) (angle count) other way v w in omega arith)
-      i h other v;
+  held = below_more _ count (λ i h other v. let a = e.held i h other v in omega arith)
+      (λ other v. let a = one_way circle (angle start) (angle count) other way v w in omega arith);
   narrowest = λ width all.
       let a = e.narrowest width (λ i h. all i (omega arith)) in
       let b = all count (omega arith) way w in

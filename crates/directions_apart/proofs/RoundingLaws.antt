@@ -1,6 +1,6 @@
 -- Rounding to steps, on the circle, and what rounded directions say of every least choice.
-use Rattle.std.proofs.Common.{◌≡◌, ℕ, ◌+◌, ◌*◌, ◌/◌, ◌%◌, ◌≤◌, ◌<◌, ◌≤ℤ◌, ◌<ℤ◌}
-use Rattle.std.proofs.Common.{◌+ℤ◌, ℤ, pos, negsuc, zero, suc, neg_ℤ, arith, ap, ◌∙◌}
+use Rattle.std.proofs.Common.{◌≡◌, ℕ, ◌+◌, ◌*◌, ◌/◌, ◌%◌, ◌≤◌, ◌<◌, ◌≤ℤ◌, ◌<ℤ◌, ◌+ℤ◌, ℤ, pos}
+use Rattle.std.proofs.Common.{negsuc, zero, suc, neg_ℤ, arith, ap, ◌∙◌}
 use Rattle.std.proofs.Math.IntN.{◌*ℤ◌, ◌-ℤ◌}
 use Rattle.std.proofs.Math.Nat.{mod-mod_of_dvd, mul-le-mul, mul-le-mul_right, mul-mod_left}
 use Rattle.std.proofs.lemmas.Int.{ints}
@@ -103,7 +103,8 @@ rounded_near targets step c stated each =
       positive = omega arith;
       rotation = pos 0;
       circles = known.0;
-      each = λ t h. in_parts c.denominator (stated t) step (c.direction t) (known.0 t) (known.1 t h);
+      each = λ t h.
+          in_parts c.denominator (stated t) step (c.direction t) (known.0 t) (known.1 t h);
     }
 
 -- What is brought near is brought less near.

@@ -2,10 +2,8 @@
 use Rattle.std.proofs.Common.{◌≡◌, ◌⊎◌, inl, inr, ℕ, zero, suc, ◌+◌, ◌-◌, ◌*◌, ◌/◌, ◌≤◌, ◌<◌, ◌≤ℤ◌}
 use Rattle.std.proofs.Common.{◌+ℤ◌, ℤ, pos, negsuc, arith, ap, below_more, refl, subst}
 use Rattle.std.specs.Prelude.{min}
-use Rattle.std.specs.Int.{int_rem_euclid}
-use Rattle.std.specs.Int.RustNames.{unsigned_abs}
 use Rattle.std.proofs.Math.IntN.{◌*ℤ◌, ◌-ℤ◌}
-use Rattle.std.proofs.Math.Nat.{le-div_iff_mul-le, mul-le-mul, mul-lt-mul_of_pos_left}
+use Rattle.std.proofs.Math.Nat.{le-div_iff_mul-le, mul-le-mul_left, mul-lt-mul_of_pos_left}
 use Rattle.std.proofs.lemmas.Int.{by_lt_z, ints}
 use native.Mathlib.Decide.{dec_le}
 use Rattle.exact_adjustment.proofs.Products.{products}
@@ -81,36 +79,23 @@ IsNoWider circle angle count start narrowest = (width : ℕ)
     → narrowest ≤ width
 
 module _ (circle : ℕ) (angle : ℕ → ℤ) where
-  -- The way round from one of the angles to another.
-  abbrev onward : (start i : ℕ) → ℕ
-  onward start i = unsigned_abs (int_rem_euclid (angle i -ℤ angle start) (pos circle))
-
-  way_is : (start i : ℕ) → 1 ≤ circle → IsWayRound circle (angle start) (angle i) (onward start i)
-  way_is start i some = way_round_is circle (angle start) (angle i) some
-
-  in_arc : (start i extent : ℕ) → (w : IsWayRound circle (angle start) (angle i) (onward start i))
-      → onward start i ≤ extent
-      → (angle start ≤ℤ (pos 1 *ℤ (angle i +ℤ pos circle *ℤ w.turns)))
-      × ((pos 1 *ℤ (angle i +ℤ pos circle *ℤ w.turns)) ≤ℤ (angle start +ℤ pos extent))
-  in_arc start i extent w h = let t = w.there in (omega (arith, ints), omega (arith, ints))
-
   -- An extent is the width of an arc.
   extent_arc : (count start extent : ℕ) → 1 ≤ circle → IsExtent circle angle count start extent
       → IsArc circle angle count 1 extent
-  extent_arc count start extent some e = record {
-    start = angle start;
-    circles = λ i. (way_is start i some).turns;
-    low = λ i h. (in_arc start i extent (way_is start i some) (e.held i h (onward start i)
-        (way_is start i some))).0;
-    high = λ i h. (in_arc start i extent (way_is start i some) (e.held i h (onward start i)
-        (way_is start i some))).1;
-  }
+  extent_arc count start extent some e =
+      let to = λ (i : ℕ). way_round_is circle (angle start) (angle i) some in
+      record {
+        start = angle start;
+        circles = λ i. (to i).turns;
+        low = λ i h. let t = (to i).there in omega (arith, ints);
+        high = λ i h. let t = (to i).there in let l = e.held i h _ (to i) in omega (arith, ints);
+      }
 
   -- An extent is less than a circle.
   extent_below : (count start extent : ℕ) → 1 ≤ circle
       → IsExtent circle angle count start extent → extent < circle
-  extent_below count start extent some e = let f = e.narrowest (circle - 1) (λ i h size w. (let b =
-      w.below in omega (arith, b))) in omega (arith, f)
+  extent_below count start extent some e =
+      let f = e.narrowest (circle - 1) (λ i h size w. omega (arith, w.below)) in omega (arith, f)
 
   -- The narrowest of the arcs from the first so many angles, or a circle where there is none yet.
   pub record IsNarrowest (count starts narrowest : ℕ) : Type 0 where
@@ -126,30 +111,6 @@ module _ (circle : ℕ) (angle : ℕ → ℤ) where
     least = λ j h. absurd (omega (arith, h));
   }
 
-  next_reached : (count narrowest extent : ℕ) → 1 ≤ circle → extent < circle
-      → (narrowest ≡ circle) ⊎ IsArc circle angle count 1 narrowest
-      → IsArc circle angle count 1 extent
-      → Dec (extent ≤ narrowest) → (min narrowest extent ≡ circle)
-      ⊎ IsArc circle angle count 1 (min narrowest extent)
-  next_reached count narrowest extent some below before here (yes h) = let e : extent
-      ≡ min narrowest extent = omega (arith, h) in inr (subst (IsArc circle angle count 1) e here)
-  next_reached count narrowest extent some below (inr before) here (no h) = let e : narrowest
-      ≡ min narrowest extent = omega (arith, h) in inr (subst (IsArc circle angle count 1) e before)
-  next_reached count narrowest extent some below (inl whole) here (no h) =
-      absurd (omega (arith, h, whole, below))
-
-  next_least : (count starts narrowest extent : ℕ) → IsNarrowest count starts narrowest
-      → IsExtent circle angle count starts extent
-      → (j : ℕ) → j < starts + 1 → Dec (suc j ≤ starts)
-      → IsNoWider circle angle count j (min narrowest extent)
-  next_least count starts narrowest extent n e j h (yes before) width all = let a =
-      n.least j before width all in omega (arith, a)
-  next_least count starts narrowest extent n e j h (no other) width all =
-      let here : j ≡ starts = omega (arith, h, other) in
-      let a = e.narrowest width (subst (λ k. (i : ℕ) → i < count → (way : ℕ)
-      → IsWayRound circle (angle k) (angle i) way → way ≤ width) here all) in
-      omega (arith, a)
-
   -- With one start more it is the narrower of what it was and of the arc from that start.
   pub next_start : (count starts narrowest extent : ℕ) → 1 ≤ circle
       → IsNarrowest count starts narrowest → IsExtent circle angle count starts extent
@@ -157,55 +118,47 @@ module _ (circle : ℕ) (angle : ℕ → ℤ) where
   next_start count starts narrowest extent some n e =
       let short = extent_below count starts extent some e in
       record {
-        reached = next_reached count narrowest extent some short n.reached
-            (extent_arc count starts extent some e) (dec_le extent narrowest);
+        reached = by (dec_le extent narrowest) n.reached;
         below = λ h. omega (arith, short);
-        least = λ j h. next_least count starts narrowest extent n e j h (dec_le (suc j) starts);
+        least = below_more _ starts
+            (λ j h width all. let a = n.least j h width all in omega arith)
+            (λ width all. let a = e.narrowest width all in omega arith);
       }
-
-  module _ (count narrowest : ℕ) (below : narrowest < circle) (least : (j : ℕ) → j < suc count
-      → IsNoWider circle angle (suc count) j narrowest) where
-    narrow : (parts width : ℕ) → 1 ≤ parts → width < parts * circle
-        → (a : IsArc circle angle (suc count) parts width)
-        → (j : ℕ) × IsLowest (λ i. pos parts *ℤ (angle i +ℤ pos circle *ℤ a.circles i))
-        (suc count) j → parts * narrowest ≤ width
-    narrow parts width some short a (j, l) =
-        let most = least j l.inside (width / parts) (λ i h size w.
-        (let within = way_in_arc circle parts width size (angle j) (angle i) (a.circles j)
-        (a.circles i) w.turns a.start some w.below short w.there (a.low j l.inside) (l.low i h)
-        (a.high i h) in
-        divided size within)) in
-        times most
-      where
-        divided : (size : ℕ) → parts * size ≤ width → size ≤ width / parts
-        divided size h = (le-div_iff_mul-le some).1 (omega (arith, h))
-
-        times : narrowest ≤ width / parts → parts * narrowest ≤ width
-        times h = let e = (le-div_iff_mul-le some).0 h in omega (arith, e)
-
-    -- What is no wider than the arcs from all angles is the spread.
-    spread_is : IsArc circle angle (suc count) 1 narrowest
-        → IsSpread circle angle (suc count) narrowest
-    spread_is arc = record {
-      held = arc;
-      narrowest =
-          λ parts width some a. by parts width some a (dec_le (parts * circle) width);
-    }
-      where
-        by : (parts width : ℕ) → 1 ≤ parts → IsArc circle angle (suc count) parts width
-            → Dec (parts * circle ≤ width) → parts * narrowest ≤ width
-        by parts width some a (yes h) = let e : parts * narrowest ≤ parts * circle =
-            mul-le-mul (omega arith) (omega arith) in omega (arith, e, h)
-        by parts width some a (no h) = narrow parts width some (omega (arith, h)) a
-            (lowest (λ i. pos parts *ℤ (angle i +ℤ pos circle *ℤ a.circles i)) count)
+    where
+      by : Dec (extent ≤ narrowest) → (narrowest ≡ circle) ⊎ IsArc circle angle count 1 narrowest
+          → (min narrowest extent ≡ circle) ⊎ IsArc circle angle count 1 (min narrowest extent)
+      by (yes h) before = let m : min narrowest extent ≡ extent = omega arith in
+          inr (rw m (extent_arc count starts extent some e))
+      by (no h) (inr before) = let m : min narrowest extent ≡ narrowest = omega arith in
+          inr (rw m before)
+      by (no h) (inl whole) = inl (omega arith)
 
   -- The narrowest arc from any of the angles is the narrowest of all arcs that hold them.
   pub all_starts : (count narrowest : ℕ) → 1 ≤ count → IsNarrowest count count narrowest
       → IsSpread circle angle count narrowest
-  all_starts zero narrowest some n = absurd (omega (arith, some))
+  all_starts zero narrowest some n = absurd (omega arith)
   all_starts (suc count) narrowest some n = by n.reached
     where
+      narrow : (parts width : ℕ) → 1 ≤ parts → IsArc circle angle (suc count) parts width
+          → Dec (parts * circle ≤ width) → parts * narrowest ≤ width
+      narrow parts width each a (yes h) =
+          let l : narrowest ≤ circle = omega (arith, n.below some) in
+          omega (arith, mul-le-mul_left parts l)
+      narrow parts width each a (no h) =
+          let (j, l) = lowest (λ i. pos parts *ℤ (angle i +ℤ pos circle *ℤ a.circles i)) count in
+          let most = n.least j l.inside (width / parts) (λ i inside size w.
+          let within = way_in_arc circle parts width size (angle j) (angle i) (a.circles j)
+          (a.circles i) w.turns a.start each w.below (omega (arith, h)) w.there
+          (a.low j l.inside) (l.low i inside) (a.high i inside) in
+          (le-div_iff_mul-le each).1 (omega (arith, within))) in
+          let e = (le-div_iff_mul-le each).0 most in
+          omega (arith, e)
+
       by : (narrowest ≡ circle) ⊎ IsArc circle angle (suc count) 1 narrowest
           → IsSpread circle angle (suc count) narrowest
-      by (inl whole) = let b = n.below some in absurd (omega (arith, b, whole))
-      by (inr arc) = spread_is count narrowest (n.below some) n.least arc
+      by (inl whole) = absurd (omega (arith, n.below some))
+      by (inr arc) = record {
+        held = arc;
+        narrowest = λ parts width each a.
+            narrow parts width each a (dec_le (parts * circle) width);
+      }

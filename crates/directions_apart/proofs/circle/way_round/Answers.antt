@@ -1,4 +1,4 @@
-use Rattle.std.proofs.Common.{◌<◌, arith}
+use Rattle.std.proofs.Common.{arith}
 use Rattle.directions_apart.proofs.ArcLaws.{onward_is, past_zero_is}
 use Rattle.directions_apart.proofs.circle.way_round.Goals as goal
 use Rattle.directions_apart.proofs.circle.way_round.Goals.{then-is_below, else-is_below}
@@ -7,10 +7,9 @@ pub returns : goal.returns
 returns c =
     elim c.if-is_below.branch [
       | then-is_below w ↦
-          let below : c.args.to < c.args.from.now = c.is_below.ensures.0 w.if-is_below.true in
-          past_zero_is c.args.circle.now c.args.from.now c.args.to c.subtract.new.self below
-          (omega (arith, c.subtract.ensures, w.way'-is, w.add_product.ensures))
+          past_zero_is c.args.circle.now c.args.from.now c.args.to c.subtract.new.self
+          (c.is_below.ensures.0 w.if-is_below.true) (omega (arith, w.add_product.ensures))
       | else-is_below w ↦
           onward_is c.args.circle.now c.args.from.now c.args.to c.subtract.new.self
-          c.requires.to (omega (arith, c.subtract.ensures, w.way'-is))
+          c.requires.to (omega arith)
     ]

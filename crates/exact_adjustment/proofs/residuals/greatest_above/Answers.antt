@@ -21,7 +21,8 @@ loop-place-preserved c =
     let fits : FitsSigned w8 (get_or a.turns l.place (pos 0)) = search rules in
     let here : c.residual_size-size.result ≡ size_at station a l.place =
     simp (to_z-of_z, c.obs-obs.ensures.value, c.turns-turns.ensures.value)
-    at c.residual_size-size.ensures ∙ sym (size_at_place station a l.place c.requires.each inside) in
+    at c.residual_size-size.ensures
+    ∙ sym (size_at_place station a l.place c.requires.each inside) in
     elim c.if-is_below.branch [
       | then-is_below w ↦
           let more = c.is_below.ensures.0 w.if-is_below.true in
