@@ -2,12 +2,13 @@
 use Rattle.std.proofs.Common.{◌≡◌, ℕ, zero, suc, ◌*◌, ◌%◌, ◌≤◌, ◌<◌, List, [], ◌∷◌, All, length}
 use Rattle.std.proofs.Common.{get_or, ℤ, pos, arith, refl, subst}
 use Rattle.std.proofs.Math.IntN.{◌*ℤ◌, ◌-ℤ◌}
-use Rattle.std.proofs.lemmas.List.{get_or_default, get_or_past}
+use Rattle.std.proofs.lemmas.Int.{ints}
+use Rattle.std.proofs.lemmas.List.{ext_get_or, get_or_default, get_or_past}
 use native.Mathlib.Decide.{dec_le}
 use Rattle.adjust_kernel.specs.Residuals.{Choice}
 use Rattle.adjust_kernel.specs.Stations.{StationValue, IsStation}
 use Rattle.adjust_kernel.specs.declared.bounds.TheConstants.{LARGEST_RESIDUAL_LIMIT}
-use Rattle.adjust_kernel.proofs.Ring.{num, ◌⊖◌, ◌⊗◌, same_value}
+use Rattle.exact_adjustment.proofs.Products.{products}
 use Rattle.directions_apart.proofs.ApartLaws.{AreTurned, as_far_apart, as_near, one_apart}
 use Rattle.directions_apart.proofs.LeastLaws.{are_turned, first_is_0}
 use Rattle.directions_apart.proofs.RoundingLaws.{as_rounded, less_near, one_rounded, rounded_near}
@@ -67,18 +68,6 @@ one_distance station stated a b p q =
     one_apart (length station.targets) c stated a b (p.from_each c turns least)
     (q.from_each c turns least)
 
--- Lists of a length are one where they have the same at each place.
-same_lists : (xs ys : List ℕ) → length xs ≡ length ys
-    → ((t : ℕ) → t < length xs → get_or xs t 0 ≡ get_or ys t 0) → xs ≡ ys
-same_lists [] [] h each = refl
-same_lists [] (y ∷ ys) h each = absurd (omega (arith, h))
-same_lists (x ∷ xs) [] h each = absurd (omega (arith, h))
-same_lists (x ∷ xs) (y ∷ ys) h each =
-    let first : x ≡ y = each 0 (omega arith) in
-    let rest : xs ≡ ys =
-    same_lists xs ys (omega (arith, h)) (λ t inside. each (suc t) (omega (arith, inside))) in
-    (λ i. first i ∷ rest i)
-
 -- Rounded directions are one list.
 pub one_list : (station : StationValue) (step : ℕ) (a b : List ℕ) → 1 ≤ step
     → CIRCLE % step ≡ 0 → AreRounded station step a → AreRounded station step b → a ≡ b
@@ -86,34 +75,22 @@ one_list station step a b some whole p q =
     let least = least_of station p.adjustable in
     let c = choice_by p.adjustable.adjustment in
     let turns = p.adjustable.adjustment.turns in
-    let p_count = p.count in
-    let q_count = q.count in
-    same_lists a b (omega (arith, p_count, q_count)) (λ t inside.
-    one_rounded (from_first c) t step (get_or a t 0) (get_or b t 0) least.positive some whole
-    (p.each t (omega (arith, inside, p_count)) c turns least)
-    (q.each t (omega (arith, inside, p_count)) c turns least))
-
-back_from_first : (d : ℕ) (a first : ℤ)
-    → pos d *ℤ (a -ℤ first) -ℤ pos d *ℤ (a -ℤ pos (d * 80_000_000) *ℤ pos 0)
-    ≡ pos 0 -ℤ pos d *ℤ first
-back_from_first d a first =
-    same_value
-    (num (pos d) ⊗ (num a ⊖ num first)
-    ⊖ num (pos d) ⊗ (num a ⊖ num (pos (d * 80_000_000)) ⊗ num (pos 0)))
-    (num (pos 0) ⊖ num (pos d) ⊗ num first) (omega arith)
+    let count = p.count in
+    ext_get_or 0 a b (omega (arith, q.count)) (λ t inside. one_rounded (from_first c) t step
+    (get_or a t 0) (get_or b t 0) least.positive some whole (p.each t (omega arith) c turns least)
+    (q.each t (omega arith) c turns least))
 
 -- Directions counted from the first are the same but for one rotation.
 from_first_turned : (targets : ℕ) (c : Choice) → AreTurned targets (from_first c) c
 from_first_turned targets c = record {
   turns = λ t. pos 0;
   rotation = pos 0 -ℤ pos c.denominator *ℤ c.direction 0;
-  directions = λ t h. back_from_first c.denominator (c.direction t) (c.direction 0);
+  directions = λ t h. simp products (omega (arith, ints));
 }
 
 as_stated_at : (directions : List ℕ) (t : ℕ) → pos (81 * get_or directions t 0)
     ≡ as_stated directions t
-as_stated_at [] zero = refl
-as_stated_at [] (suc t) = refl
+as_stated_at [] t = refl
 as_stated_at (d ∷ directions) zero = refl
 as_stated_at (d ∷ directions) (suc t) = as_stated_at directions t
 
@@ -139,18 +116,14 @@ rounded_is_near station step directions c turns r least =
 pub rounded_is_apart : (station : StationValue) (step most apart : ℕ) (directions : List ℕ)
     → AreRounded station step directions → step ≤ 2_000 * most
     → AreApart station (as_stated directions) apart → apart ≤ most
-rounded_is_apart station step most apart directions r small is = by (dec_le apart most)
-  where
-    by : Dec (apart ≤ most) → apart ≤ most
-    by (yes h) = h
-    by (no h) =
-        let least = least_of station r.adjustable in
-        let c = choice_by r.adjustable.adjustment in
-        let turns = r.adjustable.adjustment.turns in
-        absurd ((is.from_each c turns least).no_nearer most (omega (arith, h))
-        (less_near (length station.targets) c (as_stated directions) (81 * step) (162_000 * most)
-        (omega (arith, small))
-        (rounded_is_near station step directions c turns r least)))
+rounded_is_apart station step most apart directions r small is =
+    let a = r.adjustable.adjustment in
+    let least = least_of station r.adjustable in
+    let none : most < apart → ⊥ = λ h. (is.from_each (choice_by a) a.turns least).no_nearer most h
+    (less_near (length station.targets) (choice_by a) (as_stated directions) (81 * step)
+    (162_000 * most) (omega (arith, small))
+    (rounded_is_near station step directions (choice_by a) a.turns r least)) in
+    omega (arith, none)
 
 -- Rounded directions of an adjustment are whole steps on the circle, and the first is 0.
 pub each_whole : (a : AdjustmentValue) (step : ℕ) (directions : List ℕ)
@@ -158,8 +131,7 @@ pub each_whole : (a : AdjustmentValue) (step : ℕ) (directions : List ℕ)
     → All (λ d. (d < CIRCLE) × (d % step ≡ 0)) directions
 each_whole a step directions each = λ t other h.
     let r = each t h in
-    subst (λ d. (d < CIRCLE) × (d % step ≡ 0)) (get_or_default directions t 0 other h)
-    (r.below, r.whole)
+    rw (get_or_default directions t other 0 h) (r.below, r.whole)
 
 pub first_rounded : (station : StationValue) (a : AdjustmentValue) (step : ℕ) (directions : List ℕ)
     → IsExact station a → 1 ≤ step → CIRCLE % step ≡ 0

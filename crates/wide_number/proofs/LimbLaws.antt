@@ -1,7 +1,6 @@
 -- Limbs, one more at a time.
-use Rattle.std.proofs.Common.{◌≡◌, ℕ, zero, suc, ◌+◌, ◌*◌, ◌^◌, ◌<◌, ◌≤◌, List, length}
-use Rattle.std.proofs.Common.{get_or, refl, ap, ◌∙◌, arith, add-one, get_or-set_other}
-use Rattle.std.proofs.Common.{get_or-set_same}
+use Rattle.std.proofs.Common.{◌≡◌, ℕ, zero, suc, ◌+◌, ◌*◌, ◌^◌, ◌<◌, ◌≤◌, List, length, get_or}
+use Rattle.std.proofs.Common.{refl, ◌∙◌, arith, add-one, get_or-set_other, get_or-set_same}
 use Rattle.std.specs.Prelude.{set}
 use Rattle.std.proofs.Math.Nat.{mul-le-mul_right, pow-suc}
 use Rattle.wide_number.specs.Limbs.{limb_weight, value_below}
@@ -64,20 +63,6 @@ value_below_less xs ys i fit h =
       mul-le-mul_right (limb_weight i) h,
     )
 
--- One limb's step of adding a product.
-pub product_step : (done a b x y factor carry w limb next : ℕ)
-    → done + carry * w ≡ a + b * factor
-    → limb + next * 2 ^ 64 ≡ x + y * factor + carry
-    → done + limb * w + next * (w * 2 ^ 64) ≡ a + x * w + (b + y * w) * factor
-product_step done a b x y factor carry w limb next h e =
-    omega (arith, ap (λ t. t * w) e)
-
--- One limb's step of a subtraction.
-pub subtract_step : (done a b x y borrow w limb next : ℕ)
-    → done + b ≡ a + borrow * w → limb + y + borrow ≡ x + next * 2 ^ 64
-    → done + limb * w + (b + y * w) ≡ a + x * w + next * (w * 2 ^ 64)
-subtract_step done a b x y borrow w limb next h e = omega (arith, ap (λ t. t * w) e)
-
 -- What is below the next weight has no carry.
 pub no_carry : (value carry w total : ℕ) → value + carry * w ≡ total → total < w → value ≡ total
 no_carry value zero w total e l = omega arith
@@ -89,10 +74,6 @@ pub no_borrow : (value off old borrow w : ℕ) → value + off ≡ old + borrow 
     → value + off ≡ old
 no_borrow value off old zero w e l m = omega arith
 no_borrow value off old (suc n) w e l m = absurd (omega arith)
-
--- What is below a weight stays so with one limb more.
-pub below_step : (done w limb : ℕ) → done < w → limb < 2 ^ 64 → done + limb * w < w * 2 ^ 64
-below_step done w limb l m = omega (arith, l, mul-le-mul_right w m)
 
 -- What has a carry is not below the next weight.
 pub carried : (value carry w addend product : ℕ) → value + carry * w ≡ addend + product

@@ -23,6 +23,7 @@ impl Model for Wide {
 
 impl Wide {
     /// 0.
+    #[tactic(auto, unfolding(crate::specs::Limbs::limb_weight, crate::specs::Limbs::value_below))]
     pub fn zero() -> Wide
         ensures { result ≡ 0 }
     {
@@ -30,6 +31,7 @@ impl Wide {
     }
 
     /// The number that a word of 64 bits holds.
+    #[tactic(auto, unfolding(crate::specs::Limbs::limb_weight, crate::specs::Limbs::value_below))]
     pub fn new(number: u64) -> Wide
         ensures { result ≡ number }
     {
@@ -62,6 +64,7 @@ impl Wide {
     }
 
     /// The number times a factor, with another added; None where that does not fit.
+    #[tactic(auto, using(crate::proofs::LimbLaws::carried), unfolding(crate::specs::Limbs::WIDE_LIMIT))]
     pub fn checked_mul_add(&self, factor: u64, addend: u64) -> Option<Wide>
         ensures some { IfSome result (λ sum. sum ≡ self.now * factor + addend) }
         ensures fits { IfSome result (λ sum. sum < WIDE_LIMIT) }
