@@ -3,8 +3,7 @@ use Rattle.std.proofs.Common.{◌≡◌, ℕ, zero, suc, ◌+◌, ◌<◌, ◌�
 use Rattle.std.proofs.Common.{set, replicate, ℤ, pos, arith, below_more, refl, sym, ◌∙◌, ap, subst}
 use Rattle.std.proofs.Common.{◌==◌, ◌||◌}
 use Rattle.std.proofs.lemmas.Bool.Decides.{nat_tests}
-use Rattle.std.proofs.lemmas.List.{get_or-set_same, get_or-set_other, get_or-replicate, get_or_past}
-use Rattle.std.proofs.lemmas.List.{length-replicate, length-set}
+use Rattle.std.proofs.lemmas.List.{get_or-set_same, get_or-set_other, get_or-replicate, length-set}
 use Rattle.adjust_kernel.specs.Marks.{mark}
 use Rattle.adjust_kernel.specs.Residuals.{Choice, residual}
 use Rattle.adjust_kernel.specs.Stations.{IsStation, StationValue}
@@ -22,13 +21,14 @@ pub record IsCarriedTo (station : StationValue) (turns : List ℤ) (angles : Cho
   pub carried : (n : ℕ) → n < step → Carries station n
       → residual angles (turned_at station turns (place_of station n)) ≡ pos 0
 
-pub start_marked : (station : StationValue) → length station.sets < MOST_NODES
+pub start_marked : (station : StationValue) → IsStation station
     → AreMarked (length station.sets) (length station.targets)
     (set (replicate MOST_NODES false) (length station.sets) true) (reached station zero)
-start_marked station inside =
+start_marked station is =
     record {
       long = length-set none sets true;
-      of_sets = λ s h. get_or-set_other none sets s true false (λ e. omega arith) ∙ none_at s;
+      of_sets = λ s h. get_or-set_other none sets s true false (λ e. omega arith)
+          ∙ get_or-replicate MOST_NODES s false false (omega (arith, is.sets.few));
       of_targets = target;
     }
   where
@@ -38,20 +38,14 @@ start_marked station inside =
     sets : ℕ
     sets = length station.sets
 
-    none_at : (n : ℕ) → mark none n ≡ false
-    none_at n = by (dec_lt n MOST_NODES)
-      where
-        by : Dec (n < MOST_NODES) → mark none n ≡ false
-        by (yes l) = get_or-replicate MOST_NODES n false false l
-        by (no f) = get_or_past none n false (omega (arith, f, length-replicate MOST_NODES false))
-
     target : (t : ℕ) → t < length station.targets → mark (set none sets true) (sets + t) ≡ (t == 0)
     target zero h = ap (λ n. mark (set none sets true) n) (omega arith)
-        ∙ get_or-set_same none sets true false inside
+        ∙ get_or-set_same none sets true false (omega (arith, is.sets.few))
     target (suc t) h =
         let e : (suc t == 0) ≡ false = grind (arith, nat_tests) in
-        get_or-set_other none sets (sets + suc t) true false (λ f. omega (arith, f))
-        ∙ none_at (sets + suc t) ∙ sym e
+        get_or-set_other none sets (sets + suc t) true false (λ f. omega arith)
+        ∙ get_or-replicate MOST_NODES (sets + suc t) false false
+        (omega (arith, is.sets.few, is.targets.few)) ∙ sym e
 
 -- What has an angle keeps it.
 or_true : (x y : Bool) → x ≡ true → (x || y) ≡ true
@@ -74,49 +68,45 @@ module _ (station : StationValue) (is_station : IsStation station) (turns : List
         (h.agrees (reached station step) to.marked);
   }
 
-  module _ (all : (n : ℕ) → n < length station.sets + length station.targets → mark marks n ≡ true)
-    where
-      AllReached : ℕ → Type 0
-      AllReached n = ((s : ℕ) → s < length station.sets → (reached station n).of_set s ≡ true)
-          × ((t : ℕ) → t < length station.targets → (reached station n).of_target t ≡ true)
+  module _ (all : (n : ℕ) → n < length station.sets + length station.targets
+      → mark marks n ≡ true) where
+    abbrev AllReached : ℕ → Type 0
+    AllReached n = ((s : ℕ) → s < length station.sets → (reached station n).of_set s ≡ true)
+        × ((t : ℕ) → t < length station.targets → (reached station n).of_target t ≡ true)
 
-      -- Where all are marked, all are reached.
-      here : AllReached step
-      unfolding AllReached
-      here = (
-        λ s h. sym (to.marked.of_sets s h) ∙ all s (omega (arith, h)),
-        λ t h. sym (to.marked.of_targets t h) ∙ all (length station.sets + t) (omega (arith, h)),
-      )
+    -- Where all are marked, all are reached.
+    here : AllReached step
+    here = (
+      λ s h. sym (to.marked.of_sets s h) ∙ all s (omega (arith, h)),
+      λ t h. sym (to.marked.of_targets t h) ∙ all (length station.sets + t) (omega (arith, h)),
+    )
 
-      pub all_reached : AreReached station
-      unfolding AllReached
-      all_reached = record { steps = step; sets = here.0; targets = here.1 }
+    pub all_reached : AreReached station
+    all_reached = record { steps = step; sets = here.0; targets = here.1 }
 
-      -- And stay so.
-      stay : (n : ℕ) → step ≤ n → AllReached n
-      unfolding AllReached
-      stay zero h = let e : step ≡ 0 = omega arith in subst AllReached e here
-      stay (suc n) h = by (dec_le step n) (stay n)
-        where
-          by : Dec (step ≤ n) → (step ≤ n → AllReached n) → AllReached (suc n)
-          by (yes l) before = (
-            λ s i. or_true _ _ ((before l).0 s i),
-            λ t i. or_true _ _ ((before l).1 t i),
-          )
-          by (no f) before = let e : step ≡ suc n = omega arith in subst AllReached e here
+    -- And stay so.
+    stay : (n : ℕ) → step ≤ n → AllReached n
+    stay zero h = let e : step ≡ 0 = omega arith in subst AllReached e here
+    stay (suc n) h = by (dec_le step n) (stay n)
+      where
+        by : Dec (step ≤ n) → (step ≤ n → AllReached n) → AllReached (suc n)
+        by (yes l) before = (
+          λ s i. or_true _ _ ((before l).0 s i),
+          λ t i. or_true _ _ ((before l).1 t i),
+        )
+        by (no f) before = let e : step ≡ suc n = omega arith in subst AllReached e here
 
-      -- Then nothing carries any more, and all that carried agree.
-      pub all_agree : AgreeWhereCarried station turns angles
-      unfolding AllReached
-      all_agree n carries = ap (residual angles) (seen_at station turns each (place_of station n)
-          nothing_seen (place_inside station is_station n)) ∙ by (dec_lt n step)
-        where
-          by : Dec (n < step)
-              → residual angles (turned_at station turns (place_of station n)) ≡ pos 0
-          by (yes l) = to.carried n l carries
-          by (no f) =
-              let o = is_station.obs.within (place_of station n)
-              (record { set = 0; target = 0; value = 0 }) (place_inside station is_station n) in
-              let r = stay n (omega (arith, f)) in
-              absurd (carries (r.0 (obs_of station n).set o.set
-              ∙ sym (r.1 (obs_of station n).target o.target)))
+    -- Then nothing carries any more, and all that carried agree.
+    pub all_agree : AgreeWhereCarried station turns angles
+    all_agree n carries = ap (residual angles) (seen_at station turns each (place_of station n)
+        nothing_seen (place_inside station is_station n)) ∙ by (dec_lt n step)
+      where
+        by : Dec (n < step)
+            → residual angles (turned_at station turns (place_of station n)) ≡ pos 0
+        by (yes l) = to.carried n l carries
+        by (no f) =
+            let o = is_station.obs.within (place_of station n)
+            (record { set = 0; target = 0; value = 0 }) (place_inside station is_station n) in
+            let r = stay n (omega (arith, f)) in
+            absurd (carries (r.0 (obs_of station n).set o.set
+            ∙ sym (r.1 (obs_of station n).target o.target)))

@@ -1,13 +1,13 @@
 -- An exact adjustment is least, and every other least choice is it but for a rotation and turns.
 use Rattle.std.proofs.Common.{◌≡◌, ℕ, suc, ◌*◌, ◌≤◌, List, [], ◌∷◌, map, length, All, ℤ, pos, arith}
-use Rattle.std.proofs.Common.{ap, refl, sym, ◌∙◌, subst}
+use Rattle.std.proofs.Common.{ap, refl, sym, ◌∙◌}
 use Rattle.std.proofs.lemmas.List.{length-map}
 use Rattle.std.proofs.lemmas.List.Elements.{All-cons}
 use Rattle.std.proofs.Math.IntN.{◌*ℤ◌}
 use Rattle.std.proofs.lemmas.Int.{ints}
 use Rattle.adjust_kernel.specs.declared.bounds.TheConstants.{MOST_ROWS, LARGEST_RESIDUAL_LIMIT}
 use Rattle.adjust_kernel.specs.declared.obs.Obs.{Obs}
-use Rattle.adjust_kernel.specs.Least.{IsNoLargerSum, IsSameSum, sum_beside}
+use Rattle.adjust_kernel.specs.Least.{IsSameSum, sum_beside}
 use Rattle.adjust_kernel.specs.Pairs.{turned_by}
 use Rattle.adjust_kernel.specs.Promises.{IsAdjusted, IsAdjustedOverTurns}
 use Rattle.adjust_kernel.specs.Residuals.{Choice, sum_of_squares}
@@ -51,6 +51,10 @@ module _ (station : StationValue) (a : AdjustmentValue) (is_station : IsStation 
   pub count : length (observed_by station a) ≡ length station.obs
   count = length-turned station.obs a.turns exact.each
 
+  pub again : (turns : List ℤ)
+      → with_turns (observed_by station a) turns ≡ observed_with station turns
+  again turns = turns_again (map (λ o. turned_by o (pos 0)) station.obs) a.turns turns long
+
   pub few : length station.obs ≤ MOST_ROWS
   few = few_obs (length station.sets) (length station.targets) station.obs is_station.obs
       is_station.sets.few is_station.targets.few
@@ -87,26 +91,17 @@ module _ (station : StationValue) (a : AdjustmentValue) (is_station : IsStation 
     is_least = record {
       each = exact.each;
       positive = exact.rules.positive;
-      least = λ other others h positive. subst (λ rs. IsNoLargerSum (choice_by a)
-          (observed_by station a) other rs)
-          (turns_again (map (λ o. turned_by o (pos 0)) station.obs) a.turns others long)
-          (over_turns.least other others (h ∙ sym count) positive);
+      least = λ other others h positive.
+          rw (again others) at (over_turns.least other others (h ∙ sym count) positive);
     }
 
     module _ (c : Choice) (turns : List ℤ) (least : IsLeastOf station c turns) where
-      again : with_turns (observed_by station a) turns ≡ observed_with station turns
-      again = turns_again (map (λ o. turned_by o (pos 0)) station.obs) a.turns turns long
-
       same_sum : IsSameSum (choice_by a) (observed_by station a) c
           (with_turns (observed_by station a) turns)
       same_sum =
-          let low : IsNoLargerSum (choice_by a) (observed_by station a) c
-          (with_turns (observed_by station a) turns) =
-          over_turns.least c turns (least.each ∙ sym count) least.positive in
-          let high : IsNoLargerSum c (with_turns (observed_by station a) turns) (choice_by a)
-          (observed_by station a) =
-          subst (λ rs. IsNoLargerSum c rs (choice_by a) (observed_by station a)) (sym again)
-          (least.least (choice_by a) a.turns exact.each exact.rules.positive) in
+          let low = over_turns.least c turns (least.each ∙ sym count) least.positive in
+          let high = rw (← again turns)
+          at (least.least (choice_by a) a.turns exact.each exact.rules.positive) in
           omega (arith, ints, low, high)
 
       turned : AreTurnedWhole (observed_by station a) turns

@@ -40,13 +40,6 @@ chosen P count known = (λ n. pick n (dec_lt n count), λ n h. is n h (dec_lt n 
     is n h (yes l) = (known n l).1
     is n h (no f) = absurd (f h)
 
--- What an observation's residual changes by, beside angles in whole half units: what its ends do,
--- less what its turns do.
-change_is : (e v : ℕ) (a a' o o' k k' : ℤ) → (a' -ℤ o' -ℤ pos e *ℤ (pos v +ℤ pos TURN *ℤ k'))
-    -ℤ pos e *ℤ (a -ℤ o -ℤ pos 1 *ℤ (pos v +ℤ pos TURN *ℤ k))
-    ≡ (a' -ℤ pos e *ℤ a) -ℤ (o' -ℤ pos e *ℤ o) -ℤ pos (e * TURN) *ℤ (k' -ℤ k)
-change_is e v a a' o o' k k' = simp products (omega (arith, ints))
-
 -- Turns that are less than one beside those of the two ends are none.
 whole_turns : (j limit most e : ℕ) (t s o k k' mt ms : ℤ) → j ≤ 139 → 278 * limit + most < TURN
     → 1 ≤ e → IsWithin (pos (j * (limit * e))) (t -ℤ o -ℤ pos (e * TURN) *ℤ mt)
@@ -61,13 +54,15 @@ whole_turns j limit most e t s o k k' mt ms few small some a b c =
     in
     omega (arith, ints, z)
 
--- What is said of the parts in which sets and targets with an angle lie, one observation further.
+-- All sets and targets with an angle lie in this part.
+abbrev LieIn : (ℕ → Bool) → (ℕ → Bool) → Bool → Reached → Type 0
+LieIn p q part r = ((s : ℕ) → r.of_set s ≡ true → p s ≡ part)
+    × ((t : ℕ) → r.of_target t ≡ true → q t ≡ part)
+
+-- So they do one observation further, if that stands between no parts where it carries.
 one_further : (p q : ℕ → Bool) (part : Bool) (o : Obs) (r : Reached)
     → ((r.of_set o.set ≡ r.of_target o.target → ⊥) → p o.set ≡ q o.target)
-    → ((s : ℕ) → r.of_set s ≡ true → p s ≡ part)
-    × ((t : ℕ) → r.of_target t ≡ true → q t ≡ part)
-    → ((s : ℕ) → (after o r).of_set s ≡ true → p s ≡ part)
-    × ((t : ℕ) → (after o r).of_target t ≡ true → q t ≡ part)
+    → LieIn p q part r → LieIn p q part (after o r)
 one_further p q part o r f h = (λ s e. grind (arith, nat_tests), λ t e. grind (arith, nat_tests))
 
 -- These turns are those but for whole turns of targets and of sets.
@@ -106,14 +101,12 @@ module _ (station : StationValue) (is_station : IsStation station) (ks ls : List
   Ends bound r = IsWithin (pos (bound * c.denominator))
       (direction r.target -ℤ orientation r.set -ℤ pos (c.denominator * TURN) *ℤ r.turn)
 
+  -- What a residual is more than by the angles: what its ends are, less what its turns are.
   change : (n : ℕ) → residual c (turned_at station ls n)
       -ℤ pos c.denominator *ℤ residual near.angles (turned_at station ks n)
       ≡ direction (joint n).target -ℤ orientation (joint n).set
       -ℤ pos (c.denominator * TURN) *ℤ (joint n).turn
-  change n = let o = obs_at station n in
-      rw near.whole (change_is c.denominator o.value (near.angles.direction o.target)
-      (c.direction o.target) (near.angles.orientation o.set) (c.orientation o.set)
-      (get_or ks n (pos 0)) (get_or ls n (pos 0)))
+  change n = rw near.whole (simp products (omega (arith, ints)))
 
   -- The ends of an observation that carries are within the limit of whole turns.
   abbrev IsGiven : TurnedObservation → Type 0
@@ -154,30 +147,28 @@ module _ (station : StationValue) (is_station : IsStation station) (ks ls : List
       by (yes h) before = (given step h, before)
       by (no f) before = before
 
-  -- All that have an angle lie in this part.
-  abbrev LieIn : (p q : ℕ → Bool) (part : Bool) → ℕ → Type 0
-  LieIn p q part steps = ((s : ℕ) → (reached station steps).of_set s ≡ true → p s ≡ part)
-      × ((t : ℕ) → (reached station steps).of_target t ≡ true → q t ≡ part)
-
-  -- So they do where none of those that carry stands between two parts.
+  -- Where none of them stands between two parts, all with an angle lie in one.
   in_part : (p q : ℕ → Bool) (steps : ℕ)
-      → AllByRecursion (λ r. p r.set ≡ q r.target) (carriers steps) → LieIn p q (q 0) steps
+      → AllByRecursion (λ r. p r.set ≡ q r.target) (carriers steps)
+      → LieIn p q (q 0) (reached station steps)
   in_part p q zero h = (λ s e. absurd cc, λ t e. let f : t ≡ 0 = grind (arith, nat_tests) in ap q f)
   in_part p q (suc step) h = by (does_carry step) h (in_part p q step)
     where
       by : (d : Dec (Carries station step)) → AllByRecursion (λ r. p r.set ≡ q r.target)
           (kept_if d (joint (place_of station step)) (carriers step))
-          → (AllByRecursion (λ r. p r.set ≡ q r.target) (carriers step) → LieIn p q (q 0) step)
-          → LieIn p q (q 0) (suc step)
+          → (AllByRecursion (λ r. p r.set ≡ q r.target) (carriers step)
+          → LieIn p q (q 0) (reached station step)) → LieIn p q (q 0) (reached station (suc step))
       by (yes c) g before = one_further p q (q 0) (obs_of station step) (reached station step)
           (λ f. g.0) (before g.1)
       by (no f) g before = one_further p q (q 0) (obs_of station step) (reached station step)
           (λ c. absurd (f c)) (before g)
 
   not_divided : IsDivided sets targets (carriers near.reached.steps) → ⊥
-  not_divided d = by (in_one true d.first_part) (in_one false d.second_part)
+  not_divided d =
+      let e = in_one true d.first_part in let f = in_one false d.second_part in cc
     where
-      all : LieIn d.part_of_set d.part_of_target (d.part_of_target 0) near.reached.steps
+      all : LieIn d.part_of_set d.part_of_target (d.part_of_target 0)
+          (reached station near.reached.steps)
       all = in_part d.part_of_set d.part_of_target near.reached.steps
           (recursion_from_All (λ r. d.part_of_set r.set ≡ d.part_of_target r.target)
           (carriers near.reached.steps) d.none_between)
@@ -186,9 +177,6 @@ module _ (station : StationValue) (is_station : IsStation station) (ks ls : List
           → d.part_of_target 0 ≡ b
       in_one b (inl (s, h, e)) = sym (all.0 s (near.reached.sets s h)) ∙ e
       in_one b (inr (t, h, e)) = sym (all.1 t (near.reached.targets t h)) ∙ e
-
-      by : d.part_of_target 0 ≡ true → d.part_of_target 0 ≡ false → ⊥
-      by e f = cc
 
   all_are_near : AllAreNear sets targets (c.denominator * TURN) (limit * c.denominator) direction
       orientation (sets + targets - 1)

@@ -1,7 +1,7 @@
 -- What has all sums of residuals 0, with turns that are those of an exact adjustment but for whole
 -- turns of targets and of sets, has the same residuals.
-use Rattle.std.proofs.Common.{◌≡◌, ℕ, ◌≤◌, ◌<◌, ◌==◌, if◌then◌else◌, List, [], ◌∷◌, map, length}
-use Rattle.std.proofs.Common.{Bool, get_or, ℤ, pos, ◌+ℤ◌, arith, ap, refl, sym, ◌∙◌}
+use Rattle.std.proofs.Common.{◌≡◌, ℕ, ◌*◌, ◌≤◌, ◌<◌, ◌==◌, if◌then◌else◌, List, [], ◌∷◌, map}
+use Rattle.std.proofs.Common.{length, Bool, ℤ, pos, ◌+ℤ◌, arith, ap, refl, sym, ◌∙◌}
 use Rattle.std.proofs.Math.IntN.{◌*ℤ◌, ◌-ℤ◌}
 use Rattle.std.specs.List.{AllByRecursion}
 use Rattle.std.proofs.lemmas.Int.{ints}
@@ -9,7 +9,6 @@ use Rattle.std.proofs.lemmas.List.{ext_get_or, get_or-map, length-map}
 use Rattle.std.proofs.lemmas.List.Elements.{All-weaker, recursion_from_All}
 use Rattle.adjust_kernel.specs.declared.bounds.TheConstants.{TURN}
 use Rattle.adjust_kernel.specs.Least.{DiffersByRotation}
-use Rattle.adjust_kernel.specs.Pairs.{turned_by}
 use Rattle.adjust_kernel.specs.Residuals.{Choice, residual}
 use Rattle.adjust_kernel.specs.Stations.{StationValue, IsStation}
 use Rattle.adjust_kernel.specs.Sums.{int_sum_where}
@@ -23,16 +22,9 @@ use Rattle.exact_adjustment.specs.Adjustments.{AdjustmentValue, choice_by}
 use Rattle.exact_adjustment.specs.Exact.{AddsUp, IsExact, observed_by}
 use Rattle.exact_adjustment.specs.LeastOf.{AreTied, observed_with}
 use Rattle.exact_adjustment.proofs.ObservedLaws.{nothing_seen, obs_at, seen_at, turned_at}
-use Rattle.exact_adjustment.proofs.ExactLaws.{adjusted, count, long, placed, turns_again}
+use Rattle.exact_adjustment.proofs.ExactLaws.{adjusted, again, count, placed}
 use Rattle.exact_adjustment.proofs.NearTurns.{TurnedBy}
 use Rattle.exact_adjustment.proofs.Products.{products}
-
--- A rotation leaves residuals as they are.
-rotated : (d e v : ℕ) (a a' o o' k rotation : ℤ) → pos e *ℤ a -ℤ pos d *ℤ a' ≡ rotation
-    → pos e *ℤ o -ℤ pos d *ℤ o' ≡ rotation
-    → pos e *ℤ (a -ℤ o -ℤ pos d *ℤ (pos v +ℤ pos TURN *ℤ k))
-    ≡ pos d *ℤ (a' -ℤ o' -ℤ pos e *ℤ (pos v +ℤ pos TURN *ℤ k))
-rotated d e v a a' o o' k rotation f g = simp products (omega (arith, ints, f, g))
 
 module _ (station : StationValue) (a : AdjustmentValue) (is_station : IsStation station)
     (tied : AreTied station) (exact : IsExact station a) (c : Choice) (ls : List ℤ)
@@ -74,8 +66,7 @@ module _ (station : StationValue) (a : AdjustmentValue) (is_station : IsStation 
       ≡ int_sum_where (λ r. p r.set r.target) (residual c) (observed_with station ls)
   sum_is p = sum_taken p rs
       ∙ ap (int_sum_where (λ (r : TurnedObservation). p r.set r.target) (residual c))
-      (ap (with_turns rs) (sym turns_are) ∙ turns_again (map (λ o. turned_by o (pos 0)) station.obs)
-      a.turns ls (long station a is_station tied exact))
+      (ap (with_turns rs) (sym turns_are) ∙ again station a is_station tied exact ls)
 
   below : (key : TurnedObservation → ℕ) (n : ℕ)
       → ((r : TurnedObservation) → IsPlaced (length station.sets) (length station.targets) r
@@ -109,9 +100,8 @@ module _ (station : StationValue) (a : AdjustmentValue) (is_station : IsStation 
   same_residual n inside =
       let o = obs_at station n in
       let within = is_station.obs.within n (record { set = 0; target = 0; value = 0 }) inside in
-      rotated a.denominator c.denominator o.value ((choice_by a).direction o.target)
-      (other.direction o.target) ((choice_by a).orientation o.set) (other.orientation o.set)
-      (get_or a.turns n (pos 0)) differs.rotation (differs.directions o.target within.target)
-      (differs.orientations o.set within.set)
-      ∙ ap (λ y. pos a.denominator *ℤ y) (residual_taken (turned_at station a.turns n)
-      ∙ ap (λ k. residual c (turned_by o k)) (sym (t.each n inside)))
+      let f = simp products at (differs.directions o.target within.target) in
+      let g = simp products at (differs.orientations o.set within.set) in
+      let k = simp products at (ap (λ z. pos (a.denominator * (c.denominator * TURN)) *ℤ z)
+      (t.each n inside)) in
+      simp products (omega (arith, ints))

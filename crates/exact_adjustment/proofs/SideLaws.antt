@@ -1,8 +1,7 @@
 -- The two sides of a sum of residuals, one observation more.
-use Rattle.std.proofs.Common.{◌≡◌, ℕ, zero, suc, ◌+◌, ◌*◌, ◌≤◌, ◌<◌, List, [], ◌∷◌, map, length}
-use Rattle.std.proofs.Common.{get_or, Bool, cond, take, ℤ, pos, negsuc, arith, ap, refl, ◌∙◌}
+use Rattle.std.proofs.Common.{◌≡◌, ℕ, zero, suc, ◌+◌, ◌*◌, ◌<◌, List, [], ◌∷◌, map, length, get_or}
+use Rattle.std.proofs.Common.{Bool, cond, take, ℤ, pos, arith, ap, refl, ◌∙◌}
 use Rattle.std.proofs.Math.IntN.{◌*ℤ◌, ◌-ℤ◌, ◌+ℤ◌}
-use Rattle.std.proofs.Math.Nat.{mul-le-mul_left}
 use Rattle.std.proofs.lemmas.Int.{ints}
 use Rattle.adjust_kernel.specs.declared.bounds.TheConstants.{TURN}
 use Rattle.adjust_kernel.specs.declared.obs.Obs.{Obs}
@@ -11,7 +10,6 @@ use Rattle.adjust_kernel.specs.Sums.{int_sum_where}
 use Rattle.adjust_kernel.specs.TurnedObservations.{TurnedObservation}
 use Rattle.adjust_kernel.proofs.SumLaws.{int_sum_by_more}
 use Rattle.std.proofs.Common.{ap₂}
-use Rattle.std.specs.Int.RustNames.{unsigned_abs}
 use Rattle.adjust_kernel.specs.Residuals.{residual}
 use Rattle.exact_adjustment.specs.Adjustments.{AdjustmentValue, choice_by}
 use Rattle.exact_adjustment.proofs.Products.{products}
@@ -63,12 +61,6 @@ pub sides_step : (left right a o d v lifted lift left2 right2 : ℕ) (k : ℤ)
 sides_step left right a o d v lifted lift left2 right2 k e f g =
     let h = simp products at (ap (λ x. pos d *ℤ x) g) in simp products (omega (arith, ints))
 
--- A side grows by less than 20 turns an observation.
-pub bound_step : (side a d lift i side2 : ℕ) → side2 ≡ side + a + d * lift
-    → side ≤ d * 1_600_000_000 * i → a < d * 80_000_000 → lift ≤ 1_520_000_000
-    → side2 ≤ d * 1_600_000_000 * (i + 1)
-bound_step side a d lift i side2 e h l m = omega (arith, e, h, l, mul-le-mul_left d m)
-
 -- Sides with no difference are equal.
 pub equal_sides : (m n : ℕ) → (pos m -ℤ pos n) ≡ pos 0 → m ≡ n
 equal_sides m n e = omega (arith, ints, e)
@@ -93,8 +85,3 @@ one_step a o d v lifted lift left right k e f g =
 -- What agrees with an observation, by angles in whole half units.
 pub whole_residual : (x y v : ℤ) → x -ℤ y -ℤ v ≡ x -ℤ y -ℤ pos 1 *ℤ v
 whole_residual x y v = omega (arith, ints)
-
-pub none_by_size : (z : ℤ) → unsigned_abs z ≡ 0 → z ≡ pos 0
-none_by_size (pos zero) e = refl
-none_by_size (pos (suc n)) e = absurd (omega (arith, e))
-none_by_size (negsuc n) e = absurd (omega (arith, e))

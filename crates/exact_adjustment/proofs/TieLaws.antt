@@ -1,8 +1,6 @@
 -- What holds a station together, said of rows and of turns.
-use Rattle.std.proofs.Common.{◌≡◌, Bool, true, false, List, [], ◌∷◌, map, length, ℤ, pos, arith, ap}
-use Rattle.std.proofs.Common.{refl, ◌∙◌, subst}
+use Rattle.std.proofs.Common.{◌≡◌, List, [], ◌∷◌, map, length, ℤ, pos, arith, ap, refl, ◌∙◌, subst}
 use Rattle.std.proofs.lemmas.List.{length-map}
-use Rattle.std.specs.Bool.{OnTrue}
 use Rattle.adjust_kernel.specs.Connected.{IsConnected, IsDivided}
 use Rattle.adjust_kernel.specs.Pairs.{turned_by, turned_by_rows}
 use Rattle.adjust_kernel.specs.Stations.{StationValue}
@@ -37,7 +35,3 @@ divided_is_untied station h tied =
     let e : length ks ≡ length station.obs = length-map station.obs (λ (o : Obs). pos 0) in
     tied ks e (subst (IsDivided (length station.sets) (length station.targets))
     (by_rows station.obs ks e) (h (map row_of ks)))
-
-pub on_both : (b : Bool) (P Q R : Type 0) → (P → Q → R) → OnTrue b P → OnTrue b Q → OnTrue b R
-on_both true P Q R f p q = f p q
-on_both false P Q R f p q = tt

@@ -38,6 +38,7 @@ pub fn far()
 
 /// A station has one fault of its own at most: the number of `Residual` is one, and where it stands
 /// the observations hold all sets and targets together.
+#[tactic(auto, using(crate::proofs::LawLemmas::one_fault))]
 pub fn one_fault()
     ensures { (station : StationValue) (fault other : AdjustFault)
         → IsOfStation fault → IsOfStation other
@@ -46,6 +47,7 @@ pub fn one_fault()
 
 /// A station that has an exact adjustment within the largest residual limit, and is held together,
 /// has no fault of its own.
+#[tactic(auto, using(crate::proofs::LawLemmas::never_both))]
 pub fn never_both()
     ensures { (station : StationValue) (a : AdjustmentValue) (fault : AdjustFault)
         → AreTied station → IsExact station a

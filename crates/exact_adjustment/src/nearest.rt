@@ -35,6 +35,7 @@ fn less_both(number: i64, first: i64, second: i64) -> i128
 }
 
 /// By how much angles in whole half units disagree with an observation.
+#[tactic(auto, using(std::proofs::lemmas::Int::ints, crate::proofs::SideLaws::whole_residual))]
 fn disagreement(directions: &[i64], orientations: &[i64], obs: &Obs, turn: i8) -> i128
     requires { IsObs (length orientations.now) (length directions.now) obs.now }
     ensures { result

@@ -1,4 +1,4 @@
-use Rattle.std.proofs.Common.{Some, refl, rules, sym}
+use Rattle.std.proofs.Common.{Some, refl, rules}
 use Rattle.adjust_kernel.specs.declared.bounds.TheConstants.{LARGEST_RESIDUAL_LIMIT}
 use Rattle.exact_adjustment.proofs.FarLaws.{keeps_limit_too}
 use Rattle.exact_adjustment.proofs.ObservedLaws.{above_is_not_kept}

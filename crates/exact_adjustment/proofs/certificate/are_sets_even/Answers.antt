@@ -1,4 +1,4 @@
-use Rattle.std.proofs.Common.{◌≡◌, below_more, pos, refl}
+use Rattle.std.proofs.Common.{below_more, refl}
 use Rattle.exact_adjustment.proofs.certificate.are_sets_even.Goals as goal
 
 pub loop-set-preserved : goal.loop-set-preserved

@@ -1,4 +1,4 @@
-use Rattle.std.proofs.Common.{◌<◌, length, pos, ap, arith, get_or, FitsSigned}
+use Rattle.std.proofs.Common.{◌<◌, length, pos, arith, get_or, FitsSigned}
 use Rattle.std.proofs.lemmas.Int.{ints, to_z-of_z}
 use mir.Syntax.{w8}
 use Rattle.adjust_kernel.specs.Residuals.{choice_of}
@@ -8,14 +8,11 @@ use Rattle.exact_adjustment.proofs.ObservedLaws.{place_inside}
 use Rattle.exact_adjustment.proofs.nearest.are_carried.Goals as goal
 
 pub loop-step-init : goal.loop-step-init
-loop-step-init c =
-    let station = c.args.station.now in
-    let inside : length station.sets < 140 =
-    omega (arith, ap length c.sets-sets.ensures.value, c.sets-sets.ensures.valid.sets.few) in
-    record {
-      marked = rw c.sets-sets.ensures.value (start_marked station inside);
-      carried = λ n below carries. absurd (omega (arith, below));
-    }
+loop-step-init c = record {
+  marked = rw c.sets-sets.ensures.value
+      (start_marked c.args.station.now c.sets-sets.ensures.valid);
+  carried = λ n below carries. absurd (omega (arith, below));
+}
 
 pub returns-then-are_marked-clause-carried : goal.returns-then-are_marked-clause-carried
 returns-then-are_marked-clause-carried c =

@@ -1,19 +1,16 @@
 use Rattle.std.proofs.Common.{refl}
+use Rattle.std.proofs.lemmas.Bool.{OnTrue_at, OnTrue_from}
 use Rattle.adjust_kernel.specs.Residuals.{choice_of}
-use Rattle.exact_adjustment.specs.Nearest.{AgreeWhereCarried, AreReached, HasNearestTurns}
-use Rattle.exact_adjustment.proofs.TieLaws.{on_both}
+use Rattle.exact_adjustment.specs.Nearest.{HasNearestTurns}
 use Rattle.exact_adjustment.proofs.nearest.are_nearest.Goals as goal
 
 pub returns : goal.returns
 returns c =
-    let station = c.args.station.now in
-    let ks = c.args.turns.now in
-    let angles = choice_of 1 c.args.directions.now c.args.orientations.now in
-    on_both c.are_carried.result (AreReached station) (AgreeWhereCarried station ks angles)
-    (HasNearestTurns station ks) (λ reached carried. record {
-      reached = reached;
-      angles = angles;
+    OnTrue_from c.are_carried.result (HasNearestTurns c.args.station.now c.args.turns.now) (λ e.
+    record {
+      reached = OnTrue_at e c.are_carried.ensures.reached;
+      angles = choice_of 1 c.args.directions.now c.args.orientations.now;
       whole = refl;
-      carried = carried;
+      carried = OnTrue_at e c.are_carried.ensures.carried;
       nearest = c.if-not-each_is_nearest.ensures;
-    }) c.are_carried.ensures.reached c.are_carried.ensures.carried
+    })

@@ -1,7 +1,0 @@
-use Rattle.std.proofs.Common.{arith}
-use Rattle.std.proofs.lemmas.Int.{ints, to_z-of_z}
-use Rattle.exact_adjustment.proofs.SideLaws.{whole_residual}
-use Rattle.exact_adjustment.proofs.nearest.disagreement.Goals as goal
-
-pub returns : goal.returns
-returns c = grind (arith, ints, to_z-of_z, whole_residual)
