@@ -1,14 +1,14 @@
 -- The text of a table of all targets is a table of them and of their directions.
-use Rattle.std.specs.Prelude.{◌&&◌, if◌then◌else◌}
+use Rattle.std.specs.Prelude.{if◌then◌else◌}
 use Rattle.std.proofs.Common.{◌≡◌, ◌≢◌, ◌∙◌, ℕ, suc, ◌+◌, ◌*◌, ◌<◌, Bool, true, false, List, []}
-use Rattle.std.proofs.Common.{◌∷◌, ◌++◌, map, length, get_or, All, AllPairs, Some, None, refl, ap}
-use Rattle.std.proofs.Common.{pos, subst, sym, arith, append_assoc, length-append}
+use Rattle.std.proofs.Common.{◌∷◌, ◌++◌, map, length, get_or, take, All, AllPairs, Some, None, refl}
+use Rattle.std.proofs.Common.{ap, pos, subst, sym, arith}
 use Rattle.std.specs.Str.{bytes_eq}
-use Rattle.std.proofs.lemmas.Bool.{false_from_ne_true, ne_eqb}
-use Rattle.std.proofs.lemmas.List.{append-nil, get_or_append_left, get_or-map, length-map}
-use Rattle.std.proofs.lemmas.List.{map-append}
-use Rattle.std.proofs.lemmas.List.Elements.{All-head, All-tail}
+use Rattle.std.proofs.lemmas.Bool.{and_right, false_from_ne_true, ne_eqb}
+use Rattle.std.proofs.lemmas.List.{get_or-map, get_or-take, length-map, length-take, take-map}
+use Rattle.std.proofs.lemmas.List.Elements.{All-head, All-map, All-tail}
 use Rattle.std.proofs.lemmas.List.Folds.{list_any_at, list_any_none}
+use Rattle.std.proofs.lemmas.Simd.{map-map}
 use Rattle.std.proofs.lemmas.Slice.Eq.{bytes_eq-Decides}
 use Rattle.csv.specs.Reading.{strip_bom}
 use Rattle.csv.specs.Writing.{default_writer, field_text, needs_quotes, quoted}
@@ -17,8 +17,7 @@ use Rattle.adjust_kernel.specs.Stations.{AreTargets}
 use Rattle.sheet_format.specs.Rows.{records_of}
 use Rattle.sheet_format.proofs.NameTests.{name-test}
 use Rattle.sheet_format.proofs.TextAgain.{back-entries, records-written}
-use Rattle.direction_table.specs.Faults.{HasNoFault, NoFaultBefore, are_titles, is_first, row_fault}
-use Rattle.direction_table.specs.Faults.{stating_fault}
+use Rattle.direction_table.specs.Faults.{HasNoFault, is_first, row_fault, stating_fault}
 use Rattle.direction_table.specs.FieldForms.{has_name}
 use Rattle.direction_table.specs.PlainTables.{IsPlainRow, IsPlainTable}
 use Rattle.direction_table.specs.Rows.{direction_in, name_of}
@@ -27,7 +26,7 @@ use Rattle.direction_table.specs.Texts.{AreDecimals, IsWhole}
 use Rattle.direction_table.specs.TableTexts.{directions_of, names_of, row_of, table_text}
 use Rattle.direction_table.specs.declared.table.TargetDirection.{TargetDirection}
 use Rattle.direction_table.proofs.NamedTargets.{is_named}
-use Rattle.direction_table.proofs.RowsRead.{clean-end, clean-more}
+use Rattle.direction_table.proofs.RowsRead.{no-fault, states-none}
 use Rattle.direction_table.proofs.TableLengths.{IsWritten, table-short}
 use Rattle.direction_table.proofs.PlainRows.{plain-stands}
 use Rattle.direction_table.proofs.WrittenDirections.{text-form, text-plain, text-range, text-value}
@@ -68,108 +67,60 @@ rows-again count stated ok =
     (map (row_of count) stated) (omega arith)
     ∙ back-entries (row_of count) (λ row. refl) stated)
 
--- Whether a name is among others.
-found : (names : List (List ℕ)) (place : ℕ) (name : List ℕ) → place < length names
-    → get_or names place [] ≡ name → has_name names name ≡ true
-found names place name inside same = list_any_at (is_named name) names place [] inside
-    ((bytes_eq-Decides (get_or names place []) name).1 same)
-
+-- None of others has a name that none of them is.
 not-found : (names : List (List ℕ)) (name : List ℕ) → All (λ other. other ≢ name) names
     → has_name names name ≡ false
 not-found names name others =
-    list_any_none (is_named name) names (λ k d below. false_from_ne_true
-    (bytes_eq (get_or names k d) name) (λ same. others k d below
-    ((bytes_eq-Decides (get_or names k d) name).0 same)))
-
--- A row that states a direction without a fault has none.
-none-then : (targets : List (List ℕ)) (before : List (List (List ℕ))) (row : List (List ℕ))
-    → stating_fault Gon targets before row ≡ None → row_fault Gon targets before row ≡ None
-unfolding row_fault
-none-then targets before row e = by (is_first before && are_titles Gon targets row)
-  where
-    by : (b : Bool) → (if b then None else stating_fault Gon targets before row) ≡ None
-    by true = refl
-    by false = e
+    list_any_none (is_named name) names (λ k d below. false_from_ne_true _ (λ same.
+    others k d below ((bytes_eq-Decides (get_or names k d) name).0 same)))
 
 -- A row of a target, which no row before it names, has no fault.
 clean-row : (targets : List (List ℕ)) (before : List (List (List ℕ))) (count : ℕ)
     (row : TargetDirection) → AreDecimals count → IsWritten count row
     → has_name targets row.name ≡ true → has_name (map name_of before) row.name ≡ false
     → row_fault Gon targets before (row_of count row) ≡ None
-unfolding stating_fault
+unfolding row_fault stating_fault
 clean-row targets before count row few ok known new =
-    none-then targets before (row_of count row) (rw (
+    rw (
       name-test row.name ok.name,
       text-form count row.direction few ok.exact,
       text-range count row.direction few ok.exact,
       known,
       new,
-    ) refl)
-
--- The name after others.
-at-seam : (before rest : List (List ℕ)) (name d : List ℕ)
-    → get_or (before ++ (name ∷ rest)) (length before) d ≡ name
-at-seam [] rest name d = refl
-at-seam (first ∷ before) rest name d = at-seam before rest name d
-
--- What is known of a target's name, where these names stand before it.
-record IsNext (targets before : List (List ℕ)) (name : List ℕ) : Type 0 where
-  known : has_name targets name ≡ true
-  new : has_name before name ≡ false
-
-next-name : (targets before rest : List (List ℕ)) (name : List ℕ) → AreTargets targets
-    → targets ≡ before ++ (name ∷ rest) → IsNext targets before name
-next-name targets before rest name ok same =
-    let size : length targets ≡ length before + suc (length rest) =
-    ap (λ (names : List (List ℕ)). length names) same ∙ length-append before (name ∷ rest) in
-    let inside : length before < length targets = omega (arith, size) in
-    let here : (d : List ℕ) → get_or targets (length before) d ≡ name =
-    λ d. ap (λ (names : List (List ℕ)). get_or names (length before) d) same
-    ∙ at-seam before rest name d in
-    record {
-      known = found targets (length before) name inside (here []);
-      new = not-found before name (λ k d below alike.
-          ok.different k (length before) d below inside
-          (ap (λ (names : List (List ℕ)). get_or names k d) same
-          ∙ get_or_append_left before (name ∷ rest) d k below ∙ alike ∙ sym (here d)));
-    }
+      and_right (is_first before) false refl,
+    ) refl
 
 -- The rows of all targets have no fault.
-clean-from : (targets : List (List ℕ)) (all before : List (List (List ℕ))) (count : ℕ)
-    (rest : List TargetDirection) → AreTargets targets → AreDecimals count
-    → targets ≡ map name_of before ++ names_of rest → all ≡ before ++ map (row_of count) rest
-    → All (IsWritten count) rest → NoFaultBefore Gon targets all (length before)
-    → HasNoFault Gon targets all
-clean-from targets all before count [] ok few names whole written clean =
-    clean-end Gon targets all before (whole ∙ append-nil before) clean
-clean-from targets all before count (row ∷ rest) ok few names whole written clean =
-    let next = next-name targets (map name_of before) (names_of rest) row.name ok names in
-    let none = clean-row targets before count row few
-    (All-head (IsWritten count) row rest written) next.known next.new in
-    clean-from targets all (before ++ (row_of count row ∷ [])) count rest ok few
-    (names ∙ sym (append_assoc (map name_of before) (row.name ∷ []) (names_of rest))
-    ∙ ap (λ (t : List (List ℕ)). t ++ names_of rest)
-    (sym (map-append name_of before (row_of count row ∷ []))))
-    (whole ∙ sym (append_assoc before (row_of count row ∷ []) (map (row_of count) rest)))
-    (All-tail (IsWritten count) row rest written)
-    (clean-more Gon targets all before (map (row_of count) rest)
-    (row_of count row) whole clean none)
+clean-rows : (count : ℕ) (stated : List TargetDirection) → AreTargets (names_of stated)
+    → AreDecimals count → All (IsWritten count) stated
+    → HasNoFault Gon (names_of stated) (map (row_of count) stated)
+clean-rows count stated ok few each = no-fault Gon names rows at
+  where
+    names : List (List ℕ)
+    names = names_of stated
 
--- A row says nothing of other names.
-passed-over : (row : List (List ℕ)) (rows : List (List (List ℕ))) (names : List (List ℕ))
-    → All (λ name. name_of row ≢ name) names → map (direction_in Gon (row ∷ rows)) names
-    ≡ map (direction_in Gon rows) names
-passed-over row rows [] others = refl
-passed-over row rows (name ∷ names) others =
-    let differ : bytes_eq (name_of row) name ≡ false =
-    false_from_ne_true (bytes_eq (name_of row) name)
-    (λ same. All-head (λ other. name_of row ≢ other) name names others
-    ((bytes_eq-Decides (name_of row) name).0 same)) in
-    rw (
-      differ,
-      passed-over row rows names (All-tail
-          (λ other. name_of row ≢ other) name names others),
-    ) refl
+    rows : List (List (List ℕ))
+    rows = map (row_of count) stated
+
+    at : (place : ℕ) → place < length rows
+        → row_fault Gon names (take place rows) (get_or rows place []) ≡ None
+    at place below =
+        let inside : place < length stated = omega (arith, below, length-map stated (row_of count)) in
+        let blank : TargetDirection = record { name = []; direction = 0 } in
+        let row = get_or stated place blank in
+        let is : (d : List ℕ) → get_or names place d ≡ row.name =
+        λ d. get_or-map (λ (r : TargetDirection). r.name) stated place blank d inside in
+        let among : place < length names =
+        omega (arith, inside, length-map stated (λ (r : TargetDirection). r.name)) in
+        rw (get_or-map (row_of count) stated place blank [] inside)
+        (clean-row names (take place rows) count row few (each place blank inside)
+        (list_any_at (is_named row.name) names place [] among
+        ((bytes_eq-Decides (get_or names place []) row.name).1 (is [])))
+        (rw (← take-map name_of place rows, map-map name_of (row_of count) stated)
+        (not-found (take place names) row.name (λ k d early same.
+        let before : k < place = omega (arith, early, length-take place names) in
+        ok.different k place d before among
+        (sym (get_or-take place names k d before) ∙ same ∙ sym (is d))))))
 
 -- The rows of targets state their directions.
 stated-again : (count : ℕ) (stated : List TargetDirection) → AreDecimals count
@@ -181,8 +132,9 @@ stated-again count (row ∷ rest) few different written =
     let own : bytes_eq row.name row.name ≡ true = (bytes_eq-Decides row.name row.name).1 refl in
     let value = text-value count row.direction few
     (All-head (IsWritten count) row rest written).exact in
-    let others = passed-over (row_of count row) (map (row_of count) rest) (names_of rest)
-    (λ k d below. different 0 (suc k) d (omega arith) (omega (arith, below))) in
+    let others = states-none Gon (row_of count row) (map (row_of count) rest) (names_of rest)
+    (not-found (names_of rest) row.name (λ k d below same.
+    different 0 (suc k) d (omega arith) (omega (arith, below)) (sym same))) in
     let later = stated-again count rest few (λ i j d order inside. different (suc i) (suc j) d
     (omega (arith, order)) (omega (arith, inside)))
     (All-tail (IsWritten count) row rest written) in
@@ -192,30 +144,19 @@ stated-again count (row ∷ rest) few different written =
 written : (count : ℕ) (stated : List TargetDirection) → All IsName (names_of stated)
     → All (λ row. IsWhole count row.direction) stated → All (IsWritten count) stated
 written count stated names exact k d below = record {
-  name = subst IsName (get_or-map (λ (row : TargetDirection). row.name) stated k d d.name below)
-      (names k d.name (omega (
-        arith,
-        below,
-        length-map stated
-            (λ (row : TargetDirection). row.name),
-      )));
+  name = rw (get_or-map (λ (row : TargetDirection). row.name) stated k d d.name below) at
+      (names k d.name (omega (arith, below, length-map stated (λ (r : TargetDirection). r.name))));
   exact = exact k d below;
 }
 
 -- The rows are plain.
 each-plain : (count : ℕ) (stated : List TargetDirection) → AreDecimals count
     → All (IsWritten count) stated → All IsPlainRow (map (row_of count) stated)
-each-plain count stated few ok k d below =
-    let inside : k < length stated = omega (arith, below, length-map stated (row_of count)) in
-    let row = get_or stated k (record { name = []; direction = 0 }) in
-    let same : get_or (map (row_of count) stated) k d ≡ row_of count row =
-    get_or-map (row_of count) stated k (record { name = []; direction = 0 }) d inside in
-    subst IsPlainRow (sym same) (record {
-      two = refl;
-      direction = pos (81 * row.direction);
-      plain = text-plain count row.direction few
-          (ok k (record { name = []; direction = 0 }) inside).exact;
-    })
+each-plain count stated few ok = All-map IsPlainRow (row_of count) stated (λ k d below. record {
+  two = refl;
+  direction = pos (81 * (get_or stated k d).direction);
+  plain = text-plain count (get_or stated k d).direction few (ok k d below).exact;
+})
 
 -- The text of a table of all targets is a plain table of them and of their directions.
 pub table-plain : (targets : List (List ℕ)) (count : ℕ) (stated : List TargetDirection)
@@ -234,8 +175,9 @@ table-plain targets count stated ok names few exact =
             (λ (row : TargetDirection). row.name),
       )) few each;
       plain = subst (All IsPlainRow) (sym rows) (each-plain count stated few each);
-      faultless = clean-from targets (records_of (table_text count stated)) [] count stated ok few
-          (sym names) rows each (λ earlier below. absurd (omega (arith, below)));
+      faultless = subst (HasNoFault Gon targets) (sym rows)
+          (subst (λ ns. HasNoFault Gon ns (map (row_of count) stated)) names
+          (clean-rows count stated mine few each));
       stated = ap (λ (all : List (List (List ℕ))). stated_by Gon all targets) rows
           ∙ ap (λ (all : List (List ℕ)). map (direction_in Gon (map (row_of count) stated)) all)
           (sym names)

@@ -24,6 +24,7 @@ pub(crate) struct Columns<'a> {
 
 impl<'a> Columns<'a> {
     /// The columns of a row, if it has two, and after them none that isn't blank.
+    #[tactic(auto, using(crate::proofs::TwoColumns::columns_tidy))]
     pub(crate) fn of(targets: &[Name], row: &'a ByteRecord) -> Option<Columns<'a>>
         ensures { option_map columns_view result
             ≡ columns_of (tidy targets.now (fields_of row.now)) }
@@ -43,6 +44,7 @@ impl<'a> Columns<'a> {
 
 /// Whether a row is one of titles: it has two columns or more, the first of which is no target's
 /// name and the second no direction.
+#[tactic(auto, using(crate::proofs::TwoColumns::titles_tidy))]
 pub(crate) fn are_titles(unit: AngleUnit, targets: &[Name], row: &ByteRecord) -> bool
     ensures { result ≡ faults.are_titles unit targets.now (tidy targets.now (fields_of row.now)) }
 {

@@ -110,6 +110,7 @@ fn first_row(
 }
 
 /// Whether a row begins with a target's name.
+#[tactic(auto, using(crate::proofs::TwoColumns::begins_at))]
 fn begins_with_target(targets: &[Name], row: &ByteRecord) -> bool
     ensures { result ≡ spec.begins_with_target targets.now (fields_of row.now) }
 {
@@ -122,6 +123,7 @@ fn begins_with_target(targets: &[Name], row: &ByteRecord) -> bool
 /// The separator of a table of these targets: the first of comma, semicolon, tab and blanks by
 /// which its first row begins with a target's name; else the first of semicolon, tab and comma that
 /// separates the first row, or blanks.
+#[tactic(auto, unfolding(crate::specs::Separators::separator_of))]
 pub(crate) fn separator_of(
     alloc: Global,
     targets: &[Name],

@@ -1,15 +1,13 @@
 use Rattle.std.proofs.Common.{◌≡◌, ◌≤◌, ◌+◌, length}
-use Rattle.csv.specs.Reading.{strip_bom}
-use Rattle.direction_table.specs.Separators.{byte_of, rows_of}
+use Rattle.direction_table.specs.ByteSteps.{records_left}
+use Rattle.direction_table.specs.Separators.{rows_of}
 use Rattle.direction_table.proofs.RowsRead.{HasRead, rows_left}
 use Rattle.direction_table.proofs.reading.read_rows.Given as goal
 
 abbrev pub invariant-rows : goal.invariant-rows
-invariant-rows l = (l.records.separator ≡ byte_of l.separator)
-    × HasRead l.fn.unit l.targets (rows_of l.targets l.fn.bytes) l.directions.items l.usual_within
-    l.number
-    (rows_left l.separator l.targets l.records.unread.now)
-    × (l.number + length l.records.unread.now ≤ length (strip_bom l.fn.bytes))
+invariant-rows l = HasRead l.fn.unit l.targets (rows_of l.targets l.fn.bytes) l.directions.items
+    l.usual_within l.number (rows_left l.separator l.targets (records_left l.records))
+    × (l.number + length l.records.unread.now ≤ length l.fn.bytes)
     × (length l.directions.items ≡ length l.targets)
 
 abbrev pub decreases-rows : goal.decreases-rows
