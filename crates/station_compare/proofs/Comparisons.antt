@@ -10,8 +10,11 @@ use Rattle.byte_ends.specs.Source.{Told, ReaderChange, given_then}
 use Rattle.direction_table.specs.Tables.{IsTableText}
 use Rattle.direction_table.specs.declared.reading.TheConstants.{LONGEST_TABLE}
 use Rattle.directions_apart.specs.Apart.{stated_by}
+use Rattle.exact_adjustment.proofs.LawLemmas.{never_both}
+use Rattle.exact_adjustment.specs.Faults.{IsAdjustFault, IsOfStation}
+use Rattle.exact_adjustment.specs.declared.fault.AdjustFault.{AdjustFault}
 use Rattle.gsi_file.specs.FileAnswers.{FileAnswers, file_answers}
-use Rattle.least_directions.specs.LeastDirections.{AreApart}
+use Rattle.least_directions.specs.LeastDirections.{AreApart, IsAdjustable}
 use Rattle.station_book.specs.Limits.{FaceLimits}
 use Rattle.station_book.specs.Stations.{SurveyedStation}
 use Rattle.station_check.specs.Answerable.{IsOfFile, file_left}
@@ -26,9 +29,7 @@ use Rattle.station_compare.specs.Directions.{HasNoTable, IsDirectionsText}
 use Rattle.station_compare.specs.Faults.{of_file}
 use Rattle.station_compare.specs.declared.agreement.Agreement.{Agreement}
 use Rattle.station_compare.specs.declared.fault.CompareFault.{CompareFault}
-use Rattle.station_compare.specs.declared.fault.CompareFault.TheVariants.{File, TableRead, Table}
-use Rattle.station_compare.specs.declared.fault.CompareFault.TheVariants.{Adjust, Apart, Write}
-use Rattle.station_compare.specs.declared.fault.CompareFault.TheVariants.{Memory}
+use Rattle.station_compare.specs.declared.fault.CompareFault.TheVariants.{File, Adjust, Memory}
 use Rattle.direction_table.specs.declared.unit.AngleUnit.{AngleUnit}
 
 -- A table that agrees was read to its end.
@@ -37,10 +38,8 @@ ended_by : (unit : AngleUnit) (station : StationValue) (within : Option ℕ) (a 
     → ByInput unit station within input (Ok a)
     → (bytes : List ℕ) × (input ≡ Ended bytes) × IsAgreement unit station bytes within a
 ended_by unit station within a (Ended bytes) h = (bytes, refl, h)
-ended_by unit station within a (BrokeOff bytes) (inl h) = cc
-ended_by unit station within a (BrokeOff bytes) (inr h) = cc
-ended_by unit station within a RanPast (inl h) = cc
-ended_by unit station within a RanPast (inr h) = cc
+ended_by unit station within a (BrokeOff bytes) h = elim h [ inl e ↦ cc | inr e ↦ cc ]
+ended_by unit station within a RanPast h = elim h [ inl e ↦ cc | inr e ↦ cc ]
 
 agrees_of : (unit : AngleUnit) (limits : FaceLimits) (lines : FileAnswers) (stated : Told)
     (name : List ℕ)
@@ -65,15 +64,36 @@ agrees_of unit limits lines stated name within its a station ended = record {
   counted = ended.2.counted;
 }
 
+-- A table that agrees is compared.
+pub compared_of : (unit : AngleUnit) (limits : FaceLimits) (lines : FileAnswers) (stated : Told)
+    (name : List ℕ) (within : Option ℕ) (a : Agreement)
+    → (h : Agrees unit limits lines stated name within a)
+    → IsComparedWith unit h.its.station h.bytes a.apart
+compared_of unit limits lines stated name within a h = record {
+  directions = h.directions;
+  states = h.states;
+  are_apart = record {
+    adjustable = h.adjustable;
+    from_each = λ c turns least. record {
+      brought = h.brought c turns least;
+      no_nearer = λ n fewer. h.no_nearer n fewer c turns least;
+    };
+  };
+}
+
+-- A station that can be adjusted has no fault of its own.
+pub no_adjust_fault : (station : StationValue) (fault : AdjustFault) → IsAdjustable station
+    → IsOfStation fault → IsAdjustFault station fault → ⊥
+no_adjust_fault station fault has own h =
+    never_both station has.adjustment fault has.tied has.exact has.limited own h
+
 -- No fault of the field file comes of the table.
 no_file_fault : (unit : AngleUnit) (its : SurveyedStation) (within : Option ℕ) (fault : Fault)
     (input : Input)
     → ByInput unit its.station within input (Err (File fault)) → ⊥
 no_file_fault unit its within fault (Ended bytes) h = h
-no_file_fault unit its within fault (BrokeOff bytes) (inl h) = cc
-no_file_fault unit its within fault (BrokeOff bytes) (inr h) = cc
-no_file_fault unit its within fault RanPast (inl h) = cc
-no_file_fault unit its within fault RanPast (inr h) = cc
+no_file_fault unit its within fault (BrokeOff bytes) h = elim h [ inl e ↦ cc | inr e ↦ cc ]
+no_file_fault unit its within fault RanPast h = elim h [ inl e ↦ cc | inr e ↦ cc ]
 
 -- What is answered, where the station was found.
 pub compares_by_table : (unit : AngleUnit) (limits : FaceLimits) (lines : FileAnswers)
@@ -87,32 +107,18 @@ compares_by_table unit limits lines stated name within its (Ok a) station h =
     (ended_by unit its.station within a (input_within LONGEST_TABLE stated) h)
 compares_by_table unit limits lines stated name within its (Err (File fault)) station h =
     absurd (no_file_fault unit its within fault (input_within LONGEST_TABLE stated) h)
-compares_by_table unit limits lines stated name within its (Err TableRead) station h =
-    record { its = its; station = station; by_input = h }
-compares_by_table unit limits lines stated name within its (Err (Table fault)) station h =
-    record { its = its; station = station; by_input = h }
-compares_by_table unit limits lines stated name within its (Err (Adjust fault)) station h =
-    record { its = its; station = station; by_input = h }
-compares_by_table unit limits lines stated name within its (Err (Apart apart)) station h =
-    record { its = its; station = station; by_input = h }
-compares_by_table unit limits lines stated name within its (Err Write) station h =
-    record { its = its; station = station; by_input = h }
 compares_by_table unit limits lines stated name within its (Err Memory) station h = tt
+compares_by_table unit limits lines stated name within its (Err fault) station h =
+    record { its = its; station = station; by_input = h }
 
 -- What is answered of a fault of the field file.
 pub compares_by_file : (unit : AngleUnit) (limits : FaceLimits) (lines : FileAnswers)
     (stated : Told) (name : List ℕ)
     (within : Option ℕ) (fault : Fault) → IsOfFile fault → Surveys limits lines (Err fault)
     → Compares unit limits lines stated name within (Err (of_file fault))
-compares_by_file unit limits lines stated name within (file.Gsi fault) o h = h
-compares_by_file unit limits lines stated name within (file.Book fault) o h = h
-compares_by_file unit limits lines stated name within file.SheetRead o h = absurd o
-compares_by_file unit limits lines stated name within (file.Sheet fault) o h = absurd o
 compares_by_file unit limits lines stated name within file.NoStation o h = absurd o
-compares_by_file unit limits lines stated name within (file.Means fault) o h = absurd o
-compares_by_file unit limits lines stated name within (file.Kernel fault) o h = absurd o
-compares_by_file unit limits lines stated name within file.Write o h = absurd o
 compares_by_file unit limits lines stated name within file.Memory o h = tt
+compares_by_file unit limits lines stated name within fault o h = h
 
 -- What a table's directions and how far they are apart say of its bytes.
 pub compared : (unit : AngleUnit) (station : StationValue) (bytes : List ℕ)
@@ -135,37 +141,19 @@ pub left_by_table : (unit : AngleUnit) (its : SurveyedStation) (within : Option 
 left_by_table unit its within (Ok a) input gsi h out = out
 left_by_table unit its within (Err (File fault)) input gsi h out =
     absurd (no_file_fault unit its within fault input h)
-left_by_table unit its within (Err TableRead) input gsi h out = out
-left_by_table unit its within (Err (Table fault)) input gsi h out = out
-left_by_table unit its within (Err (Adjust fault)) input gsi h out = out
-left_by_table unit its within (Err (Apart apart)) input gsi h out = out
-left_by_table unit its within (Err Write) input gsi h out = out
 left_by_table unit its within (Err Memory) input gsi h out = out.unfailed
+left_by_table unit its within (Err fault) input gsi h out = out
 
 -- A fault of the field file leaves the table's reader as it was, and its own as it says.
 pub left_alone : (A : Type 0) (fault : Fault) (table : ReaderChange) → IsUnasked table
     → Leaves {A = A} table_left (Err (of_file fault)) table
-left_alone A (file.Gsi fault) table h = h
-left_alone A (file.Book fault) table h = h
-left_alone A file.SheetRead table h = h
-left_alone A (file.Sheet fault) table h = h
-left_alone A file.NoStation table h = h
-left_alone A (file.Means fault) table h = h
-left_alone A (file.Kernel fault) table h = h
-left_alone A file.Write table h = h
 left_alone A file.Memory table h = h.unfailed
+left_alone A fault table h = h
 
 left_with : (fault : Fault) (gsi : ReaderChange) → IsLeftAs (file_left fault) gsi
     → IsLeftAs (field_file_left (of_file fault)) gsi
-left_with (file.Gsi fault) gsi h = h
-left_with (file.Book fault) gsi h = h
-left_with file.SheetRead gsi h = h
-left_with (file.Sheet fault) gsi h = h
-left_with file.NoStation gsi h = h
-left_with (file.Means fault) gsi h = h
-left_with (file.Kernel fault) gsi h = h
-left_with file.Write gsi h = h
 left_with file.Memory gsi h = h
+left_with fault gsi h = h
 
 pub left_by_file : {A B : Type 0} (s : Result A Fault) (fault : Fault) (r : Result B CompareFault)
     (gsi : ReaderChange) → s ≡ Err fault → r ≡ Err (of_file fault) → Leaves file_left s gsi
@@ -180,13 +168,9 @@ pub left_by_no_table : {T : Type 0} (items : T → List ℕ) (its : SurveyedStat
     → MatchResult r (λ t. IsDirectionsText its.station count (items t)) (HasNoTable its.station)
     → IsReadOut gsi → Leaves field_file_left r gsi
 left_by_no_table items its count (Ok text) gsi h out = out
-left_by_no_table items its count (Err (File fault)) gsi h out = absurd h
-left_by_no_table items its count (Err TableRead) gsi h out = absurd h
-left_by_no_table items its count (Err (Table fault)) gsi h out = absurd h
 left_by_no_table items its count (Err (Adjust fault)) gsi h out = out
-left_by_no_table items its count (Err (Apart apart)) gsi h out = absurd h
-left_by_no_table items its count (Err Write) gsi h out = absurd h
 left_by_no_table items its count (Err Memory) gsi h out = out.unfailed
+left_by_no_table items its count (Err fault) gsi h out = absurd h
 
 -- Of two readers that tell, the answer is of what they tell.
 pub comparison_as_told : (unit : AngleUnit) (limits : FaceLimits) (within : Option ℕ)

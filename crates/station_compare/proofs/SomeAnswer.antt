@@ -1,13 +1,12 @@
 -- Each input has an answer that is not that memory ran out, where it does not rest on an
 -- adjustment.
 use Rattle.std.proofs.Common.{◌≡◌, ◌⊎◌, inl, inr, ℕ, Bool, List, [], ◌∷◌, map, length}
-use Rattle.std.proofs.Common.{Option, Some, None, Result, Ok, Err, ℤ, pos, refl, sym, subst, arith}
+use Rattle.std.proofs.Common.{Option, Some, None, Result, Ok, Err, ℤ, pos, refl, arith}
 use Rattle.std.proofs.lemmas.List.{length-map}
 use Rattle.std.proofs.lemmas.List.Elements.{All-from_recursion, recursion_from_All}
 use Rattle.std.specs.List.{AllByRecursion}
-use Rattle.std.specs.Prelude.{⊤}
 use Rattle.adjust_kernel.proofs.ConnectionLaws.{connected_or_divided}
-use Rattle.adjust_kernel.specs.Connected.{IsConnected, IsDivided}
+use Rattle.adjust_kernel.specs.Connected.{IsDivided}
 use Rattle.adjust_kernel.specs.Pairs.{turned_by}
 use Rattle.adjust_kernel.specs.Stations.{StationValue}
 use Rattle.adjust_kernel.specs.TurnedObservations.{TurnedObservation}
@@ -36,7 +35,7 @@ use Rattle.station_check.specs.Outcomes.{ComesTo, FileComesTo, at_end}
 use Rattle.station_check.specs.StationOfFile.{IsStationOfFile}
 use Rattle.station_check.specs.Surveys.{IsSurvey}
 use Rattle.station_check.specs.declared.fault.Fault.{Fault}
-use Rattle.station_check.specs.declared.fault.Fault.TheVariants as lines
+use Rattle.station_check.specs.declared.fault.Fault.TheVariants.{NoStation}
 use Rattle.station_compare.proofs.Comparisons.{compares_by_table}
 use Rattle.station_compare.specs.Answers.{Compares}
 use Rattle.station_compare.specs.Comparing.{ByInput}
@@ -47,29 +46,19 @@ use Rattle.station_compare.specs.declared.fault.CompareFault.TheVariants.{File, 
 use Rattle.station_compare.specs.declared.fault.CompareFault.TheVariants.{Adjust}
 use Rattle.direction_table.specs.declared.unit.AngleUnit.{AngleUnit}
 
--- A fault of lines is that of the file or of the book.
-abbrev IsOfALine : Fault → Type 0
-IsOfALine (lines.Gsi fault) = ⊤
-IsOfALine (lines.Book fault) = ⊤
-IsOfALine fault = ⊥
+-- Lines come to blocks or to a fault of theirs, and never to this one.
+at_the_end : (past : History) (o : Option BookKind) → Err NoStation ≡ at_end past o → ⊥
+at_the_end past None e = cc
+at_the_end past (Some kind) e = cc
 
-abbrev IsOfALineIfAny : Result History Fault → Type 0
-IsOfALineIfAny (Ok blocks) = ⊤
-IsOfALineIfAny (Err fault) = IsOfALine fault
-
-at_the_end : (past : History) (o : Option BookKind) → IsOfALineIfAny (at_end past o)
-at_the_end past None = tt
-at_the_end past (Some kind) = tt
-
-of_a_line : (limits : FaceLimits) (past : History) (xs : List (List ℕ)) (last : Option FileKind)
-    (r : Result History Fault) → ComesTo limits past xs last r → IsOfALineIfAny r
-of_a_line limits past [] (Some kind) r h = subst IsOfALineIfAny (sym h) tt
-of_a_line limits past [] None r h =
-    subst IsOfALineIfAny (sym h) (at_the_end past (fault_at_end past))
-of_a_line limits past (x ∷ xs) last r (inl h) = subst IsOfALineIfAny (sym h.answer) tt
-of_a_line limits past (x ∷ xs) last r (inr (inl h)) = subst IsOfALineIfAny (sym h.answer) tt
-of_a_line limits past (x ∷ xs) last r (inr (inr h)) =
-    of_a_line limits (h.block ∷ past) xs last r h.after
+never_no_station : (limits : FaceLimits) (past : History) (xs : List (List ℕ))
+    (last : Option FileKind) → ComesTo limits past xs last (Err NoStation) → ⊥
+never_no_station limits past [] (Some kind) h = cc
+never_no_station limits past [] None h = at_the_end past (fault_at_end past) h
+never_no_station limits past (x ∷ xs) last (inl h) = let e = h.answer in cc
+never_no_station limits past (x ∷ xs) last (inr (inl h)) = let e = h.answer in cc
+never_no_station limits past (x ∷ xs) last (inr (inr h)) =
+    never_no_station limits (h.block ∷ past) xs last h.after
 
 -- Whether a station's observations hold it together does not depend on full turns.
 between : (p q : ℕ → Bool) (obs : List Obs) (ks ls : List ℤ) → length ks ≡ length obs
@@ -100,20 +89,12 @@ divided_too station ks ls e d = record {
 
 tied_or_not : (station : StationValue) → AreTied station ⊎ (AreTied station → ⊥)
 tied_or_not station =
-    by (connected_or_divided (length station.sets) (length station.targets)
-    (observed_with station none))
-  where
-    none : List ℤ
-    none = map (λ (o : Obs). pos 0) station.obs
-
-    count : length none ≡ length station.obs
-    count = length-map station.obs (λ (o : Obs). pos 0)
-
-    by : IsConnected (length station.sets) (length station.targets) (observed_with station none)
-        ⊎ IsDivided (length station.sets) (length station.targets) (observed_with station none)
-        → AreTied station ⊎ (AreTied station → ⊥)
-    by (inl c) = inl (λ ks e d. c (divided_too station ks none e d))
-    by (inr d) = inr (λ tied. tied none count d)
+    let none = map (λ (o : Obs). pos 0) station.obs in
+    elim (connected_or_divided (length station.sets) (length station.targets)
+    (observed_with station none)) [
+      | inl c ↦ inl (λ ks e d. c (divided_too station ks none e d))
+      | inr d ↦ inr (λ tied. tied none (length-map station.obs (λ (o : Obs). pos 0)) d)
+    ]
 
 -- What is answered of a station and the bytes of a table.
 module _ (unit : AngleUnit) (station : StationValue) (within : Option ℕ) where
@@ -162,16 +143,9 @@ module _ (unit : AngleUnit) (limits : FaceLimits) (small : AreLimits limits) (fi
       × IsNoMemory r)
       ⊎ IsUpToAdjustment unit limits file stated name
 
-  by_fault : (fault : Fault) → FileComesTo limits file (Err fault) → IsOfALine fault → AnAnswer
-  by_fault (lines.Gsi fault) h of = inl (Err (File (lines.Gsi fault)), h, tt)
-  by_fault (lines.Book fault) h of = inl (Err (File (lines.Book fault)), h, tt)
-  by_fault lines.NoStation h of = absurd of
-  by_fault lines.SheetRead h of = absurd of
-  by_fault (lines.Sheet fault) h of = absurd of
-  by_fault (lines.Means fault) h of = absurd of
-  by_fault (lines.Kernel fault) h of = absurd of
-  by_fault lines.Write h of = absurd of
-  by_fault lines.Memory h of = absurd of
+  by_fault : (fault : Fault) → FileComesTo limits file (Err fault) → AnAnswer
+  by_fault NoStation h = absurd (never_no_station limits [] file.lines file.last h)
+  by_fault fault h = inl (Err (File fault), h, tt)
 
   by_its : (its : SurveyedStation) → IsStationOfFile limits file name its
       → Answer unit its.station within (input_within LONGEST_TABLE stated) → AnAnswer
@@ -190,7 +164,7 @@ module _ (unit : AngleUnit) (limits : FaceLimits) (small : AreLimits limits) (fi
   by_name : (stations : List SurveyedStation) → IsSurvey limits file stations
       → (its : Option SurveyedStation) → station_named name stations ≡ its → AnAnswer
   by_name stations survey None e = inl (
-    Err (File lines.NoStation),
+    Err (File NoStation),
     record { stations = stations; survey = survey; none = e },
     tt,
   )
@@ -200,8 +174,7 @@ module _ (unit : AngleUnit) (limits : FaceLimits) (small : AreLimits limits) (fi
       by_its its of (by_input unit its.station within (input_within LONGEST_TABLE stated))
 
   by_outcome : (came : Result History Fault) → FileComesTo limits file came → AnAnswer
-  by_outcome (Err fault) h =
-      by_fault fault h (of_a_line limits [] file.lines file.last (Err fault) h)
+  by_outcome (Err fault) h = by_fault fault h
   by_outcome (Ok blocks) h =
       let well = came_well limits [] file.lines file.last blocks tt h in
       let survey = book.some_survey limits blocks small well.faultless in

@@ -14,9 +14,7 @@ use Rattle.station_compare.specs.Directions.{HasNoDirections, HasNoTable, IsDire
 use Rattle.station_compare.specs.Directions.{StatesDirections}
 use Rattle.station_compare.specs.Faults.{of_file}
 use Rattle.station_compare.specs.declared.fault.CompareFault.{CompareFault}
-use Rattle.station_compare.specs.declared.fault.CompareFault.TheVariants.{File, TableRead, Table}
-use Rattle.station_compare.specs.declared.fault.CompareFault.TheVariants.{Adjust, Apart, Write}
-use Rattle.station_compare.specs.declared.fault.CompareFault.TheVariants.{Memory}
+use Rattle.station_compare.specs.declared.fault.CompareFault.TheVariants.{File, Memory}
 
 -- What holds of each element's part holds of each element by its part.
 pub all_by_part : {X Y : Type 0} (P : Y → Type 0) (f : X → Y) (xs : List X) → All P (map f xs)
@@ -36,24 +34,14 @@ pub tells_by_station : {T : Type 0} (items : T
 tells_by_station items limits lines name count its (Ok text) station h =
     record { its = its; station = station; directions = h }
 tells_by_station items limits lines name count its (Err (File fault)) station h = absurd h
-tells_by_station items limits lines name count its (Err TableRead) station h = absurd h
-tells_by_station items limits lines name count its (Err (Table fault)) station h = absurd h
-tells_by_station items limits lines name count its (Err (Adjust fault)) station h =
-    record { its = its; station = station; none = h }
-tells_by_station items limits lines name count its (Err (Apart apart)) station h = absurd h
-tells_by_station items limits lines name count its (Err Write) station h = absurd h
 tells_by_station items limits lines name count its (Err Memory) station h = tt
+tells_by_station items limits lines name count its (Err fault) station h =
+    record { its = its; station = station; none = h }
 
 -- What is answered of a fault of the field file.
 pub none_by_file : (limits : FaceLimits) (lines : FileAnswers) (name : List ℕ) (fault : Fault)
     → IsOfFile fault → Surveys limits lines (Err fault)
     → HasNoDirections limits lines name (of_file fault)
-none_by_file limits lines name (file.Gsi fault) o h = h
-none_by_file limits lines name (file.Book fault) o h = h
-none_by_file limits lines name file.SheetRead o h = absurd o
-none_by_file limits lines name (file.Sheet fault) o h = absurd o
 none_by_file limits lines name file.NoStation o h = absurd o
-none_by_file limits lines name (file.Means fault) o h = absurd o
-none_by_file limits lines name (file.Kernel fault) o h = absurd o
-none_by_file limits lines name file.Write o h = absurd o
 none_by_file limits lines name file.Memory o h = tt
+none_by_file limits lines name fault o h = h
