@@ -78,29 +78,3 @@ pub none-left : (d : ℕ) (text : List ℕ)
     → next_record (config_with d) st.StartRecord [] [] text ≡ None
     → records (config_with d) text ≡ []
 none-left d text e = records-end d (length text + 1) st.StartRecord text e
-
--- A text without its byte order mark, by its first bytes.
-pub mark-dropped : (text : List ℕ) → 3 ≤ length text
-    → is_bom (get_or text 0 0) (get_or text 1 0) (get_or text 2 0) ≡ true
-    → drop 3 text ≡ strip_bom text
-unfolding strip_bom
-mark-dropped [] long e = absurd (omega (arith, long))
-mark-dropped (a ∷ []) long e = absurd (omega (arith, long))
-mark-dropped (a ∷ b ∷ []) long e = absurd (omega (arith, long))
-mark-dropped (a ∷ b ∷ c ∷ rest) long e = rw e refl
-
-pub no-mark : (text : List ℕ) → 3 ≤ length text
-    → is_bom (get_or text 0 0) (get_or text 1 0) (get_or text 2 0) ≡ false
-    → text ≡ strip_bom text
-unfolding strip_bom
-no-mark [] long e = refl
-no-mark (a ∷ []) long e = refl
-no-mark (a ∷ b ∷ []) long e = refl
-no-mark (a ∷ b ∷ c ∷ rest) long e = rw e refl
-
-pub short-text : (text : List ℕ) → length text < 3 → text ≡ strip_bom text
-unfolding strip_bom
-short-text [] short = refl
-short-text (a ∷ []) short = refl
-short-text (a ∷ b ∷ []) short = refl
-short-text (a ∷ b ∷ c ∷ rest) short = absurd (omega (arith, short))

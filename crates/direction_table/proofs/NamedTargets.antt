@@ -28,23 +28,23 @@ none-passes p names e = by (nat_lt (position_or_len p names) (length names)) ref
         (omega (arith, past, below)))
 
 -- The target at the place that the search finds has the name.
-pub named-name : (targets : List (List ℕ)) (name : List ℕ) (o : Option ℕ)
+pub named_name : (targets : List (List ℕ)) (name : List ℕ) (o : Option ℕ)
     → o ≡ position (is_named name) targets → IfSome o (λ place. get_or targets place [] ≡ name)
-named-name targets name None e = tt
-named-name targets name (Some place) e =
+named_name targets name None e = tt
+named_name targets name (Some place) e =
     let found = position-Some (is_named name) targets place [] (sym e) in
     (bytes_eq-Decides (get_or targets place []) name).0 found.1
 
 -- Where the search finds a place, some target has the name.
-pub named-some : (targets : List (List ℕ)) (name : List ℕ) (o : Option ℕ)
+pub named_some : (targets : List (List ℕ)) (name : List ℕ) (o : Option ℕ)
     → o ≡ position (is_named name) targets → OnSome o (has_name targets name ≡ true)
-named-some targets name None e = tt
-named-some targets name (Some place) e =
+named_some targets name None e = tt
+named_some targets name (Some place) e =
     let found = position-Some (is_named name) targets place [] (sym e) in
     list_any_at (is_named name) targets place [] found.0 found.1
 
 -- Where the search finds none, no target has the name.
-pub named-none : (targets : List (List ℕ)) (name : List ℕ) (o : Option ℕ)
+pub named_none : (targets : List (List ℕ)) (name : List ℕ) (o : Option ℕ)
     → o ≡ position (is_named name) targets → IfNone o (has_name targets name ≡ false)
-named-none targets name None e = none-passes (is_named name) targets (sym e)
-named-none targets name (Some place) e = tt
+named_none targets name None e = none-passes (is_named name) targets (sym e)
+named_none targets name (Some place) e = tt

@@ -45,6 +45,7 @@ fn is_blank(field: &[u8]) -> bool
 }
 
 /// Whether the fields of a row from a place on are blank.
+#[tactic(auto, using(crate::proofs::FieldsAt::blank_more))]
 pub(crate) fn are_blank_from(row: &ByteRecord, from: usize) -> bool
     ensures { result ≡ list_all spec.is_blank (drop from (fields_of row.now)) }
 {

@@ -19,9 +19,6 @@ use std::alloc::{AllocError, Global};
 /// What stands around a field that holds separators or line ends; in it two stand for one.
 const QUOTE: u8 = b'"';
 
-/// How many bytes a byte order mark has.
-const MARK_LENGTH: usize = 3;
-
 /// Where the next byte of a text stands.
 #[derive(Clone, Copy)]
 pub(crate) enum Place {
@@ -126,13 +123,13 @@ fn is_mark(first: u8, second: u8, third: u8) -> bool
 }
 
 /// A text without the byte order mark at its start.
+#[tactic(auto, unfolding(csv::specs::Reading::strip_bom))]
 fn without_mark(text: &[u8]) -> &[u8]
     ensures { result.now ≡ strip_bom text.now }
 {
-    if text.len() >= MARK_LENGTH && is_mark(text[0], text[1], text[2]) {
-        &text[MARK_LENGTH..]
-    } else {
-        text
+    match text {
+        [first, second, third, rest @ ..] if is_mark(*first, *second, *third) => rest,
+        _ => text,
     }
 }
 

@@ -39,6 +39,7 @@ impl Separator {
 }
 
 /// Puts the fields of a record that have a byte into another record, which has none.
+#[tactic(auto, using(crate::proofs::FieldsAt::kept_more))]
 fn keep_fields(kept: &mut ByteRecord, raw: &ByteRecord) -> Result<(), AllocError>
     requires fields { fields_of kept.old ≡ [] }
     requires partial { partial_of kept.old ≡ [] }
