@@ -1,5 +1,5 @@
 -- The definitions on small tables.
-use Rattle.std.proofs.Common.{◌≡◌, ℕ, true, false, List, [], ◌∷◌, ◌++◌, Some, None, refl}
+use Rattle.std.proofs.Common.{◌≡◌, ℕ, true, false, List, [], ◌∷◌, ◌++◌, map, Some, None, refl}
 use Rattle.std.specs.Prelude.{codes, pos, negsuc}
 use Rattle.csv.proofs.OnLiterals.{csv_on_literals}
 use Rattle.direction_table.specs.Faults.{fault_at, fault_between, row_fault}
@@ -21,63 +21,33 @@ abbrev line : List ℕ → List ℕ
 line text = text ++ (10 ∷ [])
 
 -- Numbers.
-decimal-comma : direction_value Gon (codes "64,52134") ≡ pos 5226228540000
-decimal-comma = refl
+directions : map (direction_value Gon) (codes "64,52134" ∷ codes "-.5" ∷ codes "+7."
+    ∷ codes "50.0000300000" ∷ codes "-400.0000" ∷ [])
+    ≡ pos 5226228540000 ∷ negsuc 40499999999 ∷ pos 567000000000 ∷ pos 4050002430000 ∷ pos 0 ∷ []
+directions = refl
 
-minus : direction_value Gon (codes "-.5") ≡ negsuc 40499999999
-minus = refl
+-- A tenth decimal that is not 0, no digit, and an exponent.
+no-directions : map (is_direction Gon) (codes "50.0000000001" ∷ codes "." ∷ codes "1e-05" ∷ [])
+    ≡ false ∷ false ∷ false ∷ []
+no-directions = refl
 
-plus : direction_value Gon (codes "+7.") ≡ pos 567000000000
-plus = refl
-
-many-decimals : direction_value Gon (codes "50.0000300000") ≡ pos 4050002430000
-many-decimals = refl
-
-tenth-decimal : is_direction Gon (codes "50.0000000001") ≡ false
-tenth-decimal = refl
-
-no-digit : is_direction Gon (codes ".") ≡ false
-no-digit = refl
-
-exponent : is_direction Gon (codes "1e-05") ≡ false
-exponent = refl
-
-full-circle : direction_value Gon (codes "-400.0000") ≡ pos 0
-full-circle = refl
-
-on-circle : is_on_circle Gon (codes "400") ≡ true
+on-circle : map (is_on_circle Gon) (codes "400" ∷ codes "400.000000001" ∷ []) ≡ true ∷ false ∷ []
 on-circle = refl
-
-above : is_on_circle Gon (codes "400.000000001") ≡ false
-above = refl
 
 -- Degrees.
 seconds : direction_value Degrees (codes "-000-00-00.0000010000") ≡ negsuc 24
 seconds = refl
 
-seventh-decimal : is_direction Degrees (codes "59-04-09.1800001") ≡ false
-seventh-decimal = refl
-
-one-digit : is_direction Degrees (codes "59-4-09.18") ≡ false
-one-digit = refl
-
-no-minutes : is_direction Degrees (codes "59-09.18") ≡ false
-no-minutes = refl
-
-sign-alone : is_direction Degrees (codes "59" ++ (194 ∷ 176 ∷ [])) ≡ false
-sign-alone = refl
-
-no-second-sign : is_direction Degrees (codes "59" ++ (194 ∷ 176 ∷ codes "04'09.18")) ≡ false
-no-second-sign = refl
-
-other-sign : is_direction Degrees (codes "59" ++ (194 ∷ 180 ∷ codes "04'09.18\"")) ≡ false
-other-sign = refl
-
-both-forms : is_direction Degrees (codes "59" ++ (194 ∷ 176 ∷ codes "04-09.18\"")) ≡ false
-both-forms = refl
-
-no-degrees : is_direction Degrees (codes "-04-09.18") ≡ false
+-- A seventh decimal of the seconds, minutes of one digit, no minutes, no degrees.
+no-degrees : map (is_direction Degrees) (codes "59-04-09.1800001" ∷ codes "59-4-09.18"
+    ∷ codes "59-09.18" ∷ codes "-04-09.18" ∷ []) ≡ false ∷ false ∷ false ∷ false ∷ []
 no-degrees = refl
+
+-- After 59 the sign of degrees alone, no sign of seconds, another sign, and signs with a hyphen.
+no-signs : map (λ text. is_direction Degrees (codes "59" ++ text)) ((194 ∷ 176 ∷ [])
+    ∷ (194 ∷ 176 ∷ codes "04'09.18") ∷ (194 ∷ 180 ∷ codes "04'09.18\"")
+    ∷ (194 ∷ 176 ∷ codes "04-09.18\"") ∷ []) ≡ false ∷ false ∷ false ∷ false ∷ []
+no-signs = refl
 
 circle-in-degrees : is_on_circle Degrees (codes "360.000000001") ≡ false
 circle-in-degrees = refl
@@ -93,22 +63,12 @@ blank-end : tidy targets (codes "P3" ∷ codes " 1" ∷ codes " " ∷ [] ∷ [])
     ≡ codes "P3" ∷ codes "1" ∷ []
 blank-end = refl
 
--- Separators.
-by-comma : separator_of targets (line (codes "P3,0")) ≡ Comma
+-- Separators: by a comma, a semicolon beside a decimal comma, blanks, and by titles.
+separators : map (λ text. separator_of targets (line text)) (codes "P3,0" ∷ codes "P3;64,5"
+    ∷ codes "  P5  64,5" ∷ codes "Punkt;Richtung, gon" ∷ [])
+    ≡ Comma ∷ Semicolon ∷ Blanks ∷ Semicolon ∷ []
 unfolding csv_on_literals separator_of
-by-comma = refl
-
-by-semicolon : separator_of targets (line (codes "P3;64,5")) ≡ Semicolon
-unfolding csv_on_literals separator_of
-by-semicolon = refl
-
-by-blanks : separator_of targets (line (codes "  P5  64,5")) ≡ Blanks
-unfolding csv_on_literals separator_of
-by-blanks = refl
-
-by-titles : separator_of targets (line (codes "Punkt;Richtung, gon")) ≡ Semicolon
-unfolding csv_on_literals separator_of
-by-titles = refl
+separators = refl
 
 of-a-name : separator_of (codes "P3;64" ∷ []) (line (codes "P3;64,5")) ≡ Comma
 unfolding csv_on_literals separator_of

@@ -7,7 +7,6 @@ pub mod RowsTaken
 pub mod RecordSteps
 pub mod BytesRead
 pub mod RowsRead
-pub mod FirstRows
 pub mod StatedDirections
 pub mod OneAnswer
 pub mod PlainDirections

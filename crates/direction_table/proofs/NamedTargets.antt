@@ -1,10 +1,9 @@
 -- The target that has a name, as a search finds it.
 use Rattle.std.proofs.Common.{◌≡◌, ℕ, Bool, true, false, List, [], length, get_or, Option, None}
-use Rattle.std.proofs.Common.{Some, IfSome, IfNone, OnSome, sym, refl, arith}
-use Rattle.std.specs.Prelude.{nat_lt, if◌then◌else◌}
+use Rattle.std.proofs.Common.{Some, IfSome, IfNone, OnSome, sym, arith, inl, inr}
 use Rattle.std.specs.List.{list_any, position, position_or_len}
 use Rattle.std.specs.Str.{bytes_eq}
-use Rattle.std.proofs.lemmas.Bool.{ltb-false}
+use Rattle.std.proofs.lemmas.Bool.{cases_lt, lt-ltb}
 use Rattle.std.proofs.lemmas.List.Folds.{list_any_at, list_any_none}
 use Rattle.std.proofs.lemmas.List.Quantifiers.{position-Some}
 use Rattle.std.proofs.lemmas.List.Sums.{fails_before_first}
@@ -17,15 +16,11 @@ is_named name target = bytes_eq target name
 
 none-passes : (p : List ℕ → Bool) (names : List (List ℕ)) → position p names ≡ None
     → list_any p names ≡ false
-none-passes p names e = by (nat_lt (position_or_len p names) (length names)) refl e
-  where
-    by : (b : Bool) → nat_lt (position_or_len p names) (length names) ≡ b
-        → (if b then Some (position_or_len p names) else None) ≡ None → list_any p names ≡ false
-    by true h q = cc q
-    by false h q =
-        let past = ltb-false _ _ h in
-        list_any_none p names (λ k d below. fails_before_first p names k d
-        (omega (arith, past, below)))
+none-passes p names e = elim (cases_lt (position_or_len p names) (length names)) [
+  | inl inside ↦ let some = rw (lt-ltb _ _ inside) at e in cc
+  | inr past ↦ list_any_none p names (λ k d below. fails_before_first p names k d
+      (omega (arith, past, below)))
+]
 
 -- The target at the place that the search finds has the name.
 pub named_name : (targets : List (List ℕ)) (name : List ℕ) (o : Option ℕ)

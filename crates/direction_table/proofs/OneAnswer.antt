@@ -1,9 +1,8 @@
 -- Bytes are a table of one list of directions, or have one fault, and never both.
 use Rattle.std.specs.Prelude.{◌⊎◌, ◌≤◌}
 use Rattle.std.proofs.Common.{◌≡◌, ◌∙◌, ℕ, suc, ◌+◌, ◌<◌, List, [], ◌∷◌, map, length, get_or, Option}
-use Rattle.std.proofs.Common.{Some, None, refl, ap, sym, arith, inl, inr, ℤ, pos}
+use Rattle.std.proofs.Common.{Some, None, refl, ap, sym, arith, inl, inr, ℤ}
 use Rattle.std.proofs.lemmas.Bool.{cases_lt}
-use Rattle.std.proofs.lemmas.List.{get_or-map, length-map}
 use Rattle.std.proofs.lemmas.Option.{none-some}
 use Rattle.adjust_kernel.proofs.FirstLaws.{none_or_first, one_first}
 use Rattle.adjust_kernel.specs.Firsts.{IsFirstWhere}
@@ -17,6 +16,7 @@ use Rattle.direction_table.specs.declared.fault.TableFault.TheVariants.{TooLong,
 use Rattle.direction_table.specs.declared.fault.TableFault.TheVariants.{Memory}
 use Rattle.direction_table.specs.declared.reading.TheConstants.{LONGEST_TABLE}
 use Rattle.direction_table.proofs.RowsRead.{past-end}
+use Rattle.direction_table.proofs.StatedDirections.{not-missing}
 use Rattle.direction_table.specs.declared.unit.AngleUnit.{AngleUnit}
 
 -- The directions are what is stated.
@@ -28,13 +28,6 @@ same-directions (x ∷ xs) (y ∷ ys) e =
     let first : x ≡ y = cc e in
     let rest : map Some xs ≡ map Some ys = cc e in
     rw (first, same-directions xs ys rest) refl
-
--- Where all is stated, nothing is missing.
-not-missing : (directions : List ℤ) (place : ℕ) → place < length (map Some directions)
-    → IsNoneAt (map Some directions) place → ⊥
-not-missing directions place inside none = none-some (get_or directions place (pos 0)) (sym none
-    ∙ get_or-map Some directions place (pos 0) None
-    (omega (arith, inside, length-map directions Some)))
 
 -- Where nothing is missing, all is stated.
 all-stated : (stated : List (Option ℤ))

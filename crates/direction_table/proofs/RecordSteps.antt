@@ -1,7 +1,7 @@
 -- Each record takes a byte of the text, whatever separates its fields, so the records of a text are
 -- its first one and those of the rest.
 use Rattle.std.proofs.Common.{◌≡◌, ℕ, zero, suc, ◌<◌, ◌≤◌, true, false, List, []}
-use Rattle.std.proofs.Common.{◌∷◌, length, Option, Some, None, refl, ap, arith, add-one, inl, inr}
+use Rattle.std.proofs.Common.{◌∷◌, length, Option, Some, None, IfSome, refl, ap, arith, add-one, inl, inr}
 use Rattle.std.proofs.lemmas.Bool.{cases_Bool}
 use Rattle.std.proofs.lemmas.Option.{same_Some}
 use Rattle.csv.specs.Machine.{Read, next_record, step, is_end, ends_at_end}
@@ -71,23 +71,29 @@ same-records d (suc n) (suc m) s xs a n-room m-room =
         ap (λ rows. p.0 ∷ rows)
         (after p l.1 (omega (arith, n-room, shorter)) (omega (arith, m-room, shorter)))
 
--- The records of a text are its first one and those of the rest.
-pub first-and-rest : (d : ℕ) (xs : List ℕ) (p : Read)
-    → next_record (config_with d) st.StartRecord [] [] xs ≡ Some p
-    → (records (config_with d) xs ≡ p.0 ∷ records (config_with d) p.2) × (length p.2 < length xs)
+-- The records of a text are its first one, if it has one, and those of the rest.
+pub records_more : (d : ℕ) (xs : List ℕ) → records (config_with d) xs
+    ≡ records_next (λ s rest. records (config_with d) rest)
+    (next_record (config_with d) st.StartRecord [] [] xs)
 unfolding records_from
-first-and-rest d xs p e =
-    let l = next-leaves d st.StartRecord [] [] xs p e in (
-      rw (add-one (length xs), e, add-one (length p.2), ← between d p.1 p.2 l.1)
-          (ap (λ rows. p.0 ∷ rows) (same-records d (length xs) (suc (length p.2)) p.1 p.2 l.1
-          (l.2 refl) (omega arith))),
-      l.2 refl,
-    )
+records_more d xs =
+    rw (add-one (length xs)) (by (next_record (config_with d) st.StartRecord [] [] xs) refl)
+  where
+    by : (o : Option Read) → next_record (config_with d) st.StartRecord [] [] xs ≡ o
+        → records_next (records_from (config_with d) (length xs)) o
+        ≡ records_next (λ s rest. records (config_with d) rest) o
+    by None e = refl
+    by (Some p) e =
+        let l = next-leaves d st.StartRecord [] [] xs p e in
+        ap (λ rows. p.0 ∷ rows) (rw (add-one (length p.2), ← between d p.1 p.2 l.1)
+        (same-records d (length xs) (suc (length p.2)) p.1 p.2 l.1 (l.2 refl) (omega arith)))
 
--- Where no record can be read, the text has no records.
-pub records-end : (d n : ℕ) (s : State) (xs : List ℕ)
-    → next_record (config_with d) s [] [] xs ≡ None
-    → records_from (config_with d) n s xs ≡ []
-unfolding records_from
-records-end d zero s xs e = refl
-records-end d (suc m) s xs e = rw e refl
+-- Its first record takes a byte.
+pub first_shorter : (d : ℕ) (xs : List ℕ)
+    → IfSome (next_record (config_with d) st.StartRecord [] [] xs) (λ p. length p.2 < length xs)
+first_shorter d xs = by (next_record (config_with d) st.StartRecord [] [] xs) refl
+  where
+    by : (o : Option Read) → next_record (config_with d) st.StartRecord [] [] xs ≡ o
+        → IfSome o (λ p. length p.2 < length xs)
+    by None e = tt
+    by (Some p) e = (next-leaves d st.StartRecord [] [] xs p e).2 refl

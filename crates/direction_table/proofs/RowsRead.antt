@@ -11,7 +11,7 @@ use Rattle.std.proofs.lemmas.Bool.{and_parts, cases_eq, cases_lt, eq-eqb, false_
 use Rattle.std.proofs.lemmas.Bool.{not-true, or_parts}
 use Rattle.std.proofs.lemmas.Slice.Eq.{bytes_eq-Decides}
 use Rattle.std.proofs.lemmas.List.{append-nil, drop_all, take_all, take_at}
-use Rattle.csv.specs.Reading.{is_bom, strip_bom}
+use Rattle.csv.specs.Reading.{is_bom, records, strip_bom}
 use Rattle.direction_table.specs.ByteSteps.{records_left}
 use Rattle.direction_table.specs.Faults.{HasNoFault, IsFirstFaultOfTable, NoFaultBefore, are_titles}
 use Rattle.direction_table.specs.Faults.{fault_at, fault_between, is_first, row_fault}
@@ -19,7 +19,7 @@ use Rattle.direction_table.specs.Faults.{stating_fault}
 use Rattle.direction_table.specs.Directions.{is_direction}
 use Rattle.direction_table.specs.FieldForms.{has_name, tidy}
 use Rattle.direction_table.specs.Rows.{beside_name, name_of}
-use Rattle.direction_table.specs.Separators.{byte_of, kept, rows_of}
+use Rattle.direction_table.specs.Separators.{byte_of, config_of, kept, rows_of}
 use Rattle.direction_table.specs.Separators.{separator_of}
 use Rattle.direction_table.specs.Tables.{stated_by}
 use Rattle.direction_table.specs.UsualLimits.{row_limit, usual_within}
@@ -27,7 +27,6 @@ use Rattle.direction_table.specs.declared.fault.RowKind.{RowKind}
 use Rattle.direction_table.specs.declared.records.Records.{Records}
 use Rattle.direction_table.specs.declared.separator.Separator.{Separator}
 use Rattle.direction_table.specs.declared.unit.AngleUnit.{AngleUnit}
-use Rattle.direction_table.proofs.FirstRows.{begun}
 
 -- The rows that are left of a text, tidied, by the records that are left of it.
 abbrev pub rows_left : Separator → List (List ℕ) → List (List (List ℕ)) → List (List (List ℕ))
@@ -39,7 +38,9 @@ pub all-left : (s : Separator) (targets : List (List ℕ)) (left : Records) (byt
     → left.unread.now ≡ strip_bom bytes
     → rows_of targets bytes ≡ rows_left s targets (records_left left)
 unfolding rows_of
-all-left s targets left bytes e own is = rw (← e, begun s left bytes own is) refl
+all-left s targets left bytes e own is =
+    let begun : records_left left ≡ records (config_of s) (strip_bom bytes) = rw (own, is) refl in
+    rw (← e, begun) refl
 
 -- What one of two names is not, the other is not.
 apart : (a b : List ℕ) → bytes_eq a b ≡ false → bytes_eq b a ≡ false

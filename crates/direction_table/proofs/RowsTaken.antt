@@ -1,31 +1,30 @@
 -- The directions that rows state, as one more row comes.
-use Rattle.std.proofs.Common.{◌≡◌, ◌≢◌, ◌∙◌, ℕ, ◌<◌, Bool, true, false, List, [], ◌∷◌, ◌++◌, map}
+use Rattle.std.proofs.Common.{◌≡◌, ◌≢◌, ◌∙◌, ℕ, ◌<◌, Bool, false, List, [], ◌∷◌, ◌++◌, map}
 use Rattle.std.proofs.Common.{length, get_or, Option, None, Some, refl, sym, ap, arith, ℤ, inl, inr}
 use Rattle.std.proofs.Common.{length-set, get_or-set_other, get_or-set_same, Result, Ok, Err}
 use Rattle.std.specs.Prelude.{◌⊎◌, ◌≤◌, not, slice_set}
 use Rattle.std.specs.Option.{is_some, option_or}
-use Rattle.std.specs.Result.{IfErr, IsErr, IsErrAnd, MatchResult}
+use Rattle.std.specs.Result.{IsErr, IsErrAnd, MatchResult}
 use Rattle.std.specs.Str.{bytes_eq}
 use Rattle.std.proofs.lemmas.Bool.{cases_Bool, cases_eq, cases_lt, false_from_ne_true}
 use Rattle.std.proofs.lemmas.List.{ext_get_or, get_or-map, length-map}
 use Rattle.std.proofs.lemmas.Slice.Eq.{bytes_eq-Decides}
 use Rattle.adjust_kernel.specs.Stations.{AreTargets}
 use Rattle.direction_table.specs.Faults.{entry_fault, stating_fault, unless}
-use Rattle.direction_table.specs.Directions.{direction_value, is_direction, step_in}
+use Rattle.direction_table.specs.Directions.{direction_value}
 use Rattle.direction_table.specs.Rows.{Fields, columns_of, direction_in, name_of}
 use Rattle.direction_table.specs.FieldForms.{has_name}
-use Rattle.direction_table.specs.UsualLimits.{limit_of_step, row_limit}
 use Rattle.direction_table.specs.declared.fault.RowKind.TheVariants as fault
 use Rattle.direction_table.specs.declared.unit.AngleUnit.{AngleUnit}
 use Rattle.direction_table.proofs.TwoColumns.{row-is}
 
 -- Rows state a direction of a name exactly where one of them has the name.
-stated-is : (unit : AngleUnit) (rows : List (List (List ℕ))) (name : List ℕ)
+pub stated_is : (unit : AngleUnit) (rows : List (List (List ℕ))) (name : List ℕ)
     → is_some (direction_in unit rows name) ≡ has_name (map name_of rows) name
-stated-is unit [] name = refl
-stated-is unit (row ∷ rows) name = elim (cases_Bool (bytes_eq (name_of row) name)) [
+stated_is unit [] name = refl
+stated_is unit (row ∷ rows) name = elim (cases_Bool (bytes_eq (name_of row) name)) [
   | inl e ↦ rw e refl
-  | inr e ↦ rw e (stated-is unit rows name)
+  | inr e ↦ rw e (stated_is unit rows name)
 ]
 
 -- With one more row they state what they stated, or else what it states.
@@ -70,7 +69,7 @@ module _ {unit : AngleUnit} {targets : List (List ℕ)} {before : List (List (Li
   unfolding stating_fault
   fault-taken {there} e =
       let has : has_name (map name_of before) c.name ≡ there =
-      sym (stated-is unit before c.name) ∙ sym (ap is_some kept) ∙ e in
+      sym (stated_is unit before c.name) ∙ sym (ap is_some kept) ∙ e in
       rw (t.columns, t.clean, has) refl
 
   -- The names of two places are not alike.
@@ -131,19 +130,7 @@ module _ {unit : AngleUnit} {targets : List (List ℕ)} {before : List (List (Li
           ])
 
 -- What an error is handed on with says what follows from what was known of it.
-pub lifted : {T E : Type 0} (r : Result T E) (P Q : E → Type 0) → IsErrAnd r P
-    → ((k : E) → P k → Q k) → IfErr r Q
-lifted (Ok x) P Q h f = tt
-lifted (Err k) P Q h f = f k h
-
--- The same, in the cases of an answer that is known to be an error.
 pub lifted-cases : {T E : Type 0} (r : Result T E) (P Q : E → Type 0) (R : T → Type 0)
     → IsErr r × IsErrAnd r P → ((k : E) → P k → Q k) → MatchResult r R Q
 lifted-cases (Ok x) P Q R h f = cc (h.0)
 lifted-cases (Err k) P Q R h f = f k h.1
-
--- The limit of a row is that of the step of its direction.
-pub limit-taken : (unit : AngleUnit) (row : List (List ℕ)) (c : Fields)
-    → columns_of row ≡ Some c → is_direction unit c.direction ≡ true
-    → limit_of_step (step_in unit c.direction) ≡ row_limit unit row
-limit-taken unit row c columns form = rw (row-is row c columns, form) refl

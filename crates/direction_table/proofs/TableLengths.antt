@@ -1,7 +1,7 @@
 -- The text of a table of all targets is far shorter than a table may be.
-use Rattle.std.proofs.Common.{◌≡◌, ℕ, ◌+◌, ◌*◌, ◌≤◌, List, [], ◌∷◌, ◌++◌, length, All, arith}
+use Rattle.std.proofs.Common.{ℕ, ◌+◌, ◌*◌, ◌≤◌, List, [], ◌∷◌, length, All, arith}
 use Rattle.std.proofs.Common.{length-append}
-use Rattle.csv.specs.Writing.{default_writer, field_text, fields_text, is_blank, row_text}
+use Rattle.csv.specs.Writing.{default_writer, fields_text, is_blank, row_text}
 use Rattle.adjust_kernel.specs.Names.{IsName}
 use Rattle.adjust_kernel.specs.declared.bounds.TheConstants.{MOST_TARGETS}
 use Rattle.sheet_format.proofs.TextLengths.{IsShort, entries-short, length-field}
@@ -17,19 +17,10 @@ pub record IsWritten (count : ℕ) (stated : TargetDirection) : Type 0 where
   pub exact : IsWhole count stated.direction
 
 -- The text of a row of two fields.
-joined-length : (a b : List ℕ) → length ((a ++ (44 ∷ (b ++ []))) ++ (10 ∷ []))
-    ≡ length a + length b + 2
-joined-length a b =
-    let second = b ++ [] in
-    let both = a ++ (44 ∷ second) in
-    omega (arith, length-append b [], length-append a (44 ∷ second), length-append both (10 ∷ []))
-
 length-row : (a b : List ℕ) → length (row_text default_writer (a ∷ b ∷ []))
     ≤ 2 * (length a + length b) + 6
 unfolding fields_text is_blank
-length-row a b =
-    let joined = joined-length (field_text default_writer a) (field_text default_writer b) in
-    omega (arith, joined, length-field a, length-field b)
+length-row a b = omega (arith, length-append {A = ℕ}, length-field a, length-field b)
 
 row-short : (count : ℕ) → AreDecimals count → (stated : TargetDirection) → IsWritten count stated
     → IsShort (row_of count stated)

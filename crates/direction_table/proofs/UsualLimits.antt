@@ -1,6 +1,7 @@
 -- The limits by the number of decimals.
 use Rattle.std.proofs.Common.{◌≡◌, ℕ, zero, suc, ◌+◌, ◌*◌, ◌≤◌, refl, arith}
 use Rattle.std.specs.Prelude.{◌-◌, ◌^◌}
+use Rattle.std.proofs.Math.Nat.{pow-le-pow_right}
 use Rattle.direction_table.specs.Texts.{step_of}
 use Rattle.direction_table.specs.UsualLimits.{limit_of_step}
 
@@ -13,15 +14,8 @@ few (suc (suc (suc zero))) some most = refl
 few (suc (suc (suc (suc zero)))) some most = refl
 few (suc (suc (suc (suc (suc k))))) some most = absurd (omega (arith, most))
 
-small-power : (k : ℕ) → k ≤ 4 → 10 ^ k ≤ 10000
-small-power zero h = omega arith
-small-power (suc zero) h = omega arith
-small-power (suc (suc zero)) h = omega arith
-small-power (suc (suc (suc zero))) h = omega arith
-small-power (suc (suc (suc (suc zero)))) h = omega arith
-small-power (suc (suc (suc (suc (suc k))))) h = absurd (omega (arith, h))
-
 pub many : (decimals : ℕ) → 5 ≤ decimals → limit_of_step (81 * step_of decimals) ≤ 10
 many decimals enough =
-    let small = small-power (9 - decimals) (omega (arith, enough)) in
+    let few : 9 - decimals ≤ 4 = omega (arith, enough) in
+    let small : 10 ^ (9 - decimals) ≤ 10 ^ 4 = pow-le-pow_right (omega arith) few in
     omega (arith, small)

@@ -1,29 +1,33 @@
-use Rattle.direction_table.proofs.Sizes.{size-no-fraction, size-no-whole, size-whole}
+use Rattle.std.proofs.Common.{false, refl}
+use Rattle.std.proofs.lemmas.Bool.{and_right}
 use Rattle.direction_table.proofs.gon.size_of.Goals as goal
 
 pub returns-in_err-gon-clause-none : goal.returns-in_err-gon-clause-none
 returns-in_err-gon-clause-none c =
-    rw c.from_residual.ensures (size-no-whole c.args.bytes.now _ _ _ _ (record {
-      mark = c.mark_of.ensures.value;
-      before = c.split_at.ensures.front;
-      after = c.split_at.ensures.back;
-      rest = c.after_first-decimals.ensures.value;
-    }) c.in_err-gon.ensures.none)
+    rw (
+      c.from_residual.ensures,
+      ← c.mark_of.ensures.value,
+      ← c.split_at.ensures.front,
+      c.in_err-gon.ensures.none,
+    ) (and_right _ false refl)
 
 pub returns-in_err-fraction-clause-none : goal.returns-in_err-fraction-clause-none
 returns-in_err-fraction-clause-none c =
-    rw c.from_residual-in_err-fraction.ensures (size-no-fraction c.args.bytes.now _ _ _ _ (record {
-      mark = c.mark_of.ensures.value;
-      before = c.split_at.ensures.front;
-      after = c.split_at.ensures.back;
-      rest = c.after_first-decimals.ensures.value;
-    }) c.in_err-fraction.ensures.none)
+    rw (
+      c.from_residual-in_err-fraction.ensures,
+      ← c.mark_of.ensures.value,
+      ← c.split_at.ensures.back,
+      ← c.after_first-decimals.ensures.value,
+      c.in_err-fraction.ensures.none,
+    ) (and_right _ _ (and_right _ false refl))
 
 pub returns-clause-value : goal.returns-clause-value
 returns-clause-value c =
-    size-whole c.args.bytes.now _ _ _ _ (record {
-      mark = c.mark_of.ensures.value;
-      before = c.split_at.ensures.front;
-      after = c.split_at.ensures.back;
-      rest = c.after_first-decimals.ensures.value;
-    }) _ _ c.in_ok-gon.ensures.value c.in_ok-fraction.ensures.value
+    rw (
+      ← c.mark_of.ensures.value,
+      ← c.split_at.ensures.front,
+      ← c.split_at.ensures.back,
+      ← c.after_first-decimals.ensures.value,
+      ← c.in_ok-gon.ensures.value,
+      ← c.in_ok-fraction.ensures.value,
+    ) refl
