@@ -2,13 +2,14 @@
 use Rattle.std.proofs.Common.{◌≡◌, ℕ, ◌+◌, ◌<◌, ◌≤◌, List, [], ◌∷◌, ◌++◌, length, get_or, drop}
 use Rattle.std.proofs.Common.{Option, Some, None, refl}
 use Rattle.std.specs.Prelude.{if◌then◌else◌}
-use Rattle.std.proofs.lemmas.List.{drop_all, drop_more}
+use Rattle.std.proofs.lemmas.List.{drop_all, drop_more, take_rest}
 use Rattle.csv.specs.Machine.{Read, ends_at_end, field_after, fields_after, is_end, next_record}
 use Rattle.csv.specs.Machine.{step}
 use Rattle.csv.specs.declared.parser.Action.{Action}
 use Rattle.csv.specs.declared.parser.State.{State}
 use Rattle.csv.specs.declared.parser.State.TheVariants as st
 use Rattle.direction_table.specs.ByteSteps.{config_with}
+use Rattle.direction_table.proofs.RecordSteps.{first_shorter, records_more}
 
 -- What a byte does with the record that is read, by what the machine says of it.
 abbrev pub after_byte : ℕ → State × Action → ℕ → List (List ℕ) → List ℕ → List ℕ → Option Read
@@ -32,3 +33,6 @@ module _ (d : ℕ) (from : State) (fields : List (List ℕ)) (field text : List 
       ≡ (if ends_at_end from then Some (fields ++ (field ∷ []), st.StartRecord, []) else None)
   unfolding next_record
   text_end past = rw (drop_all at text past) refl
+
+-- By these a reader of records is proved.
+pub ruleset byte_by_byte = (byte_more, text_end, records_more, first_shorter, take_rest)

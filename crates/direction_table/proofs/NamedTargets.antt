@@ -43,3 +43,6 @@ pub named_none : (targets : List (List ℕ)) (name : List ℕ) (o : Option ℕ)
     → o ≡ position (is_named name) targets → IfNone o (has_name targets name ≡ false)
 named_none targets name None e = none-passes (is_named name) targets (sym e)
 named_none targets name (Some place) e = tt
+
+-- By these a search for a name is proved.
+pub ruleset as_named = (named_name, named_some, named_none)

@@ -1,7 +1,7 @@
 -- Bytes are a table of one list of directions, or have one fault, and never both.
 use Rattle.std.specs.Prelude.{◌⊎◌, ◌≤◌}
-use Rattle.std.proofs.Common.{◌≡◌, ◌∙◌, ℕ, suc, ◌+◌, ◌<◌, List, [], ◌∷◌, map, length, get_or, Option}
-use Rattle.std.proofs.Common.{Some, None, refl, ap, sym, arith, inl, inr, ℤ}
+use Rattle.std.proofs.Common.{◌≡◌, ◌∙◌, ℕ, suc, ◌+◌, ◌<◌, List, [], ◌∷◌, map, length, get_or}
+use Rattle.std.proofs.Common.{Option, Some, None, refl, ap, sym, arith, inl, inr, ℤ}
 use Rattle.std.proofs.lemmas.Bool.{cases_lt}
 use Rattle.std.proofs.lemmas.Option.{none-some}
 use Rattle.adjust_kernel.proofs.FirstLaws.{none_or_first, one_first}
@@ -72,8 +72,8 @@ module _ (unit : AngleUnit) (targets : List (List ℕ)) (bytes : List ℕ) where
   }
 
   -- Bytes are a table of one list of directions at most.
-  pub one-table : (a b : List ℤ) → IsTableText unit targets bytes a → IsTableText unit targets bytes b
-      → a ≡ b
+  pub one-table : (a b : List ℤ) → IsTableText unit targets bytes a
+      → IsTableText unit targets bytes b → a ≡ b
   one-table a b s t = same-directions a b (sym s.stated ∙ t.stated)
 
   -- Bytes that are a table have no fault.
@@ -99,7 +99,8 @@ module _ (unit : AngleUnit) (targets : List (List ℕ)) (bytes : List ℕ) where
       let place = one_first HasFault (p + q + 1) p q (as-first p _ j one (omega arith))
       (as-first q _ k two (omega arith)) in
       let number : n ≡ m = omega (arith, at_p, at_q, place) in
-      let kind : Some j ≡ Some k = sym one.here ∙ ap (fault_at unit targets rows) place ∙ two.here in
+      let kind : Some j ≡ Some k =
+      sym one.here ∙ ap (fault_at unit targets rows) place ∙ two.here in
       cc
   one-fault (Row n j) (Missing m) a b =
       let (short, p, at_p, one) = a in

@@ -1,7 +1,8 @@
 -- Each record takes a byte of the text, whatever separates its fields, so the records of a text are
 -- its first one and those of the rest.
 use Rattle.std.proofs.Common.{◌≡◌, ℕ, zero, suc, ◌<◌, ◌≤◌, true, false, List, []}
-use Rattle.std.proofs.Common.{◌∷◌, length, Option, Some, None, IfSome, refl, ap, arith, add-one, inl, inr}
+use Rattle.std.proofs.Common.{◌∷◌, length, Option, Some, None, IfSome, refl, ap, arith, add-one}
+use Rattle.std.proofs.Common.{inl, inr}
 use Rattle.std.proofs.lemmas.Bool.{cases_Bool}
 use Rattle.std.proofs.lemmas.Option.{same_Some}
 use Rattle.csv.specs.Machine.{Read, next_record, step, is_end, ends_at_end}

@@ -1,13 +1,13 @@
 -- The rows that were read: none of them has a fault, and what the next row or the end says of the
 -- whole.
-use Rattle.std.specs.Prelude.{if◌then◌else◌, ◌&&◌, max}
+use Rattle.std.specs.Prelude.{◌&&◌, max}
 use Rattle.std.specs.Str.{bytes_eq}
-use Rattle.std.proofs.Common.{◌≡◌, ◌∙◌, ℕ, ◌≤◌, ◌<◌, ◌+◌, map, Bool, true, false, List, [], ◌∷◌, ◌++◌}
-use Rattle.std.proofs.Common.{length, Option, Some, None, refl, ap, sym, subst, arith, inl, inr, ◌==◌}
-use Rattle.std.proofs.Common.{ℤ, get_or, length-append, append_assoc, take, drop}
+use Rattle.std.proofs.Common.{◌≡◌, ◌∙◌, ℕ, ◌≤◌, ◌<◌, ◌+◌, map, Bool, true, false, List, [], ◌∷◌}
+use Rattle.std.proofs.Common.{◌++◌, length, Option, Some, None, refl, ap, sym, subst, arith, inl}
+use Rattle.std.proofs.Common.{inr, ◌==◌, ℤ, get_or, length-append, append_assoc, take, drop}
 use lib.ListN.{replicate}
 use Rattle.std.proofs.Math.Seq.{drop-append_seam, drop-cons, take-append_seam}
-use Rattle.std.proofs.lemmas.Bool.{and_parts, cases_eq, cases_lt, eq-eqb, false_from_ne_true, ne_eqb}
+use Rattle.std.proofs.lemmas.Bool.{and_parts, cases_Bool, cases_eq, cases_lt, eq-eqb, ne_eqb}
 use Rattle.std.proofs.lemmas.Bool.{not-true, or_parts}
 use Rattle.std.proofs.lemmas.Slice.Eq.{bytes_eq-Decides}
 use Rattle.std.proofs.lemmas.List.{append-nil, drop_all, take_all, take_at}
@@ -44,9 +44,7 @@ all-left s targets left bytes e own is =
 
 -- What one of two names is not, the other is not.
 apart : (a b : List ℕ) → bytes_eq a b ≡ false → bytes_eq b a ≡ false
-apart a b e = false_from_ne_true (bytes_eq b a) (λ t.
-    let same : true ≡ false = sym ((bytes_eq-Decides a b).1 (sym ((bytes_eq-Decides b a).0 t))) ∙ e in
-    cc same)
+apart a b e = grind (arith, bytes_eq-Decides)
 
 module _ (unit : AngleUnit) where
   -- A row that names none of these targets states nothing of them.
@@ -240,14 +238,11 @@ module _ (unit : AngleUnit) where
 -- Without a byte order mark a text is no longer.
 pub strip-short : (bytes : List ℕ) → length (strip_bom bytes) ≤ length bytes
 unfolding strip_bom
-strip-short [] = omega arith
-strip-short (a ∷ []) = omega arith
-strip-short (a ∷ b ∷ []) = omega arith
-strip-short (a ∷ b ∷ c ∷ rest) = by (is_bom a b c)
-  where
-    by : (m : Bool) → length (if m then rest else a ∷ b ∷ c ∷ rest) ≤ length (a ∷ b ∷ c ∷ rest)
-    by true = omega arith
-    by false = omega arith
+strip-short (a ∷ b ∷ c ∷ rest) = elim (cases_Bool (is_bom a b c)) [
+  | inl e ↦ rw e (omega arith)
+  | inr e ↦ rw e (omega arith)
+]
+strip-short bytes = omega arith
 
 -- What a slice of a vector became, as the vector has it.
 pub written-back : {A : Type 0} (xs new : List A) (n : ℕ) → n ≡ length xs → length new ≡ length xs

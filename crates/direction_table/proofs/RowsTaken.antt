@@ -19,7 +19,7 @@ use Rattle.direction_table.specs.declared.unit.AngleUnit.{AngleUnit}
 use Rattle.direction_table.proofs.TwoColumns.{row-is}
 
 -- Rows state a direction of a name exactly where one of them has the name.
-pub stated_is : (unit : AngleUnit) (rows : List (List (List ℕ))) (name : List ℕ)
+stated_is : (unit : AngleUnit) (rows : List (List (List ℕ))) (name : List ℕ)
     → is_some (direction_in unit rows name) ≡ has_name (map name_of rows) name
 stated_is unit [] name = refl
 stated_is unit (row ∷ rows) name = elim (cases_Bool (bytes_eq (name_of row) name)) [

@@ -49,3 +49,6 @@ pub one_more : (stated : List (Option ℤ)) (items : List ℤ) (place : ℕ) (di
     → take (place + 1) stated ≡ map Some (items ++ (direction ∷ []))
 one_more stated items place direction inside same here =
     rw (take_more stated place None inside, same, here, map_push Some items direction) refl
+
+-- By these a list of stated directions is proved.
+pub ruleset as_far = (missing, one_more)

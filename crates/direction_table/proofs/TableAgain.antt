@@ -1,17 +1,16 @@
 -- The text of a table of all targets is a table of them and of their directions.
-use Rattle.std.specs.Prelude.{if◌then◌else◌}
-use Rattle.std.proofs.Common.{◌≡◌, ◌≢◌, ◌∙◌, ℕ, suc, ◌+◌, ◌*◌, ◌<◌, Bool, true, false, List, []}
+use Rattle.std.proofs.Common.{◌≡◌, ◌≢◌, ◌∙◌, ℕ, suc, ◌+◌, ◌*◌, ◌<◌, true, false, List, []}
 use Rattle.std.proofs.Common.{◌∷◌, ◌++◌, map, length, get_or, take, All, AllPairs, Some, None, refl}
-use Rattle.std.proofs.Common.{ap, pos, subst, sym, arith}
+use Rattle.std.proofs.Common.{ap, pos, subst, sym, arith, inl, inr}
 use Rattle.std.specs.Str.{bytes_eq}
-use Rattle.std.proofs.lemmas.Bool.{and_right, false_from_ne_true, ne_eqb}
+use Rattle.std.proofs.lemmas.Bool.{and_right, cases_Bool, false_from_ne_true, ne_eqb}
 use Rattle.std.proofs.lemmas.List.{get_or-map, get_or-take, length-map, length-take, take-map}
 use Rattle.std.proofs.lemmas.List.Elements.{All-head, All-map, All-tail}
 use Rattle.std.proofs.lemmas.List.Folds.{list_any_at, list_any_none}
 use Rattle.std.proofs.lemmas.Simd.{map-map}
 use Rattle.std.proofs.lemmas.Slice.Eq.{bytes_eq-Decides}
 use Rattle.csv.specs.Reading.{strip_bom}
-use Rattle.csv.specs.Writing.{default_writer, field_text, needs_quotes, quoted}
+use Rattle.csv.specs.Writing.{default_writer, field_text, needs_quotes}
 use Rattle.adjust_kernel.specs.Names.{IsName, IsPrintable}
 use Rattle.adjust_kernel.specs.Stations.{AreTargets}
 use Rattle.sheet_format.specs.Rows.{records_of}
@@ -35,22 +34,20 @@ use Rattle.direction_table.specs.declared.unit.AngleUnit.TheVariants.{Gon}
 -- A text that begins with a name, in quotes or not, has no byte order mark.
 unmarked : (a : ℕ) (text : List ℕ) → a < 128 → strip_bom (a ∷ text) ≡ a ∷ text
 unfolding strip_bom
-unmarked a [] low = refl
-unmarked a (b ∷ []) low = refl
 unmarked a (b ∷ c ∷ rest) low = rw (ne_eqb a 239 (λ same. absurd (omega (arith, low, same)))) refl
+unmarked a text low = refl
 
 no-mark-before : (name field end others : List ℕ) → IsName name
     → strip_bom (((field_text default_writer name ++ field) ++ end) ++ others)
     ≡ ((field_text default_writer name ++ field) ++ end) ++ others
 no-mark-before [] field end others named = absurd (omega (arith, named.some))
-no-mark-before (c ∷ name) field end others named = by (needs_quotes default_writer (c ∷ name))
-  where
-    by : (b : Bool) → strip_bom ((((if b then quoted default_writer (c ∷ name) else c ∷ name)
-        ++ field) ++ end) ++ others)
-        ≡ (((if b then quoted default_writer (c ∷ name) else c ∷ name) ++ field) ++ end) ++ others
-    by true = unmarked 34 _ (omega arith)
-    by false = unmarked c _ (let printable = All-head IsPrintable c name named.printable in
-        omega (arith, printable.1))
+no-mark-before (c ∷ name) field end others named =
+    elim (cases_Bool (needs_quotes default_writer (c ∷ name))) [
+      | inl e ↦ rw e (unmarked 34 _ (omega arith))
+      | inr e ↦
+          let printable = All-head IsPrintable c name named.printable in
+          rw e (unmarked c _ (omega (arith, printable.1)))
+    ]
 
 no-mark : (count : ℕ) (stated : List TargetDirection) → All (IsWritten count) stated
     → strip_bom (table_text count stated) ≡ table_text count stated
@@ -105,7 +102,8 @@ clean-rows count stated ok few each = no-fault Gon names rows at
     at : (place : ℕ) → place < length rows
         → row_fault Gon names (take place rows) (get_or rows place []) ≡ None
     at place below =
-        let inside : place < length stated = omega (arith, below, length-map stated (row_of count)) in
+        let inside : place < length stated =
+        omega (arith, below, length-map stated (row_of count)) in
         let blank : TargetDirection = record { name = []; direction = 0 } in
         let row = get_or stated place blank in
         let is : (d : List ℕ) → get_or names place d ≡ row.name =

@@ -48,7 +48,8 @@ pub begins_at : (targets fs : List (List ℕ)) → begins_with_target targets fs
     ≡ (not (length fs == 0) && has_name targets (named targets (at fs 0)))
 unfolding field_at
 begins_at targets [] = refl
-begins_at targets (a ∷ rest) = rw (ne_eqb (length (a ∷ rest)) 0 (λ e. absurd (omega (arith, e)))) refl
+begins_at targets (a ∷ rest) =
+    rw (ne_eqb (length (a ∷ rest)) 0 (λ e. absurd (omega (arith, e)))) refl
 
 -- A row with two columns is these.
 pub row-is : (row : List (List ℕ)) (c : Fields) → columns_of row ≡ Some c

@@ -19,7 +19,7 @@ use csv::ByteRecord;
 
 /// Takes the next row: its direction becomes that of its target. Gives the limit for the step to
 /// which the row rounds it.
-#[tactic(auto, unfolding(crate::specs::Faults::stating_fault), using(crate::proofs::RowsTaken::stated_is))]
+#[tactic(auto, unfolding(crate::specs::Faults::stating_fault))]
 pub(crate) fn take_row(
     unit: AngleUnit,
     directions: &mut [Option<i64>],

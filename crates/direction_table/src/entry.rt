@@ -68,7 +68,7 @@ fn first_named(targets: &[Name], name: &Name) -> Option<usize>
 }
 
 /// The place of the target of this name.
-#[tactic(auto, using(crate::proofs::NamedTargets::named_name, crate::proofs::NamedTargets::named_some, crate::proofs::NamedTargets::named_none))]
+#[tactic(auto, using(crate::proofs::NamedTargets::as_named))]
 fn place_of(targets: &[Name], name: &Name) -> Option<usize>
     ensures inside { IfSome result (λ place. place < length targets.now) }
     ensures name { IfSome result (λ place. slice_index_or targets.now place [] ≡ name.now) }

@@ -154,7 +154,7 @@ fn begins_with_titles(number: u32, unit: AngleUnit, targets: &[Name], row: &Byte
 }
 
 /// The directions of all targets, or the first that has none.
-#[tactic(auto, using(crate::proofs::StatedDirections::missing, crate::proofs::StatedDirections::one_more))]
+#[tactic(auto, using(crate::proofs::StatedDirections::as_far))]
 fn all_stated(alloc: Global, stated: &[Option<i64>]) -> Result<Vec<i64>, TableFault>
     requires { length stated.now ≤ MOST_TARGETS }
     ensures all { IfOk result (λ directions. stated.now ≡ map Some directions.items) }

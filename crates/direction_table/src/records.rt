@@ -157,7 +157,7 @@ impl<'a> Records<'a> {
     }
 
     /// Reads the next record in place of another one, and answers whether there was one.
-    #[tactic(auto, using(crate::proofs::BytesRead::byte_more, crate::proofs::BytesRead::text_end, crate::proofs::RecordSteps::records_more, crate::proofs::RecordSteps::first_shorter, std::proofs::lemmas::List::take_rest))]
+    #[tactic(auto, using(crate::proofs::BytesRead::byte_by_byte))]
     pub(crate) fn next(&mut self, row: &mut ByteRecord) -> Result<bool, AllocError>
         ensures next { IfOk result (λ found. spec.IsNextRecord (spec.records_left self.old) found
             (fields_of row.new) (spec.records_left self.new)) }

@@ -9,7 +9,8 @@ pub returns : goal.returns
 returns c =
     rw (
       titles_tidy c.args.unit c.args.targets.now (fields_of c.args.row.now),
-      le-leb 2 (length (fields_of c.args.row.now)) (omega (arith, c.if-len-lt-COLUMNS.false, c.len.ensures)),
+      le-leb 2 (length (fields_of c.args.row.now))
+          (omega (arith, c.if-len-lt-COLUMNS.false, c.len.ensures)),
       ← c.field.ensures,
       ← c.named.ensures,
       ← c.has_target.ensures,
