@@ -1,5 +1,5 @@
 -- From the parts of a comparison to what it answers.
-use Rattle.std.proofs.Common.{◌≡◌, ℕ, ℤ, List, Result, Ok, Err, refl, sym, subst, inl, inr, Option}
+use Rattle.std.proofs.Common.{◌≡◌, ℕ, List, Result, Ok, Err, refl, sym, subst, inl, inr, Option}
 use Rattle.std.proofs.Common.{Some}
 use Rattle.std.specs.Prelude.{MatchResult}
 use Rattle.adjust_kernel.specs.Stations.{StationValue}
@@ -7,14 +7,12 @@ use Rattle.byte_ends.specs.Input.{Input, Ended, BrokeOff, RanPast, input_within}
 use Rattle.byte_ends.specs.Came.{IsLeftAs, IsReadOut, IsUnasked, Leaves}
 use Rattle.byte_ends.proofs.Coming.{given_as_told, some_left}
 use Rattle.byte_ends.specs.Source.{Told, ReaderChange, given_then}
-use Rattle.direction_table.specs.Tables.{IsTableText}
 use Rattle.direction_table.specs.declared.reading.TheConstants.{LONGEST_TABLE}
-use Rattle.directions_apart.specs.Apart.{stated_by}
 use Rattle.exact_adjustment.proofs.LawLemmas.{never_both}
 use Rattle.exact_adjustment.specs.Faults.{IsAdjustFault, IsOfStation}
 use Rattle.exact_adjustment.specs.declared.fault.AdjustFault.{AdjustFault}
 use Rattle.gsi_file.specs.FileAnswers.{FileAnswers, file_answers}
-use Rattle.least_directions.specs.LeastDirections.{AreApart, IsAdjustable}
+use Rattle.least_directions.specs.LeastDirections.{IsAdjustable}
 use Rattle.station_book.specs.Limits.{FaceLimits}
 use Rattle.station_book.specs.Stations.{SurveyedStation}
 use Rattle.station_check.specs.Answerable.{IsOfFile, file_left}
@@ -119,19 +117,6 @@ pub compares_by_file : (unit : AngleUnit) (limits : FaceLimits) (lines : FileAns
 compares_by_file unit limits lines stated name within file.NoStation o h = absurd o
 compares_by_file unit limits lines stated name within file.Memory o h = tt
 compares_by_file unit limits lines stated name within fault o h = h
-
--- What a table's directions and how far they are apart say of its bytes.
-pub compared : (unit : AngleUnit) (station : StationValue) (bytes : List ℕ)
-    (targets : List (List ℕ))
-    (directions stated : List ℤ) (apart : ℕ) → targets ≡ station.targets → stated ≡ directions
-    → IsTableText unit targets bytes directions → AreApart station (stated_by stated) apart
-    → IsComparedWith unit station bytes apart
-compared unit station bytes targets directions stated apart same_targets same states are_apart =
-    record {
-      directions = directions;
-      states = subst (λ names. IsTableText unit names bytes directions) same_targets states;
-      are_apart = subst (λ s. AreApart station (stated_by s) apart) same are_apart;
-    }
 
 -- An answer from the table on leaves the field file's reader read to its end.
 pub left_by_table : (unit : AngleUnit) (its : SurveyedStation) (within : Option ℕ)

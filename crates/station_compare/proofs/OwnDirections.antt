@@ -1,8 +1,10 @@
 -- A comparison of what was written as the station's own directions.
-use Rattle.std.proofs.Common.{◌≡◌, ℕ, zero, suc, ◌-◌, ◌^◌, ◌≤◌, ◌<◌, Bool, false, List, [], ◌∷◌}
-use Rattle.std.proofs.Common.{length, map, pos, Err, arith, refl, ap, sym, subst, ◌∙◌}
+use Rattle.std.proofs.Common.{◌≡◌, ℕ, ◌-◌, ◌^◌, ◌≤◌, ◌<◌, Bool, false, List, [], ◌∷◌}
+use Rattle.std.proofs.Common.{length, map, pos, Err, arith, ap, sym, subst, ◌∙◌}
 use Rattle.std.proofs.Common.{if◌then◌else◌, Option, Some, None, ◌*◌}
+use Rattle.std.proofs.Math.Nat.{pow-le-pow_right}
 use Rattle.std.proofs.lemmas.Bool.{le-ltb}
+use Rattle.std.proofs.lemmas.Simd.{map-map}
 use Rattle.adjust_kernel.specs.Stations.{StationValue}
 use Rattle.byte_ends.specs.Input.{Input, Ended, RanPast, input_within}
 use Rattle.byte_ends.specs.Source.{Told}
@@ -36,16 +38,12 @@ use Rattle.station_compare.specs.declared.fault.CompareFault.TheVariants.{File, 
 use Rattle.station_compare.specs.declared.fault.CompareFault.TheVariants.{Apart, Memory}
 use Rattle.direction_table.specs.declared.unit.AngleUnit.TheVariants.{Gon}
 
-power_small : (k : ℕ) → k ≤ 3 → 10 ^ k ≤ 1_000
-power_small zero h = omega arith
-power_small (suc zero) h = omega arith
-power_small (suc (suc zero)) h = omega arith
-power_small (suc (suc (suc zero))) h = omega arith
-power_small (suc (suc (suc (suc k)))) h = absurd (omega (arith, h))
-
 -- The step of 6 decimals or more.
 small_step : (count : ℕ) → 6 ≤ count → step_of count ≤ 1_000
-small_step count many = power_small (9 - count) (omega (arith, many))
+small_step count many =
+    let few : 9 - count ≤ 3 = omega (arith, many) in
+    let small : 10 ^ (9 - count) ≤ 10 ^ 3 = pow-le-pow_right (omega arith) few in
+    omega (arith, small)
 
 -- The usual limit of a table is 1 or more.
 usual_some : (rows : List (List (List ℕ))) → 1 ≤ usual_within Gon rows
@@ -57,8 +55,7 @@ usual_some (row ∷ rows) =
 -- What rows are read as are their numbers.
 read_as : (rows : List TargetDirection)
     → directions_of rows ≡ map (λ (n : ℕ). pos (81 * n)) (numbers_of rows)
-read_as [] = refl
-read_as (row ∷ rows) = ap (λ ds. pos (81 * row.direction) ∷ ds) (read_as rows)
+read_as rows = sym (map-map (λ (n : ℕ). pos (81 * n)) (λ (r : TargetDirection). r.direction) rows)
 
 -- Bytes that are not too many are read to their end.
 read_whole : (bytes : List ℕ) → length bytes ≤ LONGEST_TABLE

@@ -1,7 +1,7 @@
 -- Each input has an answer that is not that memory ran out, where it does not rest on an
 -- adjustment.
 use Rattle.std.proofs.Common.{◌≡◌, ◌⊎◌, inl, inr, ℕ, Bool, List, [], ◌∷◌, map, length}
-use Rattle.std.proofs.Common.{Option, Some, None, Result, Ok, Err, ℤ, pos, refl, arith}
+use Rattle.std.proofs.Common.{Option, Some, None, Result, Ok, Err, ℤ, pos, refl, sym, subst, arith}
 use Rattle.std.proofs.lemmas.List.{length-map}
 use Rattle.std.proofs.lemmas.List.Elements.{All-from_recursion, recursion_from_All}
 use Rattle.std.specs.List.{AllByRecursion}
@@ -15,8 +15,6 @@ use Rattle.adjust_kernel.specs.declared.obs.Obs.{Obs}
 use Rattle.byte_ends.specs.Input.{Input, Ended, BrokeOff, RanPast, input_within}
 use Rattle.byte_ends.specs.Source.{Told}
 use Rattle.direction_table.proofs.LawLemmas.{some_answer as table_or_fault}
-use Rattle.direction_table.specs.Tables.{IsTableFault, IsTableText}
-use Rattle.direction_table.specs.declared.fault.TableFault.{TableFault}
 use Rattle.direction_table.specs.declared.fault.TableFault.TheVariants as table
 use Rattle.direction_table.specs.declared.reading.TheConstants.{LONGEST_TABLE}
 use Rattle.exact_adjustment.specs.LeastOf.{AreTied, observed_with}
@@ -96,45 +94,6 @@ tied_or_not station =
       | inr d ↦ inr (λ tied. tied none (length-map station.obs (λ (o : Obs). pos 0)) d)
     ]
 
--- What is answered of a station and the bytes of a table.
-module _ (unit : AngleUnit) (station : StationValue) (within : Option ℕ) where
-  -- The table is one of a station that is held together.
-  record IsTied (input : Input) : Type 0 where
-    pub tied : AreTied station
-    pub bytes : List ℕ
-    pub whole : input ≡ Ended bytes
-    pub directions : List ℤ
-    pub states : IsTableText unit station.targets bytes directions
-
-  abbrev Answer : Input → Type 0
-  Answer input =
-      ((r : Result Agreement CompareFault) × ByInput unit station within input r × IsNoMemory r)
-      ⊎ IsTied input
-
-  by_bytes : (bytes : List ℕ) → ((directions : List ℤ)
-      × IsTableText unit station.targets bytes directions)
-      ⊎ ((fault : TableFault) × IsTableFault unit station.targets bytes fault)
-      → AreTied station ⊎ (AreTied station → ⊥) → Answer (Ended bytes)
-  by_bytes bytes (inr h) t = inl (Err (Table h.0), h.1, tt)
-  by_bytes bytes (inl h) (inl tied) = inr (record {
-    tied = tied;
-    bytes = bytes;
-    whole = refl;
-    directions = h.0;
-    states = h.1;
-  })
-  by_bytes bytes (inl h) (inr loose) = inl (
-    Err (Adjust adjust.NotConnected),
-    record { directions = h.0; states = h.1; fault_stands = loose },
-    tt,
-  )
-
-  by_input : (input : Input) → Answer input
-  by_input (Ended bytes) =
-      by_bytes bytes (table_or_fault unit station.targets bytes) (tied_or_not station)
-  by_input (BrokeOff bytes) = inl (Err TableRead, inl refl, tt)
-  by_input RanPast = inl (Err (Table table.TooLong), inl refl, tt)
-
 module _ (unit : AngleUnit) (limits : FaceLimits) (small : AreLimits limits) (file : FileAnswers)
     (stated : Told) (name : List ℕ) (within : Option ℕ) where
   abbrev AnAnswer : Type 0
@@ -147,19 +106,37 @@ module _ (unit : AngleUnit) (limits : FaceLimits) (small : AreLimits limits) (fi
   by_fault NoStation h = absurd (never_no_station limits [] file.lines file.last h)
   by_fault fault h = inl (Err (File fault), h, tt)
 
-  by_its : (its : SurveyedStation) → IsStationOfFile limits file name its
-      → Answer unit its.station within (input_within LONGEST_TABLE stated) → AnAnswer
-  by_its its of (inl a) =
-      inl (a.0, compares_by_table unit limits file stated name within its a.0 of a.1, a.2)
-  by_its its of (inr t) = inr (record {
-    its = its;
-    station = of;
-    tied = t.tied;
-    bytes = t.bytes;
-    whole = t.whole;
-    directions = t.directions;
-    states = t.states;
-  })
+  -- Where the station was found, what comes of the table has an answer, or comes to an adjustment.
+  module _ (its : SurveyedStation) (of : IsStationOfFile limits file name its) where
+    answered : (input : Input) → input_within LONGEST_TABLE stated ≡ input
+        → (r : Result Agreement CompareFault) → ByInput unit its.station within input r
+        → IsNoMemory r → AnAnswer
+    answered input e r h settled = inl (
+      r,
+      compares_by_table unit limits file stated name within its
+          r of (subst (λ i. ByInput unit its.station within i r) (sym e) h),
+      settled,
+    )
+
+    by_input : (input : Input) → input_within LONGEST_TABLE stated ≡ input → AnAnswer
+    by_input (BrokeOff bytes) e = answered (BrokeOff bytes) e (Err TableRead) (inl refl) tt
+    by_input RanPast e = answered RanPast e (Err (Table table.TooLong)) (inl refl) tt
+    by_input (Ended bytes) e = elim (table_or_fault unit its.station.targets bytes) [
+      | inr h ↦ answered (Ended bytes) e (Err (Table h.0)) h.1 tt
+      | inl h ↦ elim (tied_or_not its.station) [
+        | inl tied ↦ inr (record {
+          its = its;
+          station = of;
+          tied = tied;
+          bytes = bytes;
+          whole = e;
+          directions = h.0;
+          states = h.1;
+        })
+        | inr loose ↦ answered (Ended bytes) e (Err (Adjust adjust.NotConnected))
+            (record { directions = h.0; states = h.1; fault_stands = loose }) tt
+      ]
+    ]
 
   by_name : (stations : List SurveyedStation) → IsSurvey limits file stations
       → (its : Option SurveyedStation) → station_named name stations ≡ its → AnAnswer
@@ -169,9 +146,9 @@ module _ (unit : AngleUnit) (limits : FaceLimits) (small : AreLimits limits) (fi
     tt,
   )
   by_name stations survey (Some its) e =
-      let of = (station_of_file limits file name its small).0
-      (record { stations = stations; survey = survey; named = e }) in
-      by_its its of (by_input unit its.station within (input_within LONGEST_TABLE stated))
+      by_input its ((station_of_file limits file name its small).0
+      (record { stations = stations; survey = survey; named = e }))
+      (input_within LONGEST_TABLE stated) refl
 
   by_outcome : (came : Result History Fault) → FileComesTo limits file came → AnAnswer
   by_outcome (Err fault) h = by_fault fault h

@@ -107,6 +107,7 @@ fn rows_of(
 }
 
 /// One unit of the last decimal, in units of 0.000000001 gon.
+#[tactic(auto, using(crate::proofs::Steps::fits))]
 fn step_of(decimals: Decimals) -> u32
     ensures value { result ≡ step_of decimals }
     ensures some { 1 ≤ result }
