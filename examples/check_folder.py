@@ -47,7 +47,7 @@ TABLE = ".directions"
 ENVIRONMENT = dict(os.environb)
 
 # The exit statuses of station_check.
-DONE, REFUSED, MISTAKE = 0, 1, 2
+ACCEPTED, REFUSED, MISTAKE = 0, 1, 2
 
 COUNTS = rb": \d+ sets, \d+ targets, \d+ directions"
 ACCEPTED_LINE = re.compile(rb"accepted (.*)" + COUNTS + rb", greatest residual \d+/\d+\n")
@@ -209,10 +209,10 @@ class Folder:
             for run, status in finished(runs, self.options.jobs):
                 printed = run.printed()
                 os.remove(run.output)
-                stations = STATION_LINE.findall(printed) if status == DONE else []
+                stations = STATION_LINE.findall(printed) if status == ACCEPTED else []
                 self.stations[run.name] = stations
                 if not stations:
-                    self.said[run.name] = "no station" if status == DONE else first_line(printed)
+                    self.said[run.name] = "no station" if status == ACCEPTED else first_line(printed)
 
     def why_not(self, claim: Claim) -> str | None:
         """Why a sheet or a table can't be checked, where its name doesn't tell which files belong
@@ -251,7 +251,7 @@ class Folder:
         for run, status in finished(runs, self.options.jobs):
             claim, printed = claims[run.name], run.printed()
             line = AGREES_LINE if claim.is_table else ACCEPTED_LINE
-            good = line.fullmatch(printed) if status == DONE else None
+            good = line.fullmatch(printed) if status == ACCEPTED else None
             if good and claim.field is not None:
                 self.good[claim.field].add(good[1])
             result = Result.REFUSED if status == REFUSED else Result.NOT_CHECKED
@@ -367,7 +367,7 @@ def main() -> int:
     except (Refused, OSError) as why:
         print(f"{SCRIPT}: {why}", file=sys.stderr)
         return MISTAKE
-    return DONE if well else REFUSED
+    return ACCEPTED if well else REFUSED
 
 
 if __name__ == "__main__":

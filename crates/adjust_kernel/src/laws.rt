@@ -11,6 +11,7 @@ ghost use Rattle.adjust_kernel.specs.declared.bounds.TheConstants.{LARGEST_ANGLE
 ghost use Rattle.adjust_kernel.specs.declared.bounds.TheConstants.{LARGEST_RESIDUAL};
 ghost use Rattle.adjust_kernel.specs.declared.bounds.TheConstants.{LARGEST_RESIDUAL_LIMIT};
 ghost use Rattle.adjust_kernel.specs.declared.name.TheConstants.{FIRST_PRINTABLE, LAST_PRINTABLE};
+ghost use Rattle.adjust_kernel.specs.declared.units.TheConstants.{CIRCLE, HALF_UNIT, PARTS, UNIT};
 ghost use Rattle.adjust_kernel.specs.Matching.{Matches};
 ghost use Rattle.adjust_kernel.specs.Sheets.{SheetValue};
 ghost use Rattle.adjust_kernel.specs.Stations.{StationValue};
@@ -87,4 +88,13 @@ pub fn bounds()
     ensures full_turns { LARGEST_TURN ≡ pos 9 }
     ensures residual { LARGEST_RESIDUAL ≡ pos 2_800_000_000_000_000_000_000 }
     ensures residual_limit { LARGEST_RESIDUAL_LIMIT ≡ 2_000 }
+{}
+
+/// The units of directions: a half unit, 0.000001 gon and a full circle, each in units of
+/// 0.000000001 gon; and the parts of such a unit.
+pub fn units()
+    ensures half_unit { HALF_UNIT ≡ 5_000 }
+    ensures unit { UNIT ≡ 1_000 }
+    ensures circle { CIRCLE ≡ 400_000_000_000 }
+    ensures parts { PARTS ≡ 81 }
 {}

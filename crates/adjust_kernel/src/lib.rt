@@ -33,6 +33,7 @@ mod sheet;
 mod station;
 mod sums;
 mod tally;
+mod units;
 mod verdict;
 
 pub use accepted::Accepted;
@@ -56,4 +57,5 @@ pub use sheet::Sheet;
 pub use station::Station;
 pub use sums::add_residuals;
 pub use tally::{Added, Tally};
+pub use units::{CIRCLE, HALF_UNIT, PARTS, UNIT};
 pub use verdict::{check, check_with};

@@ -3,12 +3,10 @@ ghost use Rattle.std.specs.Prelude.{◌≡◌, ◌++◌, OnOk, OnErr};
 ghost use Rattle.angle_texts.specs.Beginnings.{IsBegun};
 ghost use Rattle.direction_table.specs.Texts.{direction_text};
 
-use crate::digit::digit;
+use crate::digits::digit;
+use direction_table::GON;
 use itoa::Buffer;
 use std::alloc::AllocError;
-
-/// Units of 0.000000001 gon in a gon.
-const GON: u64 = 1_000_000_000;
 
 /// Adds a direction in gon to a text, which is in units of 0.000000001 gon: the gon, a point and
 /// five decimals. What lies below the fifth decimal is left out.

@@ -3,7 +3,7 @@ ghost use Rattle.std.specs.Prelude.{◌≡◌, ◌++◌, OnOk, OnErr};
 ghost use Rattle.angle_texts.specs.Beginnings.{IsBegun};
 ghost use Rattle.angle_texts.specs.MgonTexts as spec;
 
-use crate::digit::digit;
+use crate::digits::digit;
 use itoa::Buffer;
 use std::alloc::AllocError;
 

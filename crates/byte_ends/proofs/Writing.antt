@@ -4,7 +4,7 @@ use Rattle.std.proofs.Common.{Option, Some, None, sym, ap, ◌∙◌, append_ass
 use Rattle.std.proofs.lemmas.List.{take_rest}
 use Rattle.std.proofs.Math.Seq.{take-add}
 use Rattle.std.specs.Io.KnownBytes.{Appends}
-use Rattle.byte_ends.specs.Sink.{handed_on_after}
+use Rattle.byte_ends.specs.Sink.{flushed_after}
 
 -- What appends one piece and then another appends both.
 pub appends_then : (old now new : Option (List ℕ)) (a b c : List ℕ) → Appends old now a
@@ -21,11 +21,11 @@ pub take_piece : (k n : ℕ) (xs : List ℕ) → take k xs ++ take n (take (leng
 take_piece k n xs = ap (λ (r : List ℕ). take k xs ++ take n r) (take_rest xs k)
     ∙ sym (take-add k n xs)
 
--- Whether all is handed on after two pieces were taken is the same as after both at once.
-pub handed_on_then : (old : Bool) (k n : ℕ) → handed_on_after (handed_on_after old k) n
-    ≡ handed_on_after old (k + n)
-handed_on_then old zero n = let e : n ≡ 0 + n = omega arith in ap (handed_on_after old) e
-handed_on_then old (suc k) zero = let e : suc k ≡ suc k + 0 = omega arith in
-    ap (handed_on_after old) e
-handed_on_then old (suc k) (suc n) = let e : suc (k + suc n) ≡ suc k + suc n = omega arith in
-    ap (handed_on_after old) e
+-- Whether all is flushed after two pieces were taken is the same as after both at once.
+pub flushed_then : (old : Bool) (k n : ℕ) → flushed_after (flushed_after old k) n
+    ≡ flushed_after old (k + n)
+flushed_then old zero n = let e : n ≡ 0 + n = omega arith in ap (flushed_after old) e
+flushed_then old (suc k) zero = let e : suc k ≡ suc k + 0 = omega arith in
+    ap (flushed_after old) e
+flushed_then old (suc k) (suc n) = let e : suc (k + suc n) ≡ suc k + suc n = omega arith in
+    ap (flushed_after old) e

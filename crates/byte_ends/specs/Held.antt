@@ -22,9 +22,9 @@ held_flush_fails h = h.flush_fails
 abbrev pub has_failed : Held → Bool
 has_failed h = h.has_failed
 
--- Whether all that was written is handed on.
-abbrev pub is_handed_on : Held → Bool
-is_handed_on h = h.is_handed_on
+-- Whether all that was written is flushed.
+abbrev pub is_flushed : Held → Bool
+is_flushed h = h.is_flushed
 
 -- It takes `room` bytes more, at most `step` of them for each write, and where `flush_fails` each
 -- flush fails.

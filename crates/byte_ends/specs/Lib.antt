@@ -4,6 +4,7 @@ pub mod Source
 pub mod Input
 pub mod Came
 pub mod Sink
+pub mod Writers
 pub mod OfRead
 pub mod OfWrite
 pub mod Script

@@ -1,8 +1,8 @@
 ghost use Rattle.std.specs.Prelude.{◌≡◌, ◌<◌, ◌≤◌, ◌+◌, ℕ, Bool, List, Option, Some, length};
 ghost use Rattle.std.specs.Prelude.{vec_len, vec_capacity, IfOk};
 ghost use Rattle.std.specs.Io.KnownBytes.{WriteAppends};
-ghost use Rattle.byte_ends.specs.Sink.{TakesSome, failed_after, handed_on_by_write};
-ghost use Rattle.byte_ends.specs.Sink.{handed_on_by_flush};
+ghost use Rattle.byte_ends.specs.Sink.{TakesSome, failed_after, flushed_by_write};
+ghost use Rattle.byte_ends.specs.Sink.{flushed_by_flush};
 
 use crate::failed::Failed;
 use crate::out_of_memory::OutOfMemory;
@@ -18,7 +18,7 @@ pub struct Held {
     flush_fails: bool,
     has_failed: bool,
     /// Whether a flush has come after the last byte that was taken.
-    is_handed_on: bool,
+    is_flushed: bool,
     ghost steps: { 0 < step },
     ghost has_room: { vec_len bytes + room ≤ vec_capacity bytes },
 }
@@ -39,7 +39,7 @@ impl Held {
         requires { 0 < step }
         ensures empty { IfOk result (λ h. ⟦<Held as Sink>⟧.holds h ≡ Some []) }
         ensures unfailed { IfOk result (λ h. ⟦<Held as Sink>⟧.failed h ≡ false) }
-        ensures handed_on { IfOk result (λ h. ⟦<Held as Sink>⟧.handed_on h ≡ true) }
+        ensures flushed { IfOk result (λ h. ⟦<Held as Sink>⟧.flushed h ≡ true) }
         ensures set { IfOk result (λ h. IsSetTo h room step flush_fails) }
     {
         match Vec::with_capacity(alloc, room) {
@@ -49,7 +49,7 @@ impl Held {
                 step,
                 flush_fails,
                 has_failed: false,
-                is_handed_on: true,
+                is_flushed: true,
             }),
             Err(_) => Err(OutOfMemory),
         }
@@ -66,21 +66,21 @@ impl Held {
 impl Sink for Held {
     ghost use Rattle.std.specs.Prelude.{◌-◌, ◌↔◌, min, true, IsErr, MatchResult};
     ghost use Rattle.byte_ends.specs.Held.{held_bytes, held_room, held_step, held_flush_fails};
-    ghost use Rattle.byte_ends.specs.Held.{has_failed, is_handed_on, IsSetTo};
+    ghost use Rattle.byte_ends.specs.Held.{has_failed, is_flushed, IsSetTo};
 
     ghost failed = { λ s. has_failed s };
 
     ghost holds = { λ s. Some (held_bytes s) };
 
-    ghost handed_on = { λ s. is_handed_on s };
+    ghost flushed = { λ s. is_flushed s };
 
     fn write(&mut self, bytes: &[u8]) -> Result<usize, Failed>
         ensures takes { TakesSome result (length bytes.now) }
         ensures failed { has_failed self.new ≡ failed_after (has_failed self.old) result }
         ensures holds { WriteAppends (Some (held_bytes self.old)) (Some (held_bytes self.new))
             result bytes.now }
-        ensures handed_on { is_handed_on self.new
-            ≡ handed_on_by_write (is_handed_on self.old) result }
+        ensures flushed { is_flushed self.new
+            ≡ flushed_by_write (is_flushed self.old) result }
         ensures count { IfOk result (λ n. n ≡ min (held_step self.old)
             (min (held_room self.old) (length bytes.now))) }
         ensures full { IsErr result ↔ ((held_room self.old ≡ 0) × (0 < length bytes.now)) }
@@ -99,7 +99,7 @@ impl Sink for Held {
             Ok(()) => {
                 self.room -= n;
                 if n > 0 {
-                    self.is_handed_on = false;
+                    self.is_flushed = false;
                 }
                 Ok(n)
             }
@@ -113,8 +113,8 @@ impl Sink for Held {
     fn flush(&mut self) -> Result<(), Failed>
         ensures failed { has_failed self.new ≡ failed_after (has_failed self.old) result }
         ensures holds { Some (held_bytes self.new) ≡ Some (held_bytes self.old) }
-        ensures handed_on { is_handed_on self.new
-            ≡ handed_on_by_flush (is_handed_on self.old) result }
+        ensures flushed { is_flushed self.new
+            ≡ flushed_by_flush (is_flushed self.old) result }
         ensures fails { IsErr result ↔ (held_flush_fails self.old ≡ true) }
         ensures set { IsSetTo self.new (held_room self.old) (held_step self.old)
             (held_flush_fails self.old) }
@@ -123,7 +123,7 @@ impl Sink for Held {
             self.has_failed = true;
             return Err(Failed);
         }
-        self.is_handed_on = true;
+        self.is_flushed = true;
         Ok(())
     }
 }

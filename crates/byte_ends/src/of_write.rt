@@ -1,7 +1,7 @@
 ghost use Rattle.std.specs.Prelude.{◌≡◌, ◌<◌, ℕ, Bool, List, Option, None, length};
 ghost use Rattle.std.specs.Io.KnownBytes.{WriteAppends, Keeps};
-ghost use Rattle.byte_ends.specs.Sink.{TakesSome, failed_after, handed_on_by_write};
-ghost use Rattle.byte_ends.specs.Sink.{handed_on_by_flush};
+ghost use Rattle.byte_ends.specs.Sink.{TakesSome, failed_after, flushed_by_write};
+ghost use Rattle.byte_ends.specs.Sink.{flushed_by_flush};
 
 use crate::failed::Failed;
 use crate::sink::Sink;
@@ -16,7 +16,7 @@ pub struct OfWrite<W> {
     writer: W,
     has_failed: bool,
     /// Whether a flush has come after the last byte that was taken.
-    is_handed_on: bool,
+    is_flushed: bool,
 }
 
 impl<W: Write + Drop> OfWrite<W> {
@@ -27,12 +27,12 @@ impl<W: Write + Drop> OfWrite<W> {
         ensures made { result ≡ made_of writer }
         ensures writer { writer_of result ≡ writer }
         ensures unfailed { ⟦<OfWrite<W> as Sink>⟧.failed result ≡ false }
-        ensures handed_on { ⟦<OfWrite<W> as Sink>⟧.handed_on result ≡ true }
+        ensures flushed { ⟦<OfWrite<W> as Sink>⟧.flushed result ≡ true }
     {
         OfWrite {
             writer,
             has_failed: false,
-            is_handed_on: true,
+            is_flushed: true,
         }
     }
 
@@ -45,26 +45,26 @@ impl<W: Write + Drop> OfWrite<W> {
 }
 
 impl<W: Write + Drop> Sink for OfWrite<W> {
-    ghost use Rattle.byte_ends.specs.OfWrite.{writer_of, has_failed, is_handed_on};
+    ghost use Rattle.byte_ends.specs.OfWrite.{writer_of, has_failed, is_flushed};
 
     ghost failed = { λ s. has_failed s };
 
     ghost holds = { λ _. None };
 
-    ghost handed_on = { λ s. is_handed_on s };
+    ghost flushed = { λ s. is_flushed s };
 
     fn write(&mut self, bytes: &[u8]) -> Result<usize, Failed>
         ensures takes { TakesSome result (length bytes.now) }
         ensures failed { has_failed self.new ≡ failed_after (has_failed self.old) result }
-        ensures handed_on { is_handed_on self.new
-            ≡ handed_on_by_write (is_handed_on self.old) result }
+        ensures flushed { is_flushed self.new
+            ≡ flushed_by_write (is_flushed self.old) result }
         ensures passes_on { WriteAppends (W.contents (writer_of self.old))
             (W.contents (writer_of self.new)) result bytes.now }
     {
         match self.writer.write(bytes) {
             Ok(n) if n > 0 || bytes.is_empty() => {
                 if n > 0 {
-                    self.is_handed_on = false;
+                    self.is_flushed = false;
                 }
                 Ok(n)
             }
@@ -77,14 +77,14 @@ impl<W: Write + Drop> Sink for OfWrite<W> {
 
     fn flush(&mut self) -> Result<(), Failed>
         ensures failed { has_failed self.new ≡ failed_after (has_failed self.old) result }
-        ensures handed_on { is_handed_on self.new
-            ≡ handed_on_by_flush (is_handed_on self.old) result }
+        ensures flushed { is_flushed self.new
+            ≡ flushed_by_flush (is_flushed self.old) result }
         ensures passes_on { Keeps (W.contents (writer_of self.old))
             (W.contents (writer_of self.new)) }
     {
         match self.writer.flush() {
             Ok(()) => {
-                self.is_handed_on = true;
+                self.is_flushed = true;
                 Ok(())
             }
             Err(_) => {

@@ -13,12 +13,9 @@ use crate::arguments::{
 use crate::request::{Digests, ListForm};
 use adjust_kernel::{Name, ResidualLimit};
 use clap::ArgMatches;
-use direction_table::{AngleUnit, Decimals, MOST_WRITTEN};
+use direction_table::{AngleUnit, Decimals, LARGEST_WITHIN, MOST_WRITTEN};
 use limit_texts::{LimitUnit, limit_stated};
 use station_book::Limits;
-
-/// The most that a table may be asked to be near, in units of 0.000001 gon.
-pub(crate) const LARGEST_WITHIN: u32 = 1_000_000;
 
 /// The name that is stated of the file's one station, or that there is none, unless no station can
 /// have it.
@@ -76,7 +73,7 @@ pub(crate) fn decimals_of(found: &ArgMatches<'_>) -> Option<Decimals>
 /// out of its range.
 pub(crate) fn within_of(found: &ArgMatches<'_>) -> Option<Option<u32>>
     ensures stated { IfSome result (StatesWithin (found_of found.now)) }
-    ensures range { IfSome result (λ within. IfSome within (λ n. n ≤ LARGEST_WITHIN)) }
+    ensures bound { IfSome result (λ within. IfSome within (λ n. n ≤ LARGEST_WITHIN)) }
     ensures none { IfNone result (StatesNoWithin (found_of found.now)) }
 {
     if !found.contains_id(WITHIN) {

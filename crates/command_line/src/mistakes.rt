@@ -4,13 +4,13 @@ ghost use Rattle.std.specs.Prelude.{◌≡◌, IfOk};
 ghost use Rattle.clap.specs.Words.{kind_of};
 
 use crate::arguments::{RESIDUAL, TWO_C, TWO_I, WITHIN};
-use crate::found::{LARGEST_WITHIN, form_of, unit_of};
+use crate::found::{form_of, unit_of};
 use crate::help;
 use crate::request::ListForm;
 use adjust_kernel::LARGEST_RESIDUAL_LIMIT;
 use clap::error::ErrorKind;
 use clap::{ArgMatches, Command, Error};
-use direction_table::AngleUnit;
+use direction_table::{AngleUnit, LARGEST_WITHIN};
 use limit_texts::{LimitUnit, limit_stated};
 use station_book::LARGEST_LIMIT;
 use station_explain::{Explanation, list_of_near_names};

@@ -8,7 +8,7 @@ use Rattle.direction_table.specs.Degrees.{sexagesimal_step, sexagesimal_value}
 use Rattle.direction_table.specs.Gons.{decimals_part, is_negative, is_size, signed, size_value}
 use Rattle.direction_table.specs.Gons.{unsigned}
 use Rattle.direction_table.specs.declared.direction.TheConstants.{CIRCLE_PARTS, DEGREE_PARTS}
-use Rattle.direction_table.specs.declared.direction.TheConstants.{GON_PARTS}
+use Rattle.adjust_kernel.specs.declared.units.TheConstants.{PARTS}
 use Rattle.direction_table.specs.declared.unit.AngleUnit.{AngleUnit}
 use Rattle.direction_table.specs.declared.unit.AngleUnit.TheVariants.{Gon, Degrees}
 
@@ -21,7 +21,7 @@ is_angle Degrees bytes =
 
 -- Its parts.
 abbrev pub angle_value : AngleUnit → List ℕ → ℕ
-angle_value Gon bytes = GON_PARTS * size_value bytes
+angle_value Gon bytes = PARTS * size_value bytes
 angle_value Degrees bytes =
     if has_minutes bytes then sexagesimal_value (numbers_of bytes)
     else DEGREE_PARTS * size_value bytes
@@ -34,7 +34,7 @@ last_unit decimals = if decimals == 0 then 0 else 10 ^ (9 - decimals)
 -- The step to which a direction is rounded as it is written, in parts: one unit of its last
 -- decimal, or of its seconds where these have none; 0 for a whole number of gon or degrees.
 abbrev pub angle_step : AngleUnit → List ℕ → ℕ
-angle_step Gon bytes = GON_PARTS * last_unit (length (decimals_part bytes))
+angle_step Gon bytes = PARTS * last_unit (length (decimals_part bytes))
 angle_step Degrees bytes =
     if has_minutes bytes then sexagesimal_step (numbers_of bytes)
     else DEGREE_PARTS * last_unit (length (decimals_part bytes))

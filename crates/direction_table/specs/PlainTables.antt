@@ -10,8 +10,7 @@ use Rattle.direction_table.specs.Faults.{HasNoFault}
 use Rattle.direction_table.specs.Gons.{signed}
 use Rattle.direction_table.specs.Rows.{beside_name}
 use Rattle.direction_table.specs.Tables.{stated_by}
-use Rattle.direction_table.specs.declared.direction.TheConstants.{GON_PARTS}
-use Rattle.direction_table.specs.declared.gon.TheConstants.{CIRCLE}
+use Rattle.adjust_kernel.specs.declared.units.TheConstants.{CIRCLE, PARTS}
 use Rattle.direction_table.specs.declared.reading.TheConstants.{LONGEST_TABLE}
 use Rattle.direction_table.specs.declared.unit.AngleUnit.TheVariants.{Gon}
 
@@ -42,7 +41,7 @@ pub record IsPlainDirection (field : List ℕ) (direction : ℤ) : Type 0 where
   pub whole_digits : list_all is_ascii_digit whole ≡ true
   pub decimal_digits : list_all is_ascii_digit decimals ≡ true
   pub below : plain_size whole decimals < CIRCLE
-  pub value : direction ≡ signed negative (GON_PARTS * plain_size whole decimals)
+  pub value : direction ≡ signed negative (PARTS * plain_size whole decimals)
 
 -- A row is plain: it has two fields, and the second writes a direction plainly.
 pub record IsPlainRow (row : List (List ℕ)) : Type 0 where

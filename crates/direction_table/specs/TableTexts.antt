@@ -2,7 +2,7 @@
 use Rattle.std.specs.Prelude.{ℕ, ◌*◌, List, [], ◌∷◌, map, ℤ, pos}
 use Rattle.sheet_format.specs.Texts.{rows_text}
 use Rattle.direction_table.specs.Texts.{direction_text}
-use Rattle.direction_table.specs.declared.direction.TheConstants.{GON_PARTS}
+use Rattle.adjust_kernel.specs.declared.units.TheConstants.{PARTS}
 use Rattle.direction_table.specs.declared.table.TargetDirection.{TargetDirection}
 
 -- The row of a target: its name, and its direction with so many decimals.
@@ -19,4 +19,4 @@ names_of stated = map (λ row. row.name) stated
 
 -- Their directions, as they are read: in parts.
 abbrev pub directions_of : List TargetDirection → List ℤ
-directions_of stated = map (λ row. pos (GON_PARTS * row.direction)) stated
+directions_of stated = map (λ row. pos (PARTS * row.direction)) stated

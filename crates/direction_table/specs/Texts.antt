@@ -3,7 +3,7 @@ use Rattle.std.specs.Prelude.{◌≡◌, ℕ, zero, suc, ◌+◌, ◌-◌, ◌^�
 use Rattle.std.specs.Prelude.{◌++◌}
 use Rattle.std.specs.Fmt.{decimal}
 use Rattle.direction_table.specs.declared.decimals.TheConstants.{MOST_WRITTEN}
-use Rattle.direction_table.specs.declared.gon.TheConstants.{CIRCLE}
+use Rattle.adjust_kernel.specs.declared.units.TheConstants.{CIRCLE}
 
 -- The first so many decimals of a direction, each as a digit (the place notation of decimals).
 abbrev pub decimals_of : ℕ → ℕ → List ℕ

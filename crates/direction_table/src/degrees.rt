@@ -213,7 +213,7 @@ pub(crate) fn sexagesimal_of(bytes: &[u8]) -> Option<Angle>
         (λ angle. angle.size ≡ spec.sexagesimal_value (spec.numbers_of bytes.now)) }
     ensures step { IfSome result
         (λ angle. angle.step ≡ spec.sexagesimal_step (spec.numbers_of bytes.now)) }
-    ensures small { IfSome result (λ angle. angle.step ≤ COARSEST_STEP) }
+    ensures bound { IfSome result (λ angle. angle.step ≤ COARSEST_STEP) }
     ensures some { OnSome result (spec.is_sexagesimal (spec.numbers_of bytes.now) ≡ true) }
     ensures none { IfNone result (spec.is_sexagesimal (spec.numbers_of bytes.now) ≡ false) }
 {
@@ -226,7 +226,7 @@ fn sexagesimal_by(numbers: &Sexagesimal<'_>) -> Option<Angle>
         (λ angle. angle.size ≡ spec.sexagesimal_value (spec.numbers_view numbers.now)) }
     ensures step { IfSome result
         (λ angle. angle.step ≡ spec.sexagesimal_step (spec.numbers_view numbers.now)) }
-    ensures small { IfSome result (λ angle. angle.step ≤ COARSEST_STEP) }
+    ensures bound { IfSome result (λ angle. angle.step ≤ COARSEST_STEP) }
     ensures some { OnSome result (spec.is_sexagesimal (spec.numbers_view numbers.now) ≡ true) }
     ensures none { IfNone result (spec.is_sexagesimal (spec.numbers_view numbers.now) ≡ false) }
 {

@@ -7,11 +7,9 @@ ghost use Rattle.direction_table.specs.Directions as spec;
 ghost use Rattle.direction_table.specs.Gons as gons;
 
 use crate::degrees::{has_minutes, sexagesimal_of};
-use crate::gon::{CIRCLE, MOST_DECIMALS, size_of};
+use crate::gon::{MOST_DECIMALS, size_of};
 use crate::unit::AngleUnit;
-
-/// Parts in 0.000000001 gon. Directions that a table states are whole numbers of parts.
-pub const GON_PARTS: u64 = 81;
+use adjust_kernel::{CIRCLE, PARTS};
 
 /// Parts in 0.000000001 degrees.
 pub const DEGREE_PARTS: u64 = 90;
@@ -20,7 +18,7 @@ pub const DEGREE_PARTS: u64 = 90;
 pub const SECOND_PARTS: u64 = 25;
 
 /// Parts in a full circle.
-pub const CIRCLE_PARTS: u64 = GON_PARTS * CIRCLE;
+pub const CIRCLE_PARTS: u64 = PARTS * CIRCLE;
 
 /// No direction is rounded to larger steps, in parts: a degree has as many.
 pub(crate) const COARSEST_STEP: u64 = 90_000_000_000;
@@ -51,7 +49,7 @@ fn decimal_of(bytes: &[u8], parts: u64) -> Option<Angle>
     ensures size { IfSome result (λ angle. angle.size ≡ parts * gons.size_value bytes.now) }
     ensures step { IfSome result (λ angle.
         angle.step ≡ parts * spec.last_unit (length (gons.decimals_part bytes.now))) }
-    ensures small { IfSome result (λ angle. angle.step ≤ COARSEST_STEP) }
+    ensures bound { IfSome result (λ angle. angle.step ≤ COARSEST_STEP) }
     ensures some { OnSome result (gons.is_size bytes.now ≡ true) }
     ensures none { IfNone result (gons.is_size bytes.now ≡ false) }
 {
@@ -66,12 +64,12 @@ fn decimal_of(bytes: &[u8], parts: u64) -> Option<Angle>
 fn angle_of(unit: AngleUnit, bytes: &[u8]) -> Option<Angle>
     ensures size { IfSome result (λ angle. angle.size ≡ spec.angle_value unit bytes.now) }
     ensures step { IfSome result (λ angle. angle.step ≡ spec.angle_step unit bytes.now) }
-    ensures small { IfSome result (λ angle. angle.step ≤ COARSEST_STEP) }
+    ensures bound { IfSome result (λ angle. angle.step ≤ COARSEST_STEP) }
     ensures some { OnSome result (spec.is_angle unit bytes.now ≡ true) }
     ensures none { IfNone result (spec.is_angle unit bytes.now ≡ false) }
 {
     match unit {
-        AngleUnit::Gon => decimal_of(bytes, GON_PARTS),
+        AngleUnit::Gon => decimal_of(bytes, PARTS),
         AngleUnit::Degrees => {
             if has_minutes(bytes) {
                 sexagesimal_of(bytes)
@@ -94,7 +92,7 @@ fn direction_of(unit: AngleUnit, is_negative: bool, bytes: &[u8]) -> Option<Dire
     ensures size { IfSome result (λ d. d.angle.size ≡ spec.angle_value unit bytes.now) }
     ensures sign { IfSome result (λ d. d.is_negative ≡ is_negative) }
     ensures step { IfSome result (λ d. d.angle.step ≡ spec.angle_step unit bytes.now) }
-    ensures small { IfSome result (λ d. d.angle.step ≤ COARSEST_STEP) }
+    ensures bound { IfSome result (λ d. d.angle.step ≤ COARSEST_STEP) }
     ensures some { OnSome result (spec.is_angle unit bytes.now ≡ true) }
     ensures none { IfNone result (spec.is_angle unit bytes.now ≡ false) }
 {
@@ -109,7 +107,7 @@ impl Direction {
             (λ d. d.angle.size ≡ spec.angle_value unit (gons.unsigned field.now)) }
         ensures sign { IfSome result (λ d. d.is_negative ≡ gons.is_negative field.now) }
         ensures step { IfSome result (λ d. d.angle.step ≡ spec.step_in unit field.now) }
-        ensures small { IfSome result (λ d. d.angle.step ≤ COARSEST_STEP) }
+        ensures bound { IfSome result (λ d. d.angle.step ≤ COARSEST_STEP) }
         ensures some { OnSome result (spec.is_direction unit field.now ≡ true) }
         ensures none { IfNone result (spec.is_direction unit field.now ≡ false) }
     {
@@ -131,7 +129,7 @@ impl Direction {
     pub(crate) fn on_circle(self) -> Option<i64>
         ensures value { IfSome result
             (λ value. value ≡ spec.on_circle self.is_negative self.angle.size) }
-        ensures small { IfSome result (λ value. IsWithin (pos CIRCLE_PARTS) value) }
+        ensures bound { IfSome result (λ value. IsWithin (pos CIRCLE_PARTS) value) }
         ensures some { OnSome result (self.angle.size ≤ CIRCLE_PARTS) }
         ensures none { IfNone result (CIRCLE_PARTS < self.angle.size) }
     {

@@ -47,7 +47,7 @@ fn direction_of(unit: AngleUnit, field: &[u8]) -> Result<Stated, RowKind>
     ensures form { OnOk result (spec.is_direction unit field.now ≡ true) }
     ensures value { IfOk result (λ stated. stated.direction ≡ spec.direction_value unit field.now) }
     ensures step { IfOk result (λ stated. stated.step ≡ spec.step_in unit field.now) }
-    ensures small { IfOk result (λ stated. IsWithin (pos CIRCLE_PARTS) stated.direction) }
+    ensures bound { IfOk result (λ stated. IsWithin (pos CIRCLE_PARTS) stated.direction) }
     ensures small_step { IfOk result (λ stated. stated.step ≤ COARSEST_STEP) }
     ensures faultless { OnOk result (faults.direction_fault unit field.now ≡ None) }
     ensures fault { IfErr result (λ kind. faults.direction_fault unit field.now ≡ Some kind) }
@@ -95,7 +95,7 @@ pub(crate) fn entry_of(
         ≡ spec.direction_value unit (columns_view columns.now).direction) }
     ensures step { IfOk result (λ entry. entry.stated.step
         ≡ spec.step_in unit (columns_view columns.now).direction) }
-    ensures small { IfOk result (λ entry. IsWithin (pos CIRCLE_PARTS) entry.stated.direction) }
+    ensures bound { IfOk result (λ entry. IsWithin (pos CIRCLE_PARTS) entry.stated.direction) }
     ensures small_step { IfOk result (λ entry. entry.stated.step ≤ COARSEST_STEP) }
     ensures fault { IfErr result
         (λ kind. faults.entry_fault unit targets.now (columns_view columns.now) ≡ Some kind) }

@@ -10,10 +10,7 @@ ghost use Rattle.direction_table.specs.Gons as spec;
 use sheet_format::of_digits;
 
 /// A gon, in units of the ninth decimal.
-pub(crate) const GON: u64 = 1_000_000_000;
-
-/// A full circle of 400 gon, in units of the ninth decimal.
-pub const CIRCLE: u64 = 400 * GON;
+pub const GON: u64 = 1_000_000_000;
 
 /// The most decimals of a number that count: those after them are 0.
 pub(crate) const MOST_DECIMALS: usize = 9;

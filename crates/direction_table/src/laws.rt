@@ -3,6 +3,7 @@
 ghost use Rattle.std.specs.Prelude.{◌≡◌, ◌⊎◌, ◌≤◌, ◌+◌, ◌*◌, ◌++◌, ◌∷◌, All, List, ℕ, ℤ, codes};
 ghost use Rattle.std.specs.Prelude.{false, neg_ℤ, pos, true};
 ghost use Rattle.adjust_kernel.specs.Stations.{AreTargets};
+ghost use Rattle.adjust_kernel.specs.declared.units.TheConstants.{CIRCLE, PARTS};
 ghost use Rattle.direction_table.specs.Degrees.{seconds_step};
 ghost use Rattle.direction_table.specs.Directions.{direction_value, is_direction, is_on_circle};
 ghost use Rattle.direction_table.specs.PlainTables.{IsPlainTable};
@@ -12,10 +13,9 @@ ghost use Rattle.direction_table.specs.Texts as spec;
 ghost use Rattle.direction_table.specs.UsualLimits.{limit_of_step};
 ghost use Rattle.direction_table.specs.declared.decimals.TheConstants.{MOST_WRITTEN};
 ghost use Rattle.direction_table.specs.declared.degrees.TheConstants.{DEGREE};
-ghost use Rattle.direction_table.specs.declared.direction.TheConstants.{CIRCLE_PARTS, GON_PARTS};
+ghost use Rattle.direction_table.specs.declared.direction.TheConstants.{CIRCLE_PARTS};
 ghost use Rattle.direction_table.specs.declared.fault.TableFault.{TableFault};
-ghost use Rattle.direction_table.specs.declared.gon.TheConstants.{CIRCLE};
-ghost use Rattle.direction_table.specs.declared.limit.TheConstants.{USUAL_WITHIN};
+ghost use Rattle.direction_table.specs.declared.limit.TheConstants.{LARGEST_WITHIN, USUAL_WITHIN};
 ghost use Rattle.direction_table.specs.declared.reading.TheConstants.{LONGEST_TABLE};
 ghost use Rattle.direction_table.specs.declared.table.TargetDirection.{TargetDirection};
 ghost use Rattle.direction_table.specs.declared.unit.AngleUnit.{AngleUnit};
@@ -55,7 +55,7 @@ pub fn direction_reads_back()
     ensures small { (count direction : ℕ) → spec.AreDecimals count → spec.IsWhole count direction
         → is_on_circle Gon (spec.direction_text count direction) ≡ true }
     ensures value { (count direction : ℕ) → spec.AreDecimals count → spec.IsWhole count direction
-        → direction_value Gon (spec.direction_text count direction) ≡ pos (GON_PARTS * direction) }
+        → direction_value Gon (spec.direction_text count direction) ≡ pos (PARTS * direction) }
 {}
 
 /// The text of the table of all targets, in their order, is a table of them and of the directions
@@ -79,10 +79,10 @@ pub fn plain_tables_stand()
 /// unit, for more of them no more than 10; and for seconds without decimals, and with one and two.
 pub fn usual_limits()
     ensures few { (decimals : ℕ) → 1 ≤ decimals → decimals ≤ 4
-        → 2_000 * limit_of_step (GON_PARTS * spec.step_of decimals)
+        → 2_000 * limit_of_step (PARTS * spec.step_of decimals)
         ≡ spec.step_of decimals + 2_000 }
     ensures many { (decimals : ℕ) → 5 ≤ decimals
-        → limit_of_step (GON_PARTS * spec.step_of decimals) ≤ 10 }
+        → limit_of_step (PARTS * spec.step_of decimals) ≤ 10 }
     ensures whole { limit_of_step 0 ≡ 1 }
     ensures seconds { limit_of_step (seconds_step 0) ≡ 156 }
     ensures one_decimal { limit_of_step (seconds_step 1) ≡ 17 }
@@ -98,7 +98,7 @@ pub fn degrees()
         ≡ pos 5_316_229_500_000 }
     ensures decimals { direction_value Degrees (codes "59,069216667") ≡ pos 5_316_229_500_030 }
     ensures whole { direction_value Degrees (codes "-90")
-        ≡ neg_ℤ (pos (100 * 1_000_000_000 * GON_PARTS)) }
+        ≡ neg_ℤ (pos (100 * 1_000_000_000 * PARTS)) }
     ensures circle { direction_value Degrees (codes "360-00-00") ≡ pos 0 }
     ensures sixty { is_direction Degrees (codes "59-60-09.18") ≡ false }
     ensures gon { is_direction Gon (codes "59-04-09.18") ≡ false }
@@ -106,7 +106,7 @@ pub fn degrees()
 
 /// The bounds of a table in digits: its bytes; a full circle in units of the ninth decimal of a gon
 /// and in parts, and that it has 360 degrees; the most decimals that are written; and the least
-/// usual limit, in units of 0.000001 gon.
+/// usual limit and the largest limit, in units of 0.000001 gon.
 pub fn bounds()
     ensures bytes { LONGEST_TABLE ≡ 1_048_576 }
     ensures circle { CIRCLE ≡ 400_000_000_000 }
@@ -114,4 +114,5 @@ pub fn bounds()
     ensures degrees { 360 * DEGREE ≡ CIRCLE_PARTS }
     ensures decimals { MOST_WRITTEN ≡ 8 }
     ensures usual_within { USUAL_WITHIN ≡ 10 }
+    ensures largest_within { LARGEST_WITHIN ≡ 1_000_000 }
 {}

@@ -25,10 +25,10 @@ mod text;
 mod unit;
 
 pub use decimals::{Decimals, MOST_WRITTEN};
-pub use direction::{CIRCLE_PARTS, GON_PARTS};
+pub use direction::CIRCLE_PARTS;
 pub use fault::{RowKind, TableFault};
-pub use gon::CIRCLE;
-pub use limit::USUAL_WITHIN;
+pub use gon::GON;
+pub use limit::{LARGEST_WITHIN, USUAL_WITHIN};
 pub use reading::{LONGEST_TABLE, StatedTable, read_stated_table, read_table};
 pub use table::{TargetDirection, table_text};
 pub use text::push_direction;

@@ -10,7 +10,7 @@ use Rattle.adjust_kernel.specs.Within.{IsWithin}
 use Rattle.directions_apart.specs.Apart.{AreBroughtNear, IsApart}
 use Rattle.directions_apart.specs.Arcs.{IsWayRound}
 use Rattle.directions_apart.specs.Rounding.{IsRounded, from_first, twice_more}
-use Rattle.directions_apart.specs.declared.units.TheConstants.{CIRCLE}
+use Rattle.adjust_kernel.specs.declared.units.TheConstants.{CIRCLE}
 use Rattle.directions_apart.proofs.ApartLaws.{AreTurned}
 use Rattle.directions_apart.proofs.ArcLaws.{no_circle}
 use Rattle.exact_adjustment.proofs.NearTurns.{chosen}

@@ -5,7 +5,7 @@ use Rattle.std.specs.Prelude.{ℕ, ◌+◌, ◌*◌, ◌≤◌, ◌<◌, List, �
 use Rattle.adjust_kernel.specs.Residuals.{Choice}
 use Rattle.adjust_kernel.specs.Within.{IsWithin}
 use Rattle.directions_apart.specs.Arcs.{IsSpread}
-use Rattle.directions_apart.specs.declared.units.TheConstants.{CIRCLE, HALF_UNIT, PARTS, UNIT}
+use Rattle.adjust_kernel.specs.declared.units.TheConstants.{CIRCLE, HALF_UNIT, PARTS, UNIT}
 
 -- the direction that a list states for a target
 abbrev pub stated_by : List ℤ → ℕ → ℤ

@@ -2,7 +2,7 @@
 -- 0.000000001 gon.
 use Rattle.std.specs.Prelude.{◌≡◌, ℕ, ◌*◌, ◌%◌, ◌<◌, ℤ, pos, neg_ℤ, ◌+ℤ◌, ◌-ℤ◌, ◌*ℤ◌, ◌≤ℤ◌, ◌<ℤ◌}
 use Rattle.adjust_kernel.specs.Residuals.{Choice}
-use Rattle.directions_apart.specs.declared.units.TheConstants.{CIRCLE, HALF_UNIT}
+use Rattle.adjust_kernel.specs.declared.units.TheConstants.{CIRCLE, HALF_UNIT}
 
 -- twice what a rounded direction is more than a choice's, with so many full circles: in 0.000000001
 -- gon times the denominator

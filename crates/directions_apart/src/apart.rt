@@ -5,7 +5,7 @@ ghost use Rattle.exact_adjustment.specs.Adjustments.{choice_by};
 ghost use Rattle.wide_number.specs.Limbs.{WIDE_LIMIT};
 
 use crate::arc::spread;
-use crate::units::{CIRCLE, PARTS, UNIT};
+use adjust_kernel::{CIRCLE, PARTS, UNIT};
 use exact_adjustment::Adjustment;
 use wide_number::{Wide, quotient};
 

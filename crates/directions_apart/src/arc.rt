@@ -5,7 +5,7 @@ ghost use Rattle.directions_apart.specs.Arcs.{IsExtent, IsSpread};
 ghost use Rattle.exact_adjustment.specs.Adjustments.{choice_by};
 
 use crate::circle::way_round;
-use crate::difference::{circle, difference};
+use crate::differences::{circle, difference};
 use exact_adjustment::Adjustment;
 use wide_number::Wide;
 
@@ -35,7 +35,7 @@ pub(crate) fn spread(adjustment: &Adjustment, stated: &[i64]) -> Wide
     ensures spread { IsSpread (circle_of (choice_by adjustment.now))
         (difference (choice_by adjustment.now) (stated_by stated.now)) (length stated.now)
         result }
-    ensures below { result < circle_of (choice_by adjustment.now) }
+    ensures bound { result < circle_of (choice_by adjustment.now) }
 {
     let mut narrowest = circle(adjustment);
     for start in 0..stated.len() {

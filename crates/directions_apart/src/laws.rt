@@ -9,8 +9,8 @@ ghost use Rattle.exact_adjustment.specs.Adjustments.{AdjustmentValue, choice_by}
 ghost use Rattle.exact_adjustment.specs.Exact.{IsExact, KeepsLimit};
 ghost use Rattle.directions_apart.specs.Apart.{AreBroughtNear, IsApart};
 ghost use Rattle.directions_apart.specs.Rounding.{IsRounded, from_first};
-ghost use Rattle.directions_apart.specs.declared.units.TheConstants.{CIRCLE, HALF_UNIT, PARTS};
-ghost use Rattle.directions_apart.specs.declared.units.TheConstants.{UNIT};
+ghost use Rattle.adjust_kernel.specs.declared.units.TheConstants.{CIRCLE, HALF_UNIT, PARTS};
+ghost use Rattle.adjust_kernel.specs.declared.units.TheConstants.{UNIT};
 
 /// What is said of an exact adjustment's directions is so of every least-squares choice of the
 /// station, over any denominator and with any full turns: stated directions are as far apart from

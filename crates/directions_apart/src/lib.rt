@@ -4,7 +4,8 @@
 //! A program prints directions as decimals of a gon, or in degrees. `apart_of` tells how near one
 //! rotation brings them to the directions of an exact adjustment: exactly, in whole units of
 //! 0.000001 gon, rounded up. `rounded` answers a direction of the adjustment as tables print it,
-//! exactly rounded.
+//! exactly rounded. `difference`, `way_round` and `on_circle` are the angles that the first is made
+//! of.
 //!
 //! Stated directions are in parts, 81 of which are 0.000000001 gon: so 9 decimals of a gon are
 //! whole, 9 of a degree, and 6 of a second.
@@ -13,11 +14,11 @@
 mod apart;
 mod arc;
 mod circle;
-mod difference;
+mod differences;
 pub mod laws;
 mod rounding;
-mod units;
 
 pub use apart::apart_of;
+pub use circle::{on_circle, way_round};
+pub use differences::difference;
 pub use rounding::rounded;
-pub use units::{CIRCLE, HALF_UNIT, PARTS, UNIT};

@@ -5,7 +5,7 @@ ghost use Rattle.exact_adjustment.specs.Adjustments.{choice_by};
 ghost use Rattle.exact_adjustment.specs.declared.bounds.TheConstants.{LARGEST_FACTOR};
 ghost use Rattle.wide_number.specs.Limbs.{WIDE_LIMIT};
 
-use crate::units::{CIRCLE, HALF_UNIT};
+use adjust_kernel::{CIRCLE, HALF_UNIT};
 use exact_adjustment::Adjustment;
 use wide_number::{Wide, quotient};
 
@@ -14,7 +14,7 @@ fn nearest_steps(direction: &Wide, denominator: &Wide, step: u32) -> u64
     requires some { 1 ≤ denominator.now }
     requires step { 1 ≤ step }
     requires direction { direction.now < denominator.now * CIRCLE }
-    requires size { denominator.now * LARGEST_FACTOR < WIDE_LIMIT }
+    requires fits { denominator.now * LARGEST_FACTOR < WIDE_LIMIT }
     ensures low { 2 * (result * (denominator.now * step))
         ≤ 2 * direction.now + denominator.now * step }
     ensures high { 2 * direction.now + denominator.now * step
@@ -31,7 +31,7 @@ fn nearest_steps(direction: &Wide, denominator: &Wide, step: u32) -> u64
 fn direction(adjustment: &Adjustment, target: usize) -> Wide
     requires { target < length adjustment.now.directions }
     ensures value { pos result ≡ (pos HALF_UNIT *ℤ (choice_by adjustment.now).direction target) }
-    ensures below { result < (choice_by adjustment.now).denominator * CIRCLE }
+    ensures bound { result < (choice_by adjustment.now).denominator * CIRCLE }
 {
     adjustment.directions()[target].times(HALF_UNIT)
 }

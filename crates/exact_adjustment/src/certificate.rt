@@ -97,7 +97,7 @@ fn is_target_even(
     requires turns { All (IsWithin LARGEST_TURN) turns.now }
     requires directions { AreOnCircle denominator.now directions.now }
     requires orientations { AreOnCircle denominator.now orientations.now }
-    requires short { denominator.now * LARGEST_FACTOR < WIDE_LIMIT }
+    requires fits { denominator.now * LARGEST_FACTOR < WIDE_LIMIT }
     ensures { IsTrue result
         ↔ (target_sum (choice_in denominator.now directions.now orientations.now)
         (turned obs.now turns.now) target ≡ pos 0) }
@@ -136,7 +136,7 @@ fn is_set_even(
     requires turns { All (IsWithin LARGEST_TURN) turns.now }
     requires directions { AreOnCircle denominator.now directions.now }
     requires orientations { AreOnCircle denominator.now orientations.now }
-    requires short { denominator.now * LARGEST_FACTOR < WIDE_LIMIT }
+    requires fits { denominator.now * LARGEST_FACTOR < WIDE_LIMIT }
     ensures { IsTrue result
         ↔ (set_sum (choice_in denominator.now directions.now orientations.now)
         (turned obs.now turns.now) set ≡ pos 0) }
@@ -174,7 +174,7 @@ pub(crate) fn are_targets_even(
     requires turns { All (IsWithin LARGEST_TURN) turns.now }
     requires directions { AreOnCircle denominator.now directions.now }
     requires orientations { AreOnCircle denominator.now orientations.now }
-    requires short { denominator.now * LARGEST_FACTOR < WIDE_LIMIT }
+    requires fits { denominator.now * LARGEST_FACTOR < WIDE_LIMIT }
     requires count { length directions.now ≤ 100 }
     ensures { IsTrue result ↔ ((t : ℕ) → t < length directions.now
         → target_sum (choice_in denominator.now directions.now orientations.now)
@@ -202,7 +202,7 @@ pub(crate) fn are_sets_even(
     requires turns { All (IsWithin LARGEST_TURN) turns.now }
     requires directions { AreOnCircle denominator.now directions.now }
     requires orientations { AreOnCircle denominator.now orientations.now }
-    requires short { denominator.now * LARGEST_FACTOR < WIDE_LIMIT }
+    requires fits { denominator.now * LARGEST_FACTOR < WIDE_LIMIT }
     requires count { length orientations.now ≤ 100 }
     ensures { IsTrue result ↔ ((s : ℕ) → s < length orientations.now
         → set_sum (choice_in denominator.now directions.now orientations.now)

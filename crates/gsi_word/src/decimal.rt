@@ -79,7 +79,7 @@ fn value_of_eight(bytes: &[u8]) -> u32
     requires eight { length bytes.now ≡ 8 }
     requires digits { IsTrue (list_all is_ascii_digit bytes.now) }
     ensures value { result ≡ decimal_value bytes.now }
-    ensures below { result < 100000000 }
+    ensures bound { result < 100000000 }
 {
     let digits: u32x8 = u8x8::from_slice(bytes).strict_sub(u8x8::splat(b'0')).cast();
     let worths = digits.strict_mul(u32x8::from_array(WORTH));

@@ -72,7 +72,7 @@ fn first_unprintable(line: &[u8]) -> Option<usize>
 #[inline(always)]
 pub fn printable_run(bytes: &[u8], at: usize) -> usize
     requires { at + LANES ≤ length bytes.now }
-    ensures within { result ≤ LANES }
+    ensures bound { result ≤ LANES }
     ensures printable { (k : ℕ) → at ≤ k → k < at + result
         → IsLineByte (slice_index bytes.now k) }
     ensures unprintable { result < LANES → ¬ IsLineByte (slice_index bytes.now (at + result)) }

@@ -15,7 +15,7 @@ use Rattle.directions_apart.proofs.RoundingLaws.{as_rounded, less_near, one_roun
 use Rattle.directions_apart.proofs.RoundingLaws.{rounded_of_0}
 use Rattle.directions_apart.specs.Apart.{AreBroughtNear, IsApart}
 use Rattle.directions_apart.specs.Rounding.{IsRounded, from_first}
-use Rattle.directions_apart.specs.declared.units.TheConstants.{CIRCLE}
+use Rattle.adjust_kernel.specs.declared.units.TheConstants.{CIRCLE}
 use Rattle.exact_adjustment.proofs.ExactLaws.{is_least}
 use Rattle.exact_adjustment.specs.Adjustments.{AdjustmentValue, choice_by}
 use Rattle.exact_adjustment.specs.Exact.{IsExact, KeepsLimit}

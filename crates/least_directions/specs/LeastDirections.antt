@@ -6,7 +6,7 @@ use Rattle.adjust_kernel.specs.Stations.{StationValue, IsStation}
 use Rattle.adjust_kernel.specs.declared.bounds.TheConstants.{LARGEST_RESIDUAL_LIMIT}
 use Rattle.directions_apart.specs.Apart.{IsApart, stated_by}
 use Rattle.directions_apart.specs.Rounding.{IsRounded, from_first}
-use Rattle.directions_apart.specs.declared.units.TheConstants.{PARTS}
+use Rattle.adjust_kernel.specs.declared.units.TheConstants.{PARTS}
 use Rattle.exact_adjustment.specs.Adjustments.{AdjustmentValue}
 use Rattle.exact_adjustment.specs.Exact.{IsExact, KeepsLimit}
 use Rattle.exact_adjustment.specs.LeastOf.{AreTied, IsLeastOf}

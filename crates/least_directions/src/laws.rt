@@ -4,7 +4,7 @@ ghost use Rattle.std.specs.Prelude.{◌≡◌, ◌≤◌, ◌<◌, ◌*◌, ◌%
 ghost use Rattle.adjust_kernel.specs.Residuals.{Choice};
 ghost use Rattle.adjust_kernel.specs.Stations.{StationValue};
 ghost use Rattle.directions_apart.specs.Apart.{AreBroughtNear};
-ghost use Rattle.directions_apart.specs.declared.units.TheConstants.{CIRCLE, PARTS, UNIT};
+ghost use Rattle.adjust_kernel.specs.declared.units.TheConstants.{CIRCLE, PARTS, UNIT};
 ghost use Rattle.exact_adjustment.specs.LeastOf.{IsLeastOf};
 ghost use Rattle.least_directions.specs.LeastDirections.{AreApart, AreRounded, IsAdjustable};
 ghost use Rattle.least_directions.specs.LeastDirections.{as_stated};

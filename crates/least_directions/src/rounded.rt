@@ -2,14 +2,14 @@
 ghost use Rattle.std.specs.Prelude.{◌≡◌, ◌≤◌, ◌<◌, ◌%◌, ℕ, All, length, slice_index_or, IfErr};
 ghost use Rattle.std.specs.Prelude.{IfOk};
 ghost use Rattle.directions_apart.specs.Rounding.{IsRounded};
-ghost use Rattle.directions_apart.specs.declared.units.TheConstants.{CIRCLE};
+ghost use Rattle.adjust_kernel.specs.declared.units.TheConstants.{CIRCLE};
 ghost use Rattle.exact_adjustment.specs.Adjustments.{choice_by};
 ghost use Rattle.exact_adjustment.specs.Faults.{IsAdjustError};
 ghost use Rattle.least_directions.specs.LeastDirections.{AreRounded};
 
 use crate::adjusted::adjusted;
-use adjust_kernel::Station;
-use directions_apart::{CIRCLE, rounded};
+use adjust_kernel::{CIRCLE, Station};
+use directions_apart::rounded;
 use exact_adjustment::{AdjustError, Adjustment};
 use std::alloc::{AllocError, Global};
 

@@ -1,5 +1,5 @@
 //! The rows of a field file's stations, written.
-ghost use Rattle.byte_ends.specs.Sink.{writer_change};
+ghost use Rattle.byte_ends.specs.Writers.{writer_change};
 ghost use Rattle.byte_ends.specs.Source.{UntilDropped};
 ghost use Rattle.list_rows.specs.Runs.{IsRowsRun};
 
@@ -23,7 +23,7 @@ pub fn write_rows<R: Source, W: Sink>(
     writer: &mut W,
 ) -> Result<u32, Fault>
     ensures { UntilDropped R.told R.failed R.gave gsi (λ gsi. IsRowsRun limits gsi result
-        (writer_change W.failed W.holds W.handed_on writer.old writer.new)) }
+        (writer_change W.Sink writer.old writer.new)) }
 {
     let (noted, _gsi) = noted_stations_of_file(alloc, gsi, limits);
     let (stations, unchecked) = noted?;

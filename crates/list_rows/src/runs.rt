@@ -1,6 +1,6 @@
 //! The list as rows as a command, over a source of bytes and sinks: it makes its call, and answers
 //! the exit status.
-ghost use Rattle.byte_ends.specs.Sink.{writer_change};
+ghost use Rattle.byte_ends.specs.Writers.{writer_change};
 ghost use Rattle.byte_ends.specs.Source.{UntilDropped};
 ghost use Rattle.list_rows.specs.Runs.{IsRowsRun};
 ghost use Rattle.station_check.specs.ListNotes.{unchecked_note};
@@ -26,8 +26,8 @@ pub fn run_list_rows<R: Source, W: Sink, E: Sink>(
 ) -> u8
     ensures { UntilDropped R.told R.failed R.gave gsi (λ gsi. RunWithNotes unchecked_note
         refusal_line (IsRowsRun limits gsi)
-        result (writer_change W.failed W.holds W.handed_on out.old out.new)
-        (writer_change E.failed E.holds E.handed_on err.old err.new)) }
+        result (writer_change W.Sink out.old out.new)
+        (writer_change E.Sink err.old err.new)) }
 {
     match write_rows(alloc, gsi, limits, out) {
         Ok(unchecked) => note_unchecked(unchecked, err),

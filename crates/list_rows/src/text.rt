@@ -8,10 +8,9 @@ ghost use Rattle.csv.specs.Writing.{default_writer, row_text};
 ghost use Rattle.list_rows.specs.RowTexts as spec;
 ghost use Rattle.sheet_format.specs.Texts.{Writes, rows_text};
 
-use adjust_kernel::{Obs, Station};
+use adjust_kernel::{HALF_UNIT, Obs, Station};
 use angle_texts::{push_gon, push_short_mgon};
 use csv::{Writer, WriterBuilder};
-use directions_apart::HALF_UNIT;
 use itoa::Buffer;
 use station_book::{Faces, Stations, Surveyed};
 use std::alloc::{AllocError, Global};

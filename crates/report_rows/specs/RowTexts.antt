@@ -3,7 +3,7 @@ use Rattle.std.specs.Prelude.{ℕ, ◌*◌, List, [], ◌∷◌, map, codes, dec
 use Rattle.std.specs.List.{zip}
 use Rattle.angle_texts.specs.MgonTexts.{mgon_text, short_mgon_text}
 use Rattle.direction_table.specs.Texts.{direction_text}
-use Rattle.directions_apart.specs.declared.units.TheConstants.{HALF_UNIT}
+use Rattle.adjust_kernel.specs.declared.units.TheConstants.{HALF_UNIT}
 use Rattle.sheet_format.specs.Texts.{rows_text}
 use Rattle.station_book.specs.Stations.{SurveyedStation}
 use Rattle.station_book.specs.declared.faces.Faces.{Faces}

@@ -1,6 +1,6 @@
 //! The rows of the report of a station of a field file.
 ghost use Rattle.std.specs.Prelude.{MatchResult};
-ghost use Rattle.byte_ends.specs.Sink.{writer_change};
+ghost use Rattle.byte_ends.specs.Writers.{writer_change};
 ghost use Rattle.byte_ends.specs.Source.{UntilDropped};
 ghost use Rattle.report_rows.specs.Runs.{IsReportRowsRun};
 ghost use Rattle.report_rows.specs.Stating.{AreReportRows, StatesReportRows};
@@ -62,7 +62,7 @@ pub fn write_report_rows<R: Source, W: Sink>(
     writer: &mut W,
 ) -> Result<(), CompareFault>
     ensures { UntilDropped R.told R.failed R.gave gsi (λ gsi. IsReportRowsRun limits gsi name.now
-        result (writer_change W.failed W.holds W.handed_on writer.old writer.new)) }
+        result (writer_change W.Sink writer.old writer.new)) }
 {
     let text = report_rows_text(alloc, gsi, name, limits)?;
     write_whole(writer, &text)?;

@@ -9,10 +9,9 @@ ghost use Rattle.report_rows.specs.RowTexts as spec;
 ghost use Rattle.sheet_format.specs.Texts.{Writes, rows_text};
 ghost use Rattle.station_report.specs.Readings as reading;
 
-use adjust_kernel::Name;
+use adjust_kernel::{HALF_UNIT, Name};
 use angle_texts::{push_gon, push_mgon, push_short_mgon};
 use csv::{Writer, WriterBuilder};
-use directions_apart::HALF_UNIT;
 use itoa::Buffer;
 use station_book::{Faces, Surveyed};
 use station_report::{READ_UNIT, reading_one, reading_two};

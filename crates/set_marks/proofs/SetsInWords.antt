@@ -9,7 +9,7 @@ use Rattle.std.proofs.lemmas.List.{take-append-drop, append-nil, length-take, dr
 use Rattle.std.proofs.lemmas.List.Elements.{All-nil, All-cons, All-head, All-tail}
 use Rattle.std.proofs.lemmas.Slice.Eq.{bytes_eq-Decides}
 use Rattle.station_book.proofs.readings.CleanBlocks.{all_none}
-use Rattle.set_marks.specs.declared.bounds.TheConstants.{MOST_SETS}
+use Rattle.adjust_kernel.specs.declared.bounds.TheConstants.{MOST_SETS}
 use Rattle.set_marks.specs.declared.fault.MarkKind.TheVariants as kinds
 use Rattle.set_marks.specs.declared.flaw.Flaw.{Flaw}
 use Rattle.set_marks.specs.declared.division.Divided.TheVariants.{NoSets, Sets}

@@ -11,7 +11,8 @@ use Rattle.std.specs.Str.{bytes_eq}
 use Rattle.gsi_file.specs.FileAnswers.{least}
 use Rattle.station_book.specs.Faults.{first_of}
 use Rattle.station_book.specs.Places.{is_among, with_new}
-use Rattle.set_marks.specs.declared.bounds.TheConstants.{MOST_READINGS, MOST_SETS}
+use Rattle.adjust_kernel.specs.declared.bounds.TheConstants.{MOST_SETS}
+use Rattle.set_marks.specs.declared.bounds.TheConstants.{MOST_READINGS}
 use Rattle.set_marks.specs.declared.fault.MarkKind.{MarkKind}
 use Rattle.set_marks.specs.declared.fault.MarkKind.TheVariants as kinds
 use Rattle.set_marks.specs.declared.flaw.Flaw.{Flaw}

@@ -2,7 +2,7 @@
 use Rattle.std.specs.Prelude.{◌≡◌, ◌≤◌, ℕ, Bool, true, false, ◌&&◌, List, ◌++◌, length, take, drop}
 use Rattle.std.specs.Prelude.{filter, Contains, All}
 use Rattle.std.specs.List.{flat_map}
-use Rattle.set_marks.specs.declared.bounds.TheConstants.{MOST_SETS}
+use Rattle.adjust_kernel.specs.declared.bounds.TheConstants.{MOST_SETS}
 use Rattle.set_marks.specs.declared.sight.Sight.{Sight}
 use Rattle.set_marks.specs.Divisions.{is_of, is_same_face, sets_of, end_in, starts_of, first_set}
 use Rattle.set_marks.specs.Divisions.{is_one_by_targets, is_mostly_known}

@@ -1,10 +1,9 @@
 //! The bounds of sets.
 
-/// The most readings of a set: 100 targets in two faces.
-pub const MOST_READINGS: usize = 200;
+use adjust_kernel::MOST_TARGETS;
 
-/// The most sets of a station.
-pub const MOST_SETS: usize = 40;
+/// The most readings of a set: each target in two faces.
+pub const MOST_READINGS: usize = 2 * MOST_TARGETS;
 
 /// Readings that are so few that each is compared with all: a table of their targets takes longer.
 pub(crate) const FEW_READINGS: usize = 32;

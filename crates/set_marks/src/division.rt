@@ -16,7 +16,7 @@ ghost use Rattle.set_marks.specs.Divisions.{is_one_by_targets, known_in, is_most
 ghost use Rattle.set_marks.specs.Divisions.{stranger_among, flaw_found, doubt_after, doubt_flaw};
 ghost use Rattle.set_marks.specs.declared.fault.MarkKind.TheVariants.{OtherTargets};
 
-use crate::bounds::{MOST_READINGS, MOST_SETS};
+use crate::bounds::MOST_READINGS;
 use crate::fault::MarkKind;
 use crate::flaw::{Flaw, flaw_at, flaw_found};
 use crate::known::Known;
@@ -26,6 +26,7 @@ use crate::set::{
 };
 use crate::sight::Sight;
 use crate::starts::{starts, starts_of};
+use adjust_kernel::MOST_SETS;
 use std::alloc::{AllocError, Global};
 
 /// What a station's readings are.
@@ -273,7 +274,7 @@ fn is_one_by_targets(starts: &[usize], sights: &[Sight]) -> bool
 fn count_known(known: &mut Known, set: &[Sight]) -> usize
     ensures known { (first : List Sight) → KnowsTargetsOf first known.old
         → result ≡ length (known_in first set.now) }
-    ensures few { result ≤ length set.now }
+    ensures bound { result ≤ length set.now }
 {
     let mut count = 0;
     let mut left = set;

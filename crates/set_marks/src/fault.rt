@@ -4,7 +4,8 @@ ghost use Rattle.std.specs.Prelude.{◌≡◌, ◌≤◌, length};
 ghost use Rattle.set_marks.specs.FaultNames.{mark_kind_name, mark_fault_name};
 ghost use Rattle.set_marks.specs.declared.fault.MarkFault.TheVariants.{File, Memory};
 
-use crate::bounds::{MOST_READINGS, MOST_SETS};
+use crate::bounds::MOST_READINGS;
+use adjust_kernel::MOST_SETS;
 use gsi_file::{FileFault, OutOfMemory};
 use station_book::{BookKind, MOST_STATIONS};
 use std::alloc::AllocError;

@@ -28,7 +28,7 @@ mod set;
 mod sight;
 mod starts;
 
-pub use bounds::{MOST_READINGS, MOST_SETS};
+pub use bounds::MOST_READINGS;
 pub use copy::marked_copy;
 pub use division::{Divided, divide};
 pub use fault::{MarkFault, MarkKind};

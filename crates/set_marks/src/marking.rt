@@ -2,7 +2,7 @@
 
 ghost use Rattle.std.specs.Prelude.{◌≡◌, ◌<◌, ◌≤◌, ◌+◌, ◌++◌, ◌∷◌, [], All, IfNone, IfOk, IfSome};
 ghost use Rattle.std.specs.Prelude.{OnOk, length, drop, false, option_map, slice_get, nat_lt, ◌&&◌};
-ghost use Rattle.set_marks.specs.declared.bounds.TheConstants.{MOST_SETS};
+ghost use Rattle.adjust_kernel.specs.declared.bounds.TheConstants.{MOST_SETS};
 ghost use Rattle.set_marks.specs.declared.division.Divided.TheVariants.{NoSets, Sets};
 ghost use Rattle.set_marks.specs.Divisions.{divided, starts_of, end_in};
 ghost use Rattle.station_book.specs.Places.{is_among};

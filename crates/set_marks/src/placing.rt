@@ -86,7 +86,7 @@ fn place_part<'a>(
     marks: &'a [BlockMark],
 ) -> Result<(usize, &'a [BlockMark]), AllocError>
     requires inside { at ≤ length bytes.now }
-    requires few { number ≤ at }
+    requires bound { number ≤ at }
     requires line { BeginsAt bytes.now at }
     requires room { All IsRoomy marks.now }
     requires ordered { AreOrdered 0 at placed.old.items }
@@ -95,7 +95,7 @@ fn place_part<'a>(
         → placed.old.items ++ placed_from bytes.now at number marks.now (part.now ∷ rest)
         ≡ placed.new.items
         ++ placed_from bytes.now (at + length part.now + 1) r.0 r.1.now rest) }
-    ensures few { IfOk result (λ r. r.0 ≤ number + 1) }
+    ensures bound { IfOk result (λ r. r.0 ≤ number + 1) }
     ensures room { IfOk result (λ r. All IsRoomy r.1.now) }
     ensures ordered { IfOk result (λ r. AreOrdered 0 at placed.new.items) }
     ensures begin { IfOk result (λ r. All (BeginsLine bytes.now) placed.new.items) }

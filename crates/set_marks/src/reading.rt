@@ -109,7 +109,7 @@ impl Readings {
         block: &Block<'_>,
         stated: bool,
     ) -> Result<(), MarkFault>
-        requires few { number ≤ LONGEST_FILE }
+        requires bound { number ≤ LONGEST_FILE }
         requires room { All IsRoomy self.old.marking.marks.items }
         ensures room { All IsRoomy self.new.marking.marks.items }
         ensures fault { OnOk result (fault.new ≡ first_of (fault.old
@@ -141,7 +141,7 @@ impl Readings {
         block: &Block<'_>,
         stated: bool,
     ) -> Result<(), MarkFault>
-        requires few { number ≤ LONGEST_FILE }
+        requires bound { number ≤ LONGEST_FILE }
         requires room { All IsRoomy self.old.marking.marks.items }
         ensures room { All IsRoomy self.new.marking.marks.items }
         ensures clean { OnOk result (fault_as (role_of (block_of block.now)) stated
@@ -170,7 +170,7 @@ impl Readings {
         block: &Block<'_>,
         stated: bool,
     ) -> Result<(), MarkFault>
-        requires few { number ≤ LONGEST_FILE }
+        requires bound { number ≤ LONGEST_FILE }
         requires measurement { role_of (block_of block.now) ≡ Measurement }
         requires room { All IsRoomy self.old.marking.marks.items }
         ensures room { All IsRoomy self.new.marking.marks.items }
@@ -210,7 +210,7 @@ impl Readings {
 
     /// Begins a station, and ends the one that was open.
     fn begin_station(&mut self, alloc: Global, number: u32, name: Name) -> Result<(), AllocError>
-        requires few { number ≤ LONGEST_FILE }
+        requires bound { number ≤ LONGEST_FILE }
         requires room { All IsRoomy self.old.marking.marks.items }
         ensures room { All IsRoomy self.new.marking.marks.items }
         ensures station { OnOk result (self.new.station ≡ Some name) }

@@ -22,7 +22,7 @@ pub fn write_sheet<W: Sink>(alloc: Global, sheet: &Sheet, writer: &mut W) -> Res
     ensures written { OnOk result
         (Appends (W.holds writer.old) (W.holds writer.new) (spec.sheet_text sheet.now)) }
     ensures unfailed { OnOk result (W.failed writer.new ≡ W.failed writer.old) }
-    ensures handed_on { OnOk result (W.handed_on writer.new ≡ true) }
+    ensures flushed { OnOk result (W.flushed writer.new ≡ true) }
 
     // Without memory nothing was asked of the writer; when it fails, what it took is the beginning
     // of the text.

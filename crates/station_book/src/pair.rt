@@ -17,7 +17,7 @@ fn half_turned(first: Angles, second: Angles) -> u32
     requires first_in { AreOnCircle first }
     requires second_in { AreOnCircle second }
     ensures value { result ≡ half_turned first second }
-    ensures below { result < CIRCLE }
+    ensures bound { result < CIRCLE }
 {
     (second.hz + CIRCLE - first.hz) % CIRCLE
 }

@@ -6,7 +6,7 @@ use Rattle.byte_ends.specs.Sink.{WriterChange}
 use Rattle.byte_ends.specs.Source.{ReaderChange}
 use Rattle.gsi_file.specs.FileAnswers.{FileAnswers, file_answers}
 use Rattle.station_book.specs.Limits.{FaceLimits}
-use Rattle.station_check.specs.Answerable.{FailsAtWrite, IsUnwritten, HandsOn}
+use Rattle.station_check.specs.Answerable.{FailsAtWrite, IsUnwritten, Flushes}
 use Rattle.station_check.specs.Counting.{Counts}
 use Rattle.station_check.specs.Listing.{WritesList}
 use Rattle.station_check.specs.Runs.{IsListRun, IsNotedListRun}
@@ -59,7 +59,7 @@ list_alone limits gsi unchecked out h = record {
   };
   of_list = tt;
   fails = h.fails;
-  handed = h.handed;
+  flushed = h.flushed;
   unwritten = tt;
 }
 
@@ -111,6 +111,6 @@ refusal_alone limits gsi fault out h = record {
   };
   of_list = h.of_list;
   fails = same_failure fault out h.fails;
-  handed = tt;
+  flushed = tt;
   unwritten = same_silence fault out h.unwritten;
 }

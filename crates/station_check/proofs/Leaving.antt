@@ -13,7 +13,8 @@ use Rattle.sheet_format.specs.declared.fault.WriteFault.{WriteFault}
 use Rattle.sheet_format.specs.declared.fault.WriteFault.TheVariants as writing
 use Rattle.sheet_means.specs.declared.fault.MeansFault.{MeansFault}
 use Rattle.sheet_means.specs.declared.fault.MeansFault.TheVariants as means
-use Rattle.station_check.specs.Answerable.{IsOfFile, IsOfSheet, IsByStation, file_left, words_left}
+use Rattle.station_check.specs.Answerable.{IsOfFile, IsOfSheet, IsOfReadSheet, file_left}
+use Rattle.station_check.specs.Answerable.{words_left}
 use Rattle.station_check.specs.Words.{MemoryWritesNothing}
 use Rattle.station_check.specs.Answerable.{of_means, of_write, FailsAtWrite, IsUnwritten, IsOfList}
 use Rattle.station_check.specs.Answerable.{IsOfMeans}
@@ -141,7 +142,7 @@ unwritten_as A writing.Memory writer m = m refl
 
 -- An answer by a station leaves the sheet's reader read to its end.
 pub left_by_station : (A : Type 0) (r : Result A Fault) (sheet : ReaderChange)
-    → IfErr r IsByStation → IsReadOut sheet → Leaves sheet_left r sheet
+    → IfErr r IsOfReadSheet → IsReadOut sheet → Leaves sheet_left r sheet
 left_by_station A (Ok a) sheet o h = h
 left_by_station A (Err (Gsi fault)) sheet o h = absurd o
 left_by_station A (Err (Book fault)) sheet o h = absurd o

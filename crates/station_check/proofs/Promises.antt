@@ -16,7 +16,7 @@ use Rattle.station_check.specs.Answerable.{IsOfFile, IsOfSheet}
 use Rattle.station_check.specs.KernelVerdicts.{IsChecked}
 use Rattle.station_check.specs.Promise.{KeepsPromise}
 use Rattle.station_check.specs.Surveys.{Surveys, IsSurvey}
-use Rattle.station_check.specs.Verdicts.{BySheet, AnswersVerdict}
+use Rattle.station_check.specs.Verdicts.{IsSheetVerdict, AnswersVerdict}
 use Rattle.station_check.proofs.Acceptance.{accepted_so}
 use Rattle.station_check.proofs.OneVerdict.{only_verdict}
 use Rattle.station_check.proofs.Refusals.{refused_so, told_of_file, none_first, first}
@@ -26,7 +26,7 @@ verdict_of : (limits : FaceLimits) (most : Option ℕ) (file : FileAnswers) (sta
     (stations : List SurveyedStation) (r : Result Accepted Fault) → IsSurvey limits file stations
     → IsChecked stations most stated r → AnswersVerdict limits most file stated r
 verdict_of limits most file stated stations r s c = by_checked c.verdict where
-  by_checked : (r ≡ Err Memory) ⊎ BySheet stations most (input_within LONGEST_SHEET stated) r
+  by_checked : (r ≡ Err Memory) ⊎ IsSheetVerdict stations most (input_within LONGEST_SHEET stated) r
       → AnswersVerdict limits most file stated r
   by_checked (inl e) = inl e
   by_checked (inr h) =

@@ -23,7 +23,7 @@ use Rattle.station_check.specs.declared.fault.Fault.TheVariants.{Gsi, Book, Shee
 use Rattle.station_check.specs.declared.fault.Fault.TheVariants.{NoStation, Means, Kernel, Write}
 use Rattle.station_check.specs.declared.fault.Fault.TheVariants.{Memory}
 use Rattle.station_check.specs.Surveys.{IsSurvey, Surveys}
-use Rattle.station_check.specs.Verdicts.{ByStation, BySheet, by_kernel}
+use Rattle.station_check.specs.Verdicts.{IsStationVerdict, IsSheetVerdict, by_kernel}
 use Rattle.station_check.specs.KernelVerdicts.{IsJudgedSheet, IfKernels}
 use Rattle.station_check.specs.Answerable.{IsOfFile, IsOfSheet, IsOfCheck}
 use Rattle.station_check.specs.Outcomes.{FileComesTo}
@@ -43,7 +43,7 @@ by_kernel_alone fault (Err k) e = (k, cc)
 
 -- A refusal by the station is that there is none, or the kernel's.
 by_station_alone : (its : Option SurveyedStation) (sheet : SheetValue) (most : Option ℕ)
-    (fault : Fault) → ByStation its sheet most (Err fault)
+    (fault : Fault) → IsStationVerdict its sheet most (Err fault)
     → ((its ≡ None) × (fault ≡ NoStation)) ⊎ ((k : KernelFault) × (fault ≡ Kernel k))
 by_station_alone None sheet most fault h = inl (refl, cc)
 by_station_alone (Some its) sheet most fault h = inr (by_kernel_alone fault h.0 h.2)
@@ -62,7 +62,8 @@ no_text its sheet most fault (inr h) = let e = h.1 in cc
 
 -- Where a read failed, the sheet's reader broke off.
 read_says : (stations : List SurveyedStation) (most : Option ℕ) (input : Input)
-    → BySheet stations most input (Err SheetRead) → (bytes : List ℕ) × (input ≡ BrokeOff bytes)
+    → IsSheetVerdict stations most input (Err SheetRead)
+    → (bytes : List ℕ) × (input ≡ BrokeOff bytes)
 read_says stations most (BrokeOff bytes) h = (bytes, refl)
 read_says stations most RanPast h = cc
 read_says stations most (Ended bytes) (inl h) = let e = h.answer in cc
@@ -72,7 +73,7 @@ read_says stations most (Ended bytes) (inr h) =
 
 -- A fault of the sheet's bytes is theirs.
 text_says : (stations : List SurveyedStation) (most : Option ℕ) (input : Input) (fault : SheetFault)
-    → BySheet stations most input (Err (Sheet fault)) → IsFaultOfInput input fault
+    → IsSheetVerdict stations most input (Err (Sheet fault)) → IsFaultOfInput input fault
 text_says stations most (BrokeOff bytes) fault h = cc
 text_says stations most RanPast fault h = cc
 text_says stations most (Ended bytes) fault (inl h) =
@@ -98,7 +99,7 @@ none_found its (inl h) = h.0
 none_found its (inr h) = let e = h.1 in cc
 
 name_says : (stations : List SurveyedStation) (most : Option ℕ) (input : Input)
-    → BySheet stations most input (Err NoStation) → FindsNone stations input
+    → IsSheetVerdict stations most input (Err NoStation) → FindsNone stations input
 name_says stations most (BrokeOff bytes) h = cc
 name_says stations most RanPast h = cc
 name_says stations most (Ended bytes) (inl h) = let e = h.answer in cc
@@ -149,7 +150,7 @@ pub refusal : (limits : FaceLimits) (most : Option ℕ) (file : FileAnswers) (to
     (stations : List SurveyedStation) (fault : Fault) → IsSurvey limits file stations
     → IsOfSheet fault
     → IfKernels (IsJudgedSheet stations most told) (Err fault)
-    → BySheet stations most (input_within LONGEST_SHEET told) (Err fault)
+    → IsSheetVerdict stations most (input_within LONGEST_SHEET told) (Err fault)
     → TellsOfRefusal limits most file told fault
 refusal limits most file told stations (Gsi fault) s o j h = absurd o
 refusal limits most file told stations (Book fault) s o j h = absurd o
@@ -179,14 +180,14 @@ refusal limits most file told stations Memory s o j h = tt
 -- The answer by a sheet is its verdict, or that there was no memory.
 abbrev pub AnswersSheet : List SurveyedStation → Option ℕ → Told → Result Accepted Fault → Type 0
 AnswersSheet stations most told r =
-    (r ≡ Err Memory) ⊎ BySheet stations most (input_within LONGEST_SHEET told) r
+    (r ≡ Err Memory) ⊎ IsSheetVerdict stations most (input_within LONGEST_SHEET told) r
 
 by_answer : (limits : FaceLimits) (most : Option ℕ) (file : FileAnswers) (told : Told)
     (stations : List SurveyedStation) (fault : Fault) → IsSurvey limits file stations
     → IsOfSheet fault
     → IfKernels (IsJudgedSheet stations most told) (Err fault)
     → (◌≡◌ {A = Result Accepted Fault} (Err fault) (Err Memory))
-    ⊎ BySheet stations most (input_within LONGEST_SHEET told) (Err fault)
+    ⊎ IsSheetVerdict stations most (input_within LONGEST_SHEET told) (Err fault)
     → TellsOfRefusal limits most file told fault
 by_answer limits most file told stations fault s o j (inl e) =
     let same : Memory ≡ fault = cc in

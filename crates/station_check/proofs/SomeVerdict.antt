@@ -20,7 +20,8 @@ use Rattle.station_book.specs.Stations.{SurveyedStation, station_named}
 use Rattle.station_check.specs.declared.fault.Fault.{Fault}
 use Rattle.station_check.specs.declared.fault.Fault.TheVariants.{SheetRead, Sheet, NoStation}
 use Rattle.station_check.specs.Outcomes.{FileComesTo}
-use Rattle.station_check.specs.Verdicts.{ByStation, BySheet, ByFile, IsWholeVerdict, by_kernel}
+use Rattle.station_check.specs.Verdicts.{IsStationVerdict, IsSheetVerdict, IsFileVerdict}
+use Rattle.station_check.specs.Verdicts.{IsWholeVerdict, by_kernel}
 use Rattle.station_check.proofs.Acceptance.{came_well}
 use Rattle.station_check.proofs.OneVerdict.{some_end}
 
@@ -38,7 +39,7 @@ AreObserved stations =
 
 by_station : (its : Option SurveyedStation) (sheet : SheetValue) (most : Option ℕ)
     → ((s : SurveyedStation) → its ≡ Some s → 1 ≤ length s.station.obs)
-    → (r : Result Accepted Fault) × ByStation its sheet most r
+    → (r : Result Accepted Fault) × IsStationVerdict its sheet most r
 by_station None sheet most observed = (Err NoStation, refl)
 by_station (Some s) sheet most observed =
     let verdict = kernel.some_verdict s.station sheet most (observed s refl) in
@@ -46,7 +47,7 @@ by_station (Some s) sheet most observed =
 
 by_bytes : (stations : List SurveyedStation) (most : Option ℕ) (bytes : List ℕ)
     → AreObserved stations → IsSheetOrFault bytes
-    → (r : Result Accepted Fault) × BySheet stations most (Ended bytes) r
+    → (r : Result Accepted Fault) × IsSheetVerdict stations most (Ended bytes) r
 by_bytes stations most bytes observed (inl stated) =
     let verdict =
     by_station (station_named stated.0.name stations) stated.0 most (observed stated.0.name) in
@@ -55,7 +56,7 @@ by_bytes stations most bytes observed (inr refused) =
     (Err (Sheet refused.0), inl (record { fault = refused.0; stands = refused.1; answer = refl }))
 
 by_sheet : (stations : List SurveyedStation) (most : Option ℕ) (input : Input)
-    → AreObserved stations → (r : Result Accepted Fault) × BySheet stations most input r
+    → AreObserved stations → (r : Result Accepted Fault) × IsSheetVerdict stations most input r
 by_sheet stations most (BrokeOff bytes) observed = (Err SheetRead, refl)
 by_sheet stations most RanPast observed = (Err (Sheet sheet.TooLong), refl)
 by_sheet stations most (Ended bytes) observed =
@@ -63,7 +64,8 @@ by_sheet stations most (Ended bytes) observed =
 
 by_file : (limits : FaceLimits) → AreLimits limits
     → (most : Option ℕ) (file : FileAnswers) (told : Told) (came : Result History Fault)
-    → FileComesTo limits file came → (r : Result Accepted Fault) × ByFile limits most came told r
+    → FileComesTo limits file came
+    → (r : Result Accepted Fault) × IsFileVerdict limits most came told r
 by_file limits small most file told (Err fault) h = (Err fault, refl)
 by_file limits small most file told (Ok blocks) h =
     let well = came_well limits [] file.lines file.last blocks tt h in

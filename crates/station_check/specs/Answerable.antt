@@ -75,10 +75,10 @@ IsOfSheet Memory = ⊤
 IsOfSheet fault = ⊥
 
 -- A fault that comes of a sheet that was read: there is no station of its name, or the kernel's.
-abbrev pub IsByStation : Fault → Type 0
-IsByStation NoStation = ⊤
-IsByStation (Kernel fault) = ⊤
-IsByStation fault = ⊥
+abbrev pub IsOfReadSheet : Fault → Type 0
+IsOfReadSheet NoStation = ⊤
+IsOfReadSheet (Kernel fault) = ⊤
+IsOfReadSheet fault = ⊥
 
 -- What a check may answer.
 abbrev pub IsOfCheck : Fault → Type 0
@@ -117,16 +117,16 @@ IsUnwritten (Ok x) writer = ⊤
 IsUnwritten (Err Write) writer = ⊤
 IsUnwritten (Err fault) writer = writer.is_unasked
 
--- With Ok all that was written was handed on, after its last byte.
-abbrev pub HandsOn : {A : Type 0} → Result A Fault → Bool → Type 0
-HandsOn (Ok x) is_handed_on = is_handed_on ≡ true
-HandsOn (Err fault) is_handed_on = ⊤
+-- With Ok all that was written was flushed, after its last byte.
+abbrev pub Flushes : {A : Type 0} → Result A Fault → Bool → Type 0
+Flushes (Ok x) is_flushed = is_flushed ≡ true
+Flushes (Err fault) is_flushed = ⊤
 
 -- The same of words, where a fault of the file comes after them.
-abbrev pub HandsWordsOn : {A : Type 0} → Result A Fault → Bool → Type 0
-HandsWordsOn (Ok x) is_handed_on = is_handed_on ≡ true
-HandsWordsOn (Err (Gsi fault)) is_handed_on = is_handed_on ≡ true
-HandsWordsOn (Err fault) is_handed_on = ⊤
+abbrev pub FlushesWords : {A : Type 0} → Result A Fault → Bool → Type 0
+FlushesWords (Ok x) is_flushed = is_flushed ≡ true
+FlushesWords (Err (Gsi fault)) is_flushed = is_flushed ≡ true
+FlushesWords (Err fault) is_flushed = ⊤
 
 -- How a fault of the lines leaves their reader: at `Read` a read failed, and it has broken off; no
 -- read failed at any other.

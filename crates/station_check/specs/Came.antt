@@ -17,6 +17,6 @@ pub record ReadsFile {A : Type 0} (reader : ReaderChange) (r : Result A Fault)
   pub came : LinesCame reader So
   pub left : Leaves file_left r reader
 
--- the bytes that are passed whole: all of them came, and then the end
-abbrev pub handed_in : List ℕ → Told
-handed_in bytes = record { bytes = bytes; fails = false }
+-- what a source of these bytes gives: all of them, and then the end
+abbrev pub source_of : List ℕ → Told
+source_of bytes = record { bytes = bytes; fails = false }

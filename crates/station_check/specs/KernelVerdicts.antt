@@ -13,7 +13,7 @@ use Rattle.station_book.specs.Stations.{SurveyedStation, station_named}
 use Rattle.station_check.specs.declared.fault.Fault.{Fault}
 use Rattle.station_check.specs.declared.fault.Fault.TheVariants.{Kernel, Memory}
 use Rattle.station_check.specs.Accepted.{StatesSheet}
-use Rattle.station_check.specs.Verdicts.{BySheet}
+use Rattle.station_check.specs.Verdicts.{IsSheetVerdict}
 
 -- Of these stations the one of the sheet's name was found, and the kernel gave this verdict, which
 -- tells of least squares what the kernel's verdicts tell.
@@ -42,5 +42,6 @@ IfKernels P (Err fault) = ⊤
 -- memory; and a verdict of the kernel came about as it must.
 pub record IsChecked (stations : List SurveyedStation) (limit : Option ℕ) (source : Told)
     (r : Result Accepted Fault) : Type 0 where
-  pub verdict : (r ≡ Err Memory) ⊎ BySheet stations limit (input_within LONGEST_SHEET source) r
+  pub verdict : (r ≡ Err Memory)
+      ⊎ IsSheetVerdict stations limit (input_within LONGEST_SHEET source) r
   pub judged : IfKernels (IsJudgedSheet stations limit source) r

@@ -17,12 +17,12 @@ pub record IsCutShort (text : List ℕ) (writer : WriterChange) : Type 0 where
 abbrev pub WritesOrFails : List ℕ → WriterChange → Type 0
 WritesOrFails text writer = IsWritten text writer ⊎ IsCutShort text writer
 
--- What an answer makes of `out`, and what the run then answers: its text, whole and handed on, or
+-- What an answer makes of `out`, and what the run then answers: its text, whole and flushed, or
 -- in part where a call of `out` failed; at a refusal nothing is asked of `out`, and the refusal is
 -- answered. `write` is the fault of a failed call.
 abbrev pub PrintsAnswer : {T A F : Type 0} → (T → List ℕ) → F → Result T F → Result A F
     → WriterChange → Type 0
-PrintsAnswer text write (Ok a) (Ok x) out = IsWritten (text a) out × (out.is_handed_on ≡ true)
+PrintsAnswer text write (Ok a) (Ok x) out = IsWritten (text a) out × (out.is_flushed ≡ true)
 PrintsAnswer text write (Ok a) (Err fault) out = (fault ≡ write) × IsCutShort (text a) out
 PrintsAnswer text write (Err fault) r out = (r ≡ Err fault) × out.is_unasked
 

@@ -51,7 +51,7 @@ mod word_line;
 mod words;
 
 pub use accepted::accepted_line;
-pub use check::{check_bytes, check_slices, check_sources, handed_in};
+pub use check::{check_bytes, check_slices, check_sources, source_of};
 pub use fault::Fault;
 pub use list::{noted_stations_of_file, write_list};
 pub use means::write_means;
@@ -61,7 +61,7 @@ pub use refused::{
     refusal_line,
 };
 pub use runs::{
-    DONE, REFUSED, note_unchecked, refuse, refuse_by, run_check, run_list, run_means, run_words,
+    ACCEPTED, REFUSED, note_unchecked, refuse, refuse_by, run_check, run_list, run_means, run_words,
 };
 pub use survey::stations_of_file;
 pub use verdict_line::{

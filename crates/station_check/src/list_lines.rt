@@ -31,7 +31,7 @@ pub const LONGEST_LIST_LINE: usize = 8 + LONGEST_NAME + COUNTS;
 #[tactic(auto, unfolding(crate::specs::ListTexts::station_line))]
 pub(crate) fn put_station(room: &mut Room, at: usize, station: &Station) -> usize
     requires { at + LONGEST_LIST_LINE ≤ PAGE }
-    ensures within { result ≤ PAGE }
+    ensures bound { result ≤ PAGE }
     ensures whole { length room.new ≡ PAGE }
     ensures text { take result room.new ≡ take at room.old ++ station_line station.now }
 {
@@ -54,7 +54,7 @@ fn put_name(room: &mut Room, at: usize, name: &Name) -> usize
 /// Puts how many sets, targets and directions a station has, and ends the line.
 fn put_counts(room: &mut Room, at: usize, station: &Station) -> usize
     requires { at + COUNTS ≤ PAGE }
-    ensures within { result ≤ PAGE }
+    ensures bound { result ≤ PAGE }
     ensures text { take result room.new ≡ take at room.old
         ++ (codes ": " ++ decimal (length station.now.sets)
         ++ codes " sets, " ++ decimal (length station.now.targets)
@@ -82,7 +82,7 @@ pub(crate) fn put_observation(
     requires room { at + LONGEST_LIST_LINE ≤ PAGE }
     requires set_in { obs.set < length station.now.sets }
     requires target_in { obs.target < length station.now.targets }
-    ensures within { result ≤ PAGE }
+    ensures bound { result ≤ PAGE }
     ensures whole { length room.new ≡ PAGE }
     ensures text { take result room.new ≡ take at room.old
         ++ observation_line (key_of_obs station.now.sets station.now.targets obs) faces }
@@ -111,7 +111,7 @@ fn put_key(room: &mut Room, at: usize, station: &Station, obs: Obs) -> usize
 /// Puts face differences, and ends the line.
 fn put_faces(room: &mut Room, at: usize, faces: Faces) -> usize
     requires { at + FACES ≤ PAGE }
-    ensures within { result ≤ PAGE }
+    ensures bound { result ≤ PAGE }
     ensures text { take result room.new ≡ take at room.old ++ faces_text faces }
 {
     let two_c_at = put(room, at, b", 2c ");

@@ -86,7 +86,7 @@ pub(crate) fn put_number<I: Integer>(room: &mut Room, at: usize, number: I) -> u
 fn short_count(number: u32) -> usize
     requires { number < 10000 }
     ensures value { result ≡ length (decimal number) }
-    ensures few { result ≤ 4 }
+    ensures bound { result ≤ 4 }
     ensures fewer { number < 100 → result ≤ 2 }
 {
     if number < 100 {
@@ -103,7 +103,7 @@ fn short_count(number: u32) -> usize
 #[tactic(auto, using(crate::proofs::DigitCounts::four_more, crate::proofs::DigitCounts::eight_more))]
 fn digit_count(number: u32) -> usize
     ensures value { result ≡ length (decimal number) }
-    ensures few { result ≤ LONGEST_U32 }
+    ensures bound { result ≤ LONGEST_U32 }
 {
     if number < 10_000 {
         short_count(number)

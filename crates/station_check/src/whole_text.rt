@@ -10,7 +10,7 @@ use byte_ends::{Failed, Sink};
 pub fn write_whole<W: Sink>(writer: &mut W, text: &[u8]) -> Result<(), Failed>
     ensures failed { W.failed writer.new ≡ failed_after (W.failed writer.old) result }
     ensures ok { OnOk result (Appends (W.holds writer.old) (W.holds writer.new) text.now) }
-    ensures handed_on { OnOk result (W.handed_on writer.new ≡ true) }
+    ensures flushed { OnOk result (W.flushed writer.new ≡ true) }
     ensures cut_short { OnErr result
         (AppendsSome (W.holds writer.old) (W.holds writer.new) text.now) }
 {

@@ -1,6 +1,6 @@
 -- Steps of decimals go into a full circle.
 use Rattle.std.proofs.Common.{◌≡◌, ◌≤◌, ◌%◌, ℕ, zero, suc, refl, arith}
-use Rattle.directions_apart.specs.declared.units.TheConstants.{CIRCLE}
+use Rattle.adjust_kernel.specs.declared.units.TheConstants.{CIRCLE}
 use Rattle.direction_table.specs.Texts.{AreDecimals, step_of}
 
 -- The step of so many decimals is at least 1, and a full circle is whole steps.

@@ -1,8 +1,8 @@
 //! The table of a station's least-squares directions.
 ghost use Rattle.std.specs.Prelude.{◌≡◌, ◌≤◌, ◌%◌, length, map, MatchResult, IfOk};
-ghost use Rattle.directions_apart.specs.declared.units.TheConstants.{CIRCLE};
+ghost use Rattle.adjust_kernel.specs.declared.units.TheConstants.{CIRCLE};
 ghost use Rattle.direction_table.specs.Texts.{step_of};
-ghost use Rattle.byte_ends.specs.Sink.{writer_change};
+ghost use Rattle.byte_ends.specs.Writers.{writer_change};
 ghost use Rattle.byte_ends.specs.Source.{UntilDropped};
 ghost use Rattle.station_compare.specs.Directions.{StatesDirections, HasNoDirections};
 ghost use Rattle.station_compare.specs.Directions.{IsDirectionsText, HasNoTable, numbers_of};
@@ -64,7 +64,7 @@ pub fn write_directions<R: Source, W: Sink>(
     writer: &mut W,
 ) -> Result<(), CompareFault>
     ensures { UntilDropped R.told R.failed R.gave gsi (λ gsi. IsDirectionsRun limits gsi name.now
-        decimals result (writer_change W.failed W.holds W.handed_on writer.old writer.new)) }
+        decimals result (writer_change W.Sink writer.old writer.new)) }
 {
     let text = directions_text(alloc, gsi, name, limits, decimals)?;
     write_whole(writer, &text)?;

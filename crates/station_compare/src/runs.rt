@@ -2,7 +2,7 @@
 //! and answers the exit status.
 
 ghost use Rattle.std.specs.Prelude.{◌≡◌, ⊤};
-ghost use Rattle.byte_ends.specs.Sink.{writer_change};
+ghost use Rattle.byte_ends.specs.Writers.{writer_change};
 ghost use Rattle.byte_ends.specs.Source.{reader_change, UntilDropped};
 ghost use Rattle.station_check.specs.RunEndings.{Run, PrintsAnswer, WritesOrFails};
 ghost use Rattle.station_compare.specs.FaultTexts.{refusal_line};
@@ -18,7 +18,7 @@ use crate::refused::refusal_line;
 use byte_ends::{Sink, Source};
 use direction_table::{AngleUnit, Decimals};
 use station_book::Limits;
-use station_check::{DONE, refuse_by, write_whole};
+use station_check::{ACCEPTED, refuse_by, write_whole};
 use std::alloc::Global;
 
 /// Compares the directions that a table states with those of the station of this name, and answers
@@ -39,12 +39,12 @@ pub fn run_compare<R: Source, Q: Source, W: Sink, E: Sink>(
     ensures { UntilDropped R.told R.failed R.gave gsi (λ gsi. Run {A = ⊤} refusal_line
         (IsCompareRun unit limits within gsi
         (reader_change Q.told Q.failed Q.gave table.old table.new) name.now)
-        result (writer_change W.failed W.holds W.handed_on out.old out.new)
-        (writer_change E.failed E.holds E.handed_on err.old err.new)) }
+        result (writer_change W.Sink out.old out.new)
+        (writer_change E.Sink err.old err.new)) }
 {
     let verdict = compare_bytes(alloc, gsi, table, unit, name, limits, within);
     match print_verdict(verdict, out) {
-        Ok(()) => DONE,
+        Ok(()) => ACCEPTED,
         Err(fault) => refuse(fault, err),
     }
 }
@@ -63,22 +63,22 @@ pub fn run_directions<R: Source, W: Sink, E: Sink>(
 ) -> u8
     ensures { UntilDropped R.told R.failed R.gave gsi (λ gsi. Run {A = ⊤} refusal_line
         (IsDirectionsRun limits gsi name.now decimals)
-        result (writer_change W.failed W.holds W.handed_on out.old out.new)
-        (writer_change E.failed E.holds E.handed_on err.old err.new)) }
+        result (writer_change W.Sink out.old out.new)
+        (writer_change E.Sink err.old err.new)) }
 {
     match write_directions(alloc, gsi, name, limits, decimals, out) {
-        Ok(()) => DONE,
+        Ok(()) => ACCEPTED,
         Err(fault) => refuse(fault, err),
     }
 }
 
-/// Prints the line of a table that agrees, and hands on a refusal.
+/// Prints the line of a table that agrees, and passes on a refusal.
 fn print_verdict<W: Sink>(
     verdict: Result<Agreement, CompareFault>,
     out: &mut W,
 ) -> Result<(), CompareFault>
     ensures { PrintsAnswer spec.agreement_line Write verdict result
-        (writer_change W.failed W.holds W.handed_on out.old out.new) }
+        (writer_change W.Sink out.old out.new) }
 {
     let agreement = verdict?;
     write_whole(out, agreement_line(agreement).as_slice())?;
@@ -89,7 +89,7 @@ fn print_verdict<W: Sink>(
 pub fn refuse<E: Sink>(fault: CompareFault, err: &mut E) -> u8
     ensures status { result ≡ 1 }
     ensures line { WritesOrFails (refusal_line fault)
-        (writer_change E.failed E.holds E.handed_on err.old err.new) }
+        (writer_change E.Sink err.old err.new) }
 {
     refuse_by(refusal_line(fault).as_slice(), err)
 }

@@ -5,7 +5,7 @@ use Rattle.adjust_kernel.specs.Residuals.{Choice}
 use Rattle.directions_apart.specs.Apart.{stated_by}
 use Rattle.directions_apart.specs.Arcs.{IsWayRound}
 use Rattle.directions_apart.specs.Rounding.{IsRounded}
-use Rattle.directions_apart.specs.declared.units.TheConstants.{CIRCLE, PARTS, UNIT}
+use Rattle.adjust_kernel.specs.declared.units.TheConstants.{CIRCLE, PARTS, UNIT}
 use Rattle.station_differences.specs.Differences.{AreDifferences, differences_of, least_of}
 use Rattle.station_differences.specs.Differences.{names_of, stated_of}
 use Rattle.station_differences.specs.declared.compared.TargetDifference.{TargetDifference}

@@ -4,7 +4,7 @@ use Rattle.std.specs.Prelude.{codes}
 use Rattle.std.specs.List.{list_all}
 use Rattle.angle_texts.specs.MgonTexts.{mgon_text}
 use Rattle.direction_table.specs.Texts.{direction_text}
-use Rattle.directions_apart.specs.declared.units.TheConstants.{CIRCLE, PARTS, UNIT}
+use Rattle.adjust_kernel.specs.declared.units.TheConstants.{CIRCLE, PARTS, UNIT}
 use Rattle.sheet_format.specs.Texts.{rows_text}
 use Rattle.station_differences.specs.declared.compared.TargetDifference.{TargetDifference}
 

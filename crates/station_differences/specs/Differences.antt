@@ -7,7 +7,7 @@ use Rattle.adjust_kernel.specs.Residuals.{Choice}
 use Rattle.adjust_kernel.specs.Stations.{StationValue}
 use Rattle.directions_apart.specs.Apart.{circle_of, difference, stated_by}
 use Rattle.directions_apart.specs.Arcs.{IsWayRound}
-use Rattle.directions_apart.specs.declared.units.TheConstants.{CIRCLE, PARTS, UNIT}
+use Rattle.adjust_kernel.specs.declared.units.TheConstants.{CIRCLE, PARTS, UNIT}
 use Rattle.exact_adjustment.specs.LeastOf.{IsLeastOf}
 use Rattle.least_directions.specs.LeastDirections.{AreRounded}
 use Rattle.station_differences.specs.BestArcs.{IsBestArc}

@@ -5,7 +5,7 @@ ghost use Rattle.station_differences.specs.Angles.{angle_of};
 ghost use Rattle.station_differences.specs.BestArcs.{IsBestArc};
 ghost use Rattle.wide_number.specs.Limbs.{WIDE_LIMIT};
 
-use crate::circle::onward;
+use directions_apart::way_round;
 use wide_number::Wide;
 
 /// The narrowest arc that holds all angles.
@@ -27,7 +27,7 @@ fn extent_from(circle: &Wide, angles: &[Wide], start: usize) -> Wide
 {
     let mut widest = Wide::zero();
     for place in 0..angles.len() {
-        let way = onward(circle, &angles[start], &angles[place]);
+        let way = way_round(circle, &angles[start], angles[place].times(1));
         if widest.is_below(&way) {
             widest = way;
         }
@@ -43,7 +43,7 @@ pub(crate) fn best_arc(circle: &Wide, angles: &[Wide]) -> Arc
     requires fits { circle.now + circle.now < WIDE_LIMIT }
     ensures best { IsBestArc circle.now (angle_of angles.now) (length angles.now) result.start
         result.spread }
-    ensures below { result.spread < circle.now }
+    ensures bound { result.spread < circle.now }
 {
     let mut start = 0;
     let mut spread = circle.times(1);

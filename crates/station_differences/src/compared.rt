@@ -7,10 +7,9 @@ ghost use Rattle.station_differences.specs.Differences.{AreCompared};
 
 use crate::angles::angles;
 use crate::arc::best_arc;
-use crate::circle::on_circle;
 use crate::difference::difference_at;
-use adjust_kernel::{Name, Station};
-use directions_apart::{CIRCLE, PARTS, UNIT, rounded};
+use adjust_kernel::{CIRCLE, Name, PARTS, Station, UNIT};
+use directions_apart::{on_circle, rounded};
 use exact_adjustment::{AdjustError, Adjustment, adjust};
 use std::alloc::{AllocError, Global};
 
@@ -71,7 +70,7 @@ pub fn differences_by(
 {
     let denominator = adjustment.denominator();
     let circle = denominator.times(PARTS * CIRCLE);
-    let angles = angles(alloc, adjustment, &circle, stated)?;
+    let angles = angles(alloc, adjustment, stated)?;
     let arc = best_arc(&circle, &angles);
     let mut rows = Vec::with_capacity(alloc, targets.len())?;
     for place in 0..targets.len() {

@@ -1,6 +1,6 @@
 //! Differences after the best rotation, rounded.
 ghost use Rattle.std.specs.Prelude.{◌≡◌, ◌≤◌, ◌<◌, ◌+◌, ◌*◌, All, length, pos, ◌-ℤ◌};
-ghost use Rattle.directions_apart.specs.declared.units.TheConstants.{CIRCLE, PARTS};
+ghost use Rattle.adjust_kernel.specs.declared.units.TheConstants.{CIRCLE, PARTS};
 ghost use Rattle.exact_adjustment.specs.declared.bounds.TheConstants.{LARGEST_FACTOR};
 ghost use Rattle.station_differences.specs.Angles.{angle_of};
 ghost use Rattle.station_differences.specs.BestArcs.{IsBestArc};
@@ -8,8 +8,8 @@ ghost use Rattle.station_differences.specs.Differences.{IsFromMiddle, IsRoundedF
 ghost use Rattle.wide_number.specs.Limbs.{WIDE_LIMIT};
 
 use crate::arc::Arc;
-use crate::circle::onward;
-use directions_apart::{CIRCLE, PARTS, UNIT};
+use adjust_kernel::{CIRCLE, PARTS, UNIT};
+use directions_apart::way_round;
 use wide_number::{Wide, quotient};
 
 /// No difference is larger than half a circle, in units of 0.001 mgon.
@@ -22,7 +22,7 @@ fn lifted_difference(denominator: &Wide, way: &Wide, spread: &Wide) -> u64
     requires some { 1 ≤ denominator.now }
     requires in_arc { way.now ≤ spread.now }
     requires below { spread.now < denominator.now * (PARTS * CIRCLE) }
-    requires size { denominator.now * LARGEST_FACTOR < WIDE_LIMIT }
+    requires fits { denominator.now * LARGEST_FACTOR < WIDE_LIMIT }
     ensures rounded { IsRoundedFromMiddle denominator.now way.now spread.now
         (pos result -ℤ pos LARGEST_DIFFERENCE) }
     ensures bound { result ≤ 2 * LARGEST_DIFFERENCE }
@@ -50,7 +50,7 @@ pub(crate) fn difference_at(
     place: usize,
 ) -> i32
     requires some { 1 ≤ denominator.now }
-    requires size { denominator.now * LARGEST_FACTOR < WIDE_LIMIT }
+    requires fits { denominator.now * LARGEST_FACTOR < WIDE_LIMIT }
     requires circle { circle.now ≡ denominator.now * (PARTS * CIRCLE) }
     requires angles { All (λ angle. angle < circle.now) angles.now }
     requires best { IsBestArc circle.now (angle_of angles.now) (length angles.now) arc.now.start
@@ -60,7 +60,7 @@ pub(crate) fn difference_at(
     ensures { IsFromMiddle denominator.now circle.now (angle_of angles.now) arc.now.start
         arc.now.spread place result }
 {
-    let way = onward(circle, &angles[arc.start], &angles[place]);
+    let way = way_round(circle, &angles[arc.start], angles[place].times(1));
     let lifted = lifted_difference(denominator, &way, &arc.spread);
     lifted as i32 - LARGEST_DIFFERENCE as i32
 }

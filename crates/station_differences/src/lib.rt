@@ -10,7 +10,6 @@
 
 mod angles;
 mod arc;
-mod circle;
 mod compared;
 mod difference;
 mod differences;

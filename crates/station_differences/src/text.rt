@@ -1,16 +1,16 @@
 //! The text of differences, made in memory.
 //!
 //! The rows go through `csv`'s writer, which puts quotes where a name asks for them.
-ghost use Rattle.std.specs.Prelude.{◌≡◌, ◌+◌, ◌%◌, ◌++◌, map, IfOk, OnOk, OnErr};
+ghost use Rattle.std.specs.Prelude.{◌≡◌, ◌++◌, map, IfOk, OnOk, OnErr};
 ghost use Rattle.angle_texts.specs.Beginnings.{IsBegun};
 ghost use Rattle.csv.specs.Writing.{default_writer, row_text};
 ghost use Rattle.sheet_format.specs.Texts.{Writes, rows_text};
 ghost use Rattle.station_differences.specs.DifferenceTexts as spec;
 
 use crate::compared::TargetDifference;
-use angle_texts::{push_gon, push_mgon};
+use adjust_kernel::{CIRCLE, PARTS, UNIT};
+use angle_texts::{digit, push_gon, push_mgon};
 use csv::{Writer, WriterBuilder};
-use directions_apart::{CIRCLE, PARTS, UNIT};
 use std::alloc::{AllocError, Global};
 use std::io::Write;
 
@@ -145,11 +145,4 @@ fn push_in_gon(text: &mut Vec<u8>, short: bool, direction: u64) -> Result<(), Al
         ])?;
     }
     Ok(())
-}
-
-/// The last digit of a number, as text.
-fn digit(number: u64) -> u8
-    ensures { result ≡ 48 + number % 10 }
-{
-    b'0' + (number % 10) as u8
 }

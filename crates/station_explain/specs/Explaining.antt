@@ -8,7 +8,7 @@ use Rattle.std.specs.Io.KnownBytes.{Appends}
 use Rattle.byte_ends.specs.Sink.{AppendsSome, WriterChange}
 use Rattle.station_check.specs.declared.fault.Fault.{Fault}
 use Rattle.station_check.specs.declared.fault.Fault.TheVariants.{Write, Memory}
-use Rattle.station_check.specs.Answerable.{FailsAtWrite, IsUnwritten, HandsOn}
+use Rattle.station_check.specs.Answerable.{FailsAtWrite, IsUnwritten, Flushes}
 use Rattle.station_explain.specs.Table.{Explanation}
 
 -- What a fault means: its names, what it is, when it comes, a line that names it, and what to do.
@@ -47,7 +47,7 @@ IsOfExplain Write = ⊤
 IsOfExplain Memory = ⊤
 IsOfExplain fault = ⊥
 
--- A run that prints this text: with Ok it was written whole and handed on; where a call of `out`
+-- A run that prints this text: with Ok it was written whole and flushed; where a call of `out`
 -- failed, and only there the answer says so, some of its first bytes were; at any other refusal
 -- nothing was asked of `out`.
 pub record IsExplainRun {A : Type 0} (table : List (Bor (List Explanation)))
@@ -56,7 +56,7 @@ pub record IsExplainRun {A : Type 0} (table : List (Bor (List Explanation)))
   pub of_fault : Explains table fault text
   pub of_explain : IfErr r IsOfExplain
   pub written : OnOk r (Appends out.holds out.holds' text)
-  pub handed : HandsOn r out.is_handed_on
+  pub flushed : Flushes r out.is_flushed
   pub cut_short : OnErr r (AppendsSome out.holds out.holds' text)
   pub fails : FailsAtWrite r out
   pub unwritten : IsUnwritten r out

@@ -2,7 +2,7 @@
 
 ghost use Rattle.std.specs.Prelude.{◌≡◌, ◌++◌, IfOk, OnOk, IfNone, option_map, string_bytes, ⊤};
 ghost use Rattle.std.specs.List.{flat_map};
-ghost use Rattle.byte_ends.specs.Sink.{writer_change};
+ghost use Rattle.byte_ends.specs.Writers.{writer_change};
 ghost use Rattle.station_check.specs.RunEndings.{Run};
 ghost use Rattle.station_check.specs.VerdictLines.{refusal_line};
 ghost use Rattle.station_explain.specs.Explaining.{meaning_text, name_line, name_lines, list_text};
@@ -10,7 +10,7 @@ ghost use Rattle.station_explain.specs.Explaining.{Explains, IsExplainRun};
 
 use crate::explanations::Explanation;
 use byte_ends::Sink;
-use station_check::{DONE, Fault, refuse, write_whole};
+use station_check::{ACCEPTED, Fault, refuse, write_whole};
 use std::alloc::{AllocError, Global};
 
 /// How many bytes two texts begin with that begin alike.
@@ -27,11 +27,11 @@ pub fn run_explain<W: Sink, E: Sink>(
 ) -> u8
     ensures { Run {A = ⊤} refusal_line
         (IsExplainRun table.now (option_map (λ e. e.now) fault.entry))
-        result (writer_change W.failed W.holds W.handed_on out.old out.new)
-        (writer_change E.failed E.holds E.handed_on err.old err.new) }
+        result (writer_change W.Sink out.old out.new)
+        (writer_change E.Sink err.old err.new) }
 {
     match print(alloc, table, fault, out) {
-        Ok(()) => DONE,
+        Ok(()) => ACCEPTED,
         Err(fault) => refuse(fault, err),
     }
 }
@@ -45,7 +45,7 @@ fn print<W: Sink>(
     out: &mut W,
 ) -> Result<(), Fault>
     ensures { IsExplainRun table.now (option_map (λ e. e.now) fault.entry) result
-        (writer_change W.failed W.holds W.handed_on out.old out.new) }
+        (writer_change W.Sink out.old out.new) }
 {
     let text = match explaining_text(alloc, table, fault) {
         Ok(text) => text,

@@ -20,12 +20,12 @@ abbrev pub notes_in : MarkedFile → List ℕ
 notes_in file = notes_of file.marked
 
 -- What a marking makes of `out`, and what the run then answers: the marking, its copy whole and
--- handed on; or that a call of `out` failed, which got some of the copy's first bytes; at a refusal
+-- flushed; or that a call of `out` failed, which got some of the copy's first bytes; at a refusal
 -- nothing is asked of `out`, and the refusal is answered.
 abbrev pub PrintsCopy : Result MarkedFile MarkFault → Result MarkedFile PrintFault → WriterChange
     → Type 0
 PrintsCopy (Ok file) (Ok printed) out =
-    (printed ≡ file) × IsWritten (copy_in file) out × (out.is_handed_on ≡ true)
+    (printed ≡ file) × IsWritten (copy_in file) out × (out.is_flushed ≡ true)
 PrintsCopy (Ok file) (Err fault) out = (fault ≡ Write) × IsCutShort (copy_in file) out
 PrintsCopy (Err fault) r out = (r ≡ Err (Mark fault)) × out.is_unasked
 

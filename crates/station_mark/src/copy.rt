@@ -23,7 +23,7 @@ pub(crate) fn write_copy<W: Sink>(
     ensures failed { W.failed writer.new ≡ failed_after (W.failed writer.old) result }
     ensures ok { OnOk result
         (Appends (W.holds writer.old) (W.holds writer.new) (woven 0 bytes.now marks.now)) }
-    ensures handed_on { OnOk result (W.handed_on writer.new ≡ true) }
+    ensures flushed { OnOk result (W.flushed writer.new ≡ true) }
     ensures cut_short { OnErr result
         (AppendsSome (W.holds writer.old) (W.holds writer.new) (woven 0 bytes.now marks.now)) }
 {

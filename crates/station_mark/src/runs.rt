@@ -2,7 +2,7 @@
 //! status.
 
 ghost use Rattle.std.specs.Prelude.{◌≡◌};
-ghost use Rattle.byte_ends.specs.Sink.{writer_change};
+ghost use Rattle.byte_ends.specs.Writers.{writer_change};
 ghost use Rattle.byte_ends.specs.Source.{UntilDropped};
 ghost use Rattle.station_check.specs.RunEndings.{RunWithNotes, WritesOrFails};
 ghost use Rattle.station_mark.specs.FaultTexts.{refusal_line};
@@ -16,7 +16,7 @@ use crate::refused::refusal_line;
 use adjust_kernel::Name;
 use byte_ends::{Sink, Source};
 use set_marks::MarkFault;
-use station_check::{DONE, refuse_by};
+use station_check::{ACCEPTED, refuse_by};
 use std::alloc::Global;
 
 /// Prints a copy of a field file with codes put in, and answers the exit status: 0 where all of the
@@ -33,8 +33,8 @@ pub fn run_mark<R: Source, W: Sink, E: Sink>(
 ) -> u8
     ensures { UntilDropped R.told R.failed R.gave gsi (λ gsi. RunWithNotes notes_in refusal_line
         (IsMarkRun station gsi)
-        result (writer_change W.failed W.holds W.handed_on out.old out.new)
-        (writer_change E.failed E.holds E.handed_on err.old err.new)) }
+        result (writer_change W.Sink out.old out.new)
+        (writer_change E.Sink err.old err.new)) }
 {
     let file = match mark_bytes(alloc, gsi, station) {
         Ok(file) => file,
@@ -54,18 +54,18 @@ pub fn run_mark<R: Source, W: Sink, E: Sink>(
 fn tell<E: Sink>(notes: &[u8], err: &mut E) -> u8
     ensures status { result ≡ 0 }
     ensures notes { WritesOrFails notes.now
-        (writer_change E.failed E.holds E.handed_on err.old err.new) }
+        (writer_change E.Sink err.old err.new) }
 {
     // Where `err` fails, they are lost.
     let _ = err.write_all(notes);
-    DONE
+    ACCEPTED
 }
 
 /// Writes the line of a refusal, and answers its status.
 fn refuse<E: Sink>(fault: PrintFault, err: &mut E) -> u8
     ensures status { result ≡ 1 }
     ensures line { WritesOrFails (refusal_line fault)
-        (writer_change E.failed E.holds E.handed_on err.old err.new) }
+        (writer_change E.Sink err.old err.new) }
 {
     refuse_by(refusal_line(fault).as_slice(), err)
 }

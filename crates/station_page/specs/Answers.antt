@@ -9,7 +9,7 @@ use Rattle.station_book.specs.Limits.{FaceLimits}
 use Rattle.set_marks.specs.Markings.{AnswersMark}
 use Rattle.set_marks.specs.declared.fault.MarkFault.{MarkFault}
 use Rattle.set_marks.specs.declared.marked.Marked.{Marked}
-use Rattle.station_check.specs.Came.{handed_in}
+use Rattle.station_check.specs.Came.{source_of}
 use Rattle.station_check.specs.Answerable.{IsOfCheck}
 use Rattle.station_check.specs.declared.fault.Fault.{Fault}
 use Rattle.station_check.specs.declared.fault.Fault.TheVariants.{Memory, Write}
@@ -41,7 +41,7 @@ pub record IsCheckOf (two_c two_i : ℕ) (is_stated : Bool) (residual : ℕ) (gs
   pub states : States two_c two_i limits
   pub verdict : Result Accepted Fault
   pub promise : KeepsPromise limits (stated_limit is_stated residual)
-      (file_answers (handed_in gsi)) (handed_in sheet) verdict
+      (file_answers (source_of gsi)) (source_of sheet) verdict
   pub of_check : IfErr verdict IsOfCheck
   pub hands_out : HandsOut (status_of verdict) (verdict_line verdict) room answered shown
 
@@ -52,7 +52,7 @@ pub record IsListOf (two_c two_i : ℕ) (gsi : List ℕ) (room answered : ℕ) (
   pub states : States two_c two_i limits
   pub answer : Result ⊤ Fault
   pub text : List ℕ
-  pub writes : WritesList limits (file_answers (handed_in gsi)) answer (Some []) (Some text)
+  pub writes : WritesList limits (file_answers (source_of gsi)) answer (Some []) (Some text)
   pub unfailed : answer ≢ Err Write
   pub hands_out : HandsOut (status_of answer) (text_or_refusal text answer) room answered shown
 
@@ -64,7 +64,7 @@ pub record IsMeansOf (two_c two_i : ℕ) (gsi name : List ℕ) (room answered : 
   pub states : States two_c two_i limits
   pub answer : Result ⊤ Fault
   pub text : List ℕ
-  pub writes : WritesMeans limits (file_answers (handed_in gsi)) name answer
+  pub writes : WritesMeans limits (file_answers (source_of gsi)) name answer
       (Some []) (Some text)
   pub unfailed : answer ≢ Err Write
   pub hands_out : HandsOut (status_of answer) (text_or_refusal text answer) room answered shown
@@ -76,7 +76,7 @@ pub record IsWordsOf (gsi : List ℕ) (room refusal_room answered : ℕ) (shown 
     : Type 0 where
   pub answer : Result ℕ Fault
   pub text : List ℕ
-  pub writes : WritesWords answer (Some []) (Some text) (file_answers (handed_in gsi))
+  pub writes : WritesWords answer (Some []) (Some text) (file_answers (source_of gsi))
   pub unfailed : answer ≢ Err Write
   pub alone : answer ≡ Err Memory → text ≡ []
   pub status : ℕ
@@ -90,7 +90,7 @@ pub record IsDirectionsOf (two_c two_i : ℕ) (gsi name : List ℕ) (decimals ro
   pub limits : FaceLimits
   pub states : States two_c two_i limits
   pub answer : Result (List ℕ) CompareFault
-  pub tells : TellsDirections limits (file_answers (handed_in gsi)) name decimals answer
+  pub tells : TellsDirections limits (file_answers (source_of gsi)) name decimals answer
   pub hands_out : HandsOut (status_of answer) (table_or_refusal answer) room answered shown
 
 -- The status and the text are those of the residuals of the station of this name in these bytes,
@@ -100,7 +100,7 @@ pub record IsResidualsOf (two_c two_i : ℕ) (gsi name : List ℕ) (room answere
   pub limits : FaceLimits
   pub states : States two_c two_i limits
   pub answer : Result (List ℕ) CompareFault
-  pub tells : TellsResiduals limits (file_answers (handed_in gsi)) name answer
+  pub tells : TellsResiduals limits (file_answers (source_of gsi)) name answer
   pub hands_out : HandsOut (status_of answer) (table_or_refusal answer) room answered shown
 
 -- The status and the text are those of the report of the station of this name in these bytes, which
@@ -110,7 +110,7 @@ pub record IsReportOf (two_c two_i : ℕ) (gsi path name : List ℕ) (room answe
   pub limits : FaceLimits
   pub states : States two_c two_i limits
   pub answer : Result (List ℕ) CompareFault
-  pub tells : TellsReport path limits (file_answers (handed_in gsi)) name answer
+  pub tells : TellsReport path limits (file_answers (source_of gsi)) name answer
   pub hands_out : HandsOut (status_of answer) (table_or_refusal answer) room answered shown
 
 -- The status and the line are those of the comparison of these bytes of a table with the station of
@@ -120,7 +120,7 @@ pub record IsComparisonOf (two_c two_i : ℕ) (is_stated : Bool) (within : ℕ)
   pub limits : FaceLimits
   pub states : States two_c two_i limits
   pub answer : Result Agreement CompareFault
-  pub compares : Compares Gon limits (file_answers (handed_in gsi)) (handed_in table) name
+  pub compares : Compares Gon limits (file_answers (source_of gsi)) (source_of table) name
       (stated_limit is_stated within) answer
   pub hands_out : HandsOut (status_of answer) (comparison_line answer) room answered shown
 
@@ -131,8 +131,8 @@ pub record IsDifferencesOf (two_c two_i : ℕ) (gsi table name : List ℕ) (room
   pub limits : FaceLimits
   pub states : States two_c two_i limits
   pub answer : Result (List ℕ) CompareFault
-  pub tells : TellsDifferences Gon limits (file_answers (handed_in gsi))
-      (handed_in table) name answer
+  pub tells : TellsDifferences Gon limits (file_answers (source_of gsi))
+      (source_of table) name answer
   pub hands_out : HandsOut (status_of answer) (table_or_refusal answer) room answered shown
 
 -- The status, the copy and what is told of it, or the line of the refusal, are those of putting
@@ -140,7 +140,7 @@ pub record IsDifferencesOf (two_c two_i : ℕ) (gsi table name : List ℕ) (room
 pub record IsMarkOf (gsi name : List ℕ) (room notes_room answered : ℕ) (shown notes : List ℕ)
     : Type 0 where
   pub answer : Result Marked MarkFault
-  pub marks : AnswersMark (stated_name name) gsi (file_answers (handed_in gsi)) answer
+  pub marks : AnswersMark (stated_name name) gsi (file_answers (source_of gsi)) answer
   pub status : ℕ
   pub hands_copy_out : HandsOut (status_of answer) (copy_text gsi answer) room status shown
   pub hands_notes_out : HandsOut status (notes_or_refusal answer) notes_room answered notes

@@ -2,9 +2,9 @@
 use Rattle.std.specs.Prelude.{◌≡◌, ◌≤◌, ℕ, Bool, true, false, List, [], ◌∷◌, Option, Some, None, ⊤}
 use Rattle.adjust_kernel.specs.declared.bounds.TheConstants.{LARGEST_RESIDUAL_LIMIT}
 use Rattle.adjust_kernel.specs.Names.{IsName}
+use Rattle.direction_table.specs.declared.limit.TheConstants.{LARGEST_WITHIN}
 use Rattle.station_book.specs.Limits.{FaceLimits}
 use Rattle.station_book.specs.declared.limits.TheConstants.{LARGEST_LIMIT}
-use Rattle.station_page.specs.declared.compare.TheConstants.{LARGEST_WITHIN}
 
 -- Neither limit of face differences is above the largest.
 abbrev pub AreFaceLimits : ℕ → ℕ → Type 0
@@ -30,7 +30,7 @@ abbrev pub stated_limit : Bool → ℕ → Option ℕ
 stated_limit true limit = Some limit
 stated_limit false limit = None
 
--- These bytes may be handed in as the name of a file's one station: they are a name, or none, where
+-- These bytes may be passed as the name of a file's one station: they are a name, or none, where
 -- no name is stated.
 abbrev pub MayBeStated : List ℕ → Type 0
 MayBeStated [] = ⊤

@@ -4,7 +4,7 @@ use Rattle.gsi_file.specs.FileAnswers.{file_answers}
 use Rattle.set_marks.specs.Markings.{AnswersMark, copy_of}
 use Rattle.set_marks.specs.declared.fault.MarkFault.{MarkFault}
 use Rattle.set_marks.specs.declared.marked.Marked.{Marked}
-use Rattle.station_check.specs.Came.{handed_in}
+use Rattle.station_check.specs.Came.{source_of}
 use Rattle.station_mark.specs.FaultTexts.{refusal_line}
 use Rattle.station_mark.specs.Notes.{notes_of}
 use Rattle.station_mark.specs.declared.fault.PrintFault.TheVariants.{Mark}
@@ -20,7 +20,7 @@ Notes gsi marking r = ⊥
 pub record IsNoted (station : Option (List ℕ)) (gsi : List ℕ) (r : Result Noted MarkFault)
     : Type 0 where
   pub marking : Result Marked MarkFault
-  pub marks : AnswersMark station gsi (file_answers (handed_in gsi)) marking
+  pub marks : AnswersMark station gsi (file_answers (source_of gsi)) marking
   pub notes : Notes gsi marking r
 
 -- the copy, or nothing

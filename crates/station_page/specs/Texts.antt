@@ -10,6 +10,6 @@ text_of t = t.bytes.items
 abbrev pub has_failed : Text → Bool
 has_failed t = t.has_failed
 
--- whether all that was written is handed on
-abbrev pub is_handed_on : Text → Bool
-is_handed_on t = t.is_handed_on
+-- whether all that was written is flushed
+abbrev pub is_flushed : Text → Bool
+is_flushed t = t.is_flushed

@@ -11,7 +11,7 @@ ghost use Rattle.station_page.specs.declared.hand_out.TheConstants.{OUT_OF_RANGE
 use crate::hand_out::{OUT_OF_RANGE, hand_out};
 use adjust_kernel::{Accepted, ResidualLimit};
 use station_book::Limits;
-use station_check::{DONE, Fault, REFUSED, accepted_line, check_slices, refusal_line};
+use station_check::{ACCEPTED, Fault, REFUSED, accepted_line, check_slices, refusal_line};
 use std::alloc::Global;
 
 /// Checks a sheet against a field file, both whole, and hands out the line of the verdict.
@@ -83,7 +83,7 @@ fn hand_out_verdict(verdict: &Result<Accepted, Fault>, out: &mut [u8], written: 
     ensures rest { drop written.new out.new ≡ drop written.new out.old }
 {
     match verdict {
-        Ok(accepted) => hand_out(DONE, accepted_line(*accepted).as_slice(), out, written),
+        Ok(accepted) => hand_out(ACCEPTED, accepted_line(*accepted).as_slice(), out, written),
         Err(fault) => hand_out(REFUSED, refusal_line(*fault).as_slice(), out, written),
     }
 }

@@ -3,7 +3,7 @@
 ghost use Rattle.std.specs.Prelude.{◌≡◌, ◌<◌, ◌≤◌, length, drop, take, IfOk, IfErr};
 ghost use Rattle.direction_table.specs.declared.unit.AngleUnit.TheVariants.{Gon};
 ghost use Rattle.gsi_file.specs.FileAnswers.{file_answers};
-ghost use Rattle.station_check.specs.Came.{handed_in};
+ghost use Rattle.station_check.specs.Came.{source_of};
 ghost use Rattle.station_check.specs.RunEndings.{status_of};
 ghost use Rattle.station_check.specs.declared.verdict_line.TheConstants.{LONGEST_VERDICT_LINE};
 ghost use Rattle.station_compare.specs.Answers.{Compares};
@@ -14,14 +14,11 @@ ghost use Rattle.station_page.specs.declared.hand_out.TheConstants.{OUT_OF_RANGE
 
 use crate::check::BeyondLimits;
 use crate::hand_out::{OUT_OF_RANGE, hand_out};
-use direction_table::AngleUnit;
+use direction_table::{AngleUnit, LARGEST_WITHIN};
 use station_book::Limits;
-use station_check::{DONE, REFUSED, handed_in};
+use station_check::{ACCEPTED, REFUSED, source_of};
 use station_compare::{Agreement, CompareFault, agreement_line, compare_bytes, refusal_line};
 use std::alloc::Global;
-
-/// A table may be asked to agree within at most so many units of 0.000001 gon: 1 gon.
-pub(crate) const LARGEST_WITHIN: u32 = 1_000_000;
 
 /// Compares the directions that a table states, in gon, with those of the station of this name in a
 /// field file, both whole, and hands out the line of the agreement or of the refusal.
@@ -90,13 +87,13 @@ fn compare_slices(
     limits: Limits,
     within: Option<u32>,
 ) -> Result<Agreement, CompareFault>
-    ensures { Compares Gon limits (file_answers (handed_in gsi.now)) (handed_in table.now) name.now
+    ensures { Compares Gon limits (file_answers (source_of gsi.now)) (source_of table.now) name.now
         within result }
 {
     compare_bytes(
         alloc,
-        handed_in(gsi),
-        &mut handed_in(table),
+        source_of(gsi),
+        &mut source_of(table),
         AngleUnit::Gon,
         name,
         limits,
@@ -117,7 +114,12 @@ fn hand_out_comparison(
     ensures rest { drop written.new out.new ≡ drop written.new out.old }
 {
     match answer {
-        Ok(agreement) => hand_out(DONE, agreement_line(*agreement).as_slice(), out, written),
+        Ok(agreement) => hand_out(
+            ACCEPTED,
+            agreement_line(*agreement).as_slice(),
+            out,
+            written,
+        ),
         Err(fault) => hand_out(REFUSED, refusal_line(*fault).as_slice(), out, written),
     }
 }

@@ -3,7 +3,7 @@
 ghost use Rattle.std.specs.Prelude.{◌≡◌, ◌≤◌, length, drop, take, MatchResult};
 ghost use Rattle.direction_table.specs.declared.unit.AngleUnit.TheVariants.{Gon};
 ghost use Rattle.gsi_file.specs.FileAnswers.{file_answers};
-ghost use Rattle.station_check.specs.Came.{handed_in};
+ghost use Rattle.station_check.specs.Came.{source_of};
 ghost use Rattle.station_differences.specs.Answers.{HasNoDifferences};
 ghost use Rattle.station_differences.specs.Stating.{StatesDifferences};
 ghost use Rattle.station_page.specs.Answers.{IsDifferencesOf};
@@ -13,7 +13,7 @@ ghost use Rattle.station_page.specs.declared.hand_out.TheConstants.{OUT_OF_RANGE
 use crate::hand_out::{OUT_OF_RANGE, hand_out};
 use direction_table::AngleUnit;
 use station_book::Limits;
-use station_check::{DONE, REFUSED, handed_in};
+use station_check::{ACCEPTED, REFUSED, source_of};
 use station_compare::{CompareFault, refusal_line};
 use station_differences::differences_text;
 use std::alloc::Global;
@@ -50,7 +50,7 @@ pub extern "C" fn station_page_differences(
         return OUT_OF_RANGE;
     };
     match differences_of(alloc, gsi, table, name, limits) {
-        Ok(text) => hand_out(DONE, &text, out, written),
+        Ok(text) => hand_out(ACCEPTED, &text, out, written),
         Err(fault) => hand_out(REFUSED, refusal_line(fault).as_slice(), out, written),
     }
 }
@@ -64,15 +64,15 @@ fn differences_of(
     limits: Limits,
 ) -> Result<Vec<u8>, CompareFault>
     ensures { MatchResult result
-        (λ text. StatesDifferences Gon limits (file_answers (handed_in gsi.now))
-        (handed_in table.now) name.now text.items)
-        (HasNoDifferences Gon limits (file_answers (handed_in gsi.now)) (handed_in table.now)
+        (λ text. StatesDifferences Gon limits (file_answers (source_of gsi.now))
+        (source_of table.now) name.now text.items)
+        (HasNoDifferences Gon limits (file_answers (source_of gsi.now)) (source_of table.now)
         name.now) }
 {
     differences_text(
         alloc,
-        handed_in(gsi),
-        &mut handed_in(table),
+        source_of(gsi),
+        &mut source_of(table),
         AngleUnit::Gon,
         name,
         limits,

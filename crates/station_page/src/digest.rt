@@ -8,7 +8,7 @@ ghost use Rattle.station_page.specs.HandedOut.{HandsOut};
 use crate::hand_out::TOO_LITTLE_ROOM;
 use byte_digests::{MOST_BESIDE_NAME, put_digest_line};
 use sha2::{Digest, Sha256};
-use station_check::DONE;
+use station_check::ACCEPTED;
 
 /// Hands out the line of a whole file's SHA-256 digest and of its name, as `sha256sum` prints it.
 ///
@@ -21,9 +21,10 @@ pub extern "C" fn station_page_digest(
     out: &mut [u8],
     written: &mut usize,
 ) -> u8
-    ensures digest { HandsOut DONE (digest_line (sha256 file.now) name.now) (length out.old) result
+    ensures digest { HandsOut ACCEPTED (digest_line (sha256 file.now) name.now)
+        (length out.old) result
         (take written.new out.new) }
-    ensures answers { MOST_BESIDE_NAME + 2 * length name.now ≤ length out.old → result ≡ DONE }
+    ensures answers { MOST_BESIDE_NAME + 2 * length name.now ≤ length out.old → result ≡ ACCEPTED }
     ensures fits { written.new ≤ length out.old }
     ensures rest { drop written.new out.new ≡ drop written.new out.old }
 {
@@ -31,7 +32,7 @@ pub extern "C" fn station_page_digest(
     match put_digest_line(&Sha256::digest(file), name, out) {
         Some(length) => {
             *written = length;
-            DONE
+            ACCEPTED
         }
         None => TOO_LITTLE_ROOM,
     }

@@ -3,7 +3,7 @@
 ghost use Rattle.std.specs.Prelude.{◌≡◌, ◌≤◌, length, drop, take, MatchResult};
 ghost use Rattle.direction_table.specs.Texts.{AreDecimals};
 ghost use Rattle.gsi_file.specs.FileAnswers.{file_answers};
-ghost use Rattle.station_check.specs.Came.{handed_in};
+ghost use Rattle.station_check.specs.Came.{source_of};
 ghost use Rattle.station_compare.specs.Directions.{StatesDirections, HasNoDirections};
 ghost use Rattle.station_page.specs.Answers.{IsDirectionsOf};
 ghost use Rattle.station_page.specs.Limits.{AreFaceLimits};
@@ -12,7 +12,7 @@ ghost use Rattle.station_page.specs.declared.hand_out.TheConstants.{OUT_OF_RANGE
 use crate::hand_out::{OUT_OF_RANGE, hand_out};
 use direction_table::Decimals;
 use station_book::Limits;
-use station_check::{DONE, REFUSED, handed_in};
+use station_check::{ACCEPTED, REFUSED, source_of};
 use station_compare::{CompareFault, directions_text, refusal_line};
 use std::alloc::Global;
 
@@ -49,7 +49,7 @@ pub extern "C" fn station_page_directions(
         return OUT_OF_RANGE;
     };
     match table_of(alloc, gsi, name, limits, decimals) {
-        Ok(table) => hand_out(DONE, &table, out, written),
+        Ok(table) => hand_out(ACCEPTED, &table, out, written),
         Err(fault) => hand_out(REFUSED, refusal_line(fault).as_slice(), out, written),
     }
 }
@@ -63,9 +63,9 @@ fn table_of(
     decimals: Decimals,
 ) -> Result<Vec<u8>, CompareFault>
     ensures { MatchResult result
-        (λ table. StatesDirections limits (file_answers (handed_in gsi.now)) name.now decimals
+        (λ table. StatesDirections limits (file_answers (source_of gsi.now)) name.now decimals
         table.items)
-        (HasNoDirections limits (file_answers (handed_in gsi.now)) name.now) }
+        (HasNoDirections limits (file_answers (source_of gsi.now)) name.now) }
 {
-    directions_text(alloc, handed_in(gsi), name, limits, decimals)
+    directions_text(alloc, source_of(gsi), name, limits, decimals)
 }

@@ -8,7 +8,7 @@ ghost use Rattle.station_page.specs.Answers.{IsExplanationOf};
 ghost use Rattle.station_page.specs.Explained.{IsAskedFor, IsExplained, IsUnexplained};
 
 use crate::hand_out::hand_out;
-use station_check::{DONE, Fault, REFUSED, refusal_line};
+use station_check::{ACCEPTED, Fault, REFUSED, refusal_line};
 use station_explain::{
     Explanation, all_explanations, explaining_text, explanation_meant, fault_named_in,
 };
@@ -62,7 +62,7 @@ fn hand_out_explanation(
     ensures rest { drop written.new out.new ≡ drop written.new out.old }
 {
     match explained(alloc, table, line) {
-        Ok(text) => hand_out(DONE, text.as_bytes(), out, written),
+        Ok(text) => hand_out(ACCEPTED, text.as_bytes(), out, written),
         Err(Unexplained::NotUtf8) => hand_out(REFUSED, b"refused: not UTF-8\n", out, written),
         Err(Unexplained::NoName) => hand_out(REFUSED, b"refused: no such fault\n", out, written),
         Err(Unexplained::Memory) => {

@@ -4,7 +4,7 @@ ghost use Rattle.std.specs.Prelude.{◌≡◌, ◌≤◌, length, drop, take};
 ghost use Rattle.station_check.specs.RunEndings.{status_of};
 ghost use Rattle.station_page.specs.HandedOut.{HandsOut, text_or_refusal};
 
-use station_check::{DONE, Fault, REFUSED, refusal_line};
+use station_check::{ACCEPTED, Fault, REFUSED, refusal_line};
 
 /// The status where a number or a name is out of its range: nothing is answered.
 pub(crate) const OUT_OF_RANGE: u8 = 2;
@@ -45,7 +45,7 @@ pub(crate) fn hand_out_answer(
     ensures kept { length out.new ≡ length out.old }
 {
     match answer {
-        Ok(()) => hand_out(DONE, text, out, written),
+        Ok(()) => hand_out(ACCEPTED, text, out, written),
         Err(fault) => hand_out(REFUSED, refusal_line(*fault).as_slice(), out, written),
     }
 }

@@ -30,6 +30,7 @@ mod digest;
 mod directions;
 mod explain;
 mod hand_out;
+pub mod laws;
 mod list;
 mod mark;
 mod means;

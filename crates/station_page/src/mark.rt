@@ -11,7 +11,7 @@ ghost use Rattle.station_page.specs.declared.hand_out.TheConstants.{OUT_OF_RANGE
 use crate::hand_out::{OUT_OF_RANGE, hand_out};
 use adjust_kernel::Name;
 use set_marks::{MarkFault, mark_file, marked_copy};
-use station_check::{DONE, REFUSED};
+use station_check::{ACCEPTED, REFUSED};
 use station_mark::{PrintFault, notes_text, refusal_line};
 use std::alloc::Global;
 
@@ -55,7 +55,7 @@ fn status_of(answer: &Result<Noted, MarkFault>) -> u8
     ensures { result ≡ status_of answer.now }
 {
     match answer {
-        Ok(_) => DONE,
+        Ok(_) => ACCEPTED,
         Err(_) => REFUSED,
     }
 }

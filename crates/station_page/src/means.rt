@@ -2,7 +2,7 @@
 
 ghost use Rattle.std.specs.Prelude.{◌≡◌, ◌≢◌, ◌≤◌, [], length, drop, take, Some, Err};
 ghost use Rattle.gsi_file.specs.FileAnswers.{file_answers};
-ghost use Rattle.station_check.specs.Came.{handed_in};
+ghost use Rattle.station_check.specs.Came.{source_of};
 ghost use Rattle.station_check.specs.Means.{WritesMeans};
 ghost use Rattle.station_check.specs.declared.fault.Fault.TheVariants.{Write};
 ghost use Rattle.station_page.specs.Answers.{IsMeansOf};
@@ -13,7 +13,7 @@ ghost use Rattle.station_page.specs.declared.hand_out.TheConstants.{OUT_OF_RANGE
 use crate::hand_out::{OUT_OF_RANGE, hand_out_answer};
 use crate::text::Text;
 use station_book::Limits;
-use station_check::{Fault, handed_in, write_means};
+use station_check::{Fault, source_of, write_means};
 use std::alloc::Global;
 
 /// Hands out the sheet of means of the station of this name, of a whole field file, or the line of
@@ -48,12 +48,12 @@ pub extern "C" fn station_page_means(
 
 /// The sheet of means of the station of this name.
 fn means_of(alloc: Global, gsi: &[u8], name: &[u8], limits: Limits) -> (Result<(), Fault>, Text)
-    ensures writes { WritesMeans limits (file_answers (handed_in gsi.now)) name.now result.0
+    ensures writes { WritesMeans limits (file_answers (source_of gsi.now)) name.now result.0
         (Some []) (Some (text_of result.1)) }
     ensures unfailed { result.0 ≢ Err Write }
 {
     let mut text = Text::new(alloc);
-    match write_means(alloc, handed_in(gsi), name, limits, &mut text) {
+    match write_means(alloc, source_of(gsi), name, limits, &mut text) {
         // A text in memory can't be written where there is no memory for it.
         Err(Fault::Write) => (Err(Fault::Memory), text),
         answer => (answer, text),

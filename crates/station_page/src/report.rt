@@ -2,7 +2,7 @@
 
 ghost use Rattle.std.specs.Prelude.{◌≡◌, ◌≤◌, length, drop, take, MatchResult};
 ghost use Rattle.gsi_file.specs.FileAnswers.{file_answers};
-ghost use Rattle.station_check.specs.Came.{handed_in};
+ghost use Rattle.station_check.specs.Came.{source_of};
 ghost use Rattle.station_compare.specs.Directions.{HasNoDirections};
 ghost use Rattle.station_page.specs.Answers.{IsReportOf};
 ghost use Rattle.station_page.specs.Limits.{AreFaceLimits};
@@ -11,7 +11,7 @@ ghost use Rattle.station_report.specs.Stating.{StatesReport};
 
 use crate::hand_out::{OUT_OF_RANGE, hand_out};
 use station_book::Limits;
-use station_check::{DONE, REFUSED, handed_in};
+use station_check::{ACCEPTED, REFUSED, source_of};
 use station_compare::{CompareFault, refusal_line};
 use station_report::report_text;
 use std::alloc::Global;
@@ -47,7 +47,7 @@ pub extern "C" fn station_page_report(
         return OUT_OF_RANGE;
     };
     match report_of(alloc, gsi, path, name, limits) {
-        Ok(text) => hand_out(DONE, &text, out, written),
+        Ok(text) => hand_out(ACCEPTED, &text, out, written),
         Err(fault) => hand_out(REFUSED, refusal_line(fault).as_slice(), out, written),
     }
 }
@@ -61,9 +61,9 @@ fn report_of(
     limits: Limits,
 ) -> Result<Vec<u8>, CompareFault>
     ensures { MatchResult result
-        (λ text. StatesReport path.now limits (file_answers (handed_in gsi.now)) name.now
+        (λ text. StatesReport path.now limits (file_answers (source_of gsi.now)) name.now
         text.items)
-        (HasNoDirections limits (file_answers (handed_in gsi.now)) name.now) }
+        (HasNoDirections limits (file_answers (source_of gsi.now)) name.now) }
 {
-    report_text(alloc, handed_in(gsi), path, name, limits)
+    report_text(alloc, source_of(gsi), path, name, limits)
 }

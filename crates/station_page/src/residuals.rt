@@ -2,7 +2,7 @@
 
 ghost use Rattle.std.specs.Prelude.{◌≡◌, ◌≤◌, length, drop, take, MatchResult};
 ghost use Rattle.gsi_file.specs.FileAnswers.{file_answers};
-ghost use Rattle.station_check.specs.Came.{handed_in};
+ghost use Rattle.station_check.specs.Came.{source_of};
 ghost use Rattle.station_compare.specs.Directions.{HasNoDirections};
 ghost use Rattle.station_page.specs.Answers.{IsResidualsOf};
 ghost use Rattle.station_page.specs.Limits.{AreFaceLimits};
@@ -11,7 +11,7 @@ ghost use Rattle.station_residuals.specs.Stating.{StatesResiduals};
 
 use crate::hand_out::{OUT_OF_RANGE, hand_out};
 use station_book::Limits;
-use station_check::{DONE, REFUSED, handed_in};
+use station_check::{ACCEPTED, REFUSED, source_of};
 use station_compare::{CompareFault, refusal_line};
 use station_residuals::residuals_text;
 use std::alloc::Global;
@@ -46,7 +46,7 @@ pub extern "C" fn station_page_residuals(
         return OUT_OF_RANGE;
     };
     match residuals_of(alloc, gsi, name, limits) {
-        Ok(text) => hand_out(DONE, &text, out, written),
+        Ok(text) => hand_out(ACCEPTED, &text, out, written),
         Err(fault) => hand_out(REFUSED, refusal_line(fault).as_slice(), out, written),
     }
 }
@@ -59,8 +59,8 @@ fn residuals_of(
     limits: Limits,
 ) -> Result<Vec<u8>, CompareFault>
     ensures { MatchResult result
-        (λ text. StatesResiduals limits (file_answers (handed_in gsi.now)) name.now text.items)
-        (HasNoDirections limits (file_answers (handed_in gsi.now)) name.now) }
+        (λ text. StatesResiduals limits (file_answers (source_of gsi.now)) name.now text.items)
+        (HasNoDirections limits (file_answers (source_of gsi.now)) name.now) }
 {
-    residuals_text(alloc, handed_in(gsi), name, limits)
+    residuals_text(alloc, source_of(gsi), name, limits)
 }

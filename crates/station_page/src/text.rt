@@ -2,9 +2,9 @@
 
 ghost use Rattle.std.specs.Prelude.{◌≡◌, ◌<◌, [], Some, length};
 ghost use Rattle.std.specs.Io.KnownBytes.{WriteAppends};
-ghost use Rattle.byte_ends.specs.Sink.{TakesSome, failed_after, handed_on_by_write};
-ghost use Rattle.byte_ends.specs.Sink.{handed_on_by_flush};
-ghost use Rattle.station_page.specs.Texts.{text_of, has_failed, is_handed_on};
+ghost use Rattle.byte_ends.specs.Sink.{TakesSome, failed_after, flushed_by_write};
+ghost use Rattle.byte_ends.specs.Sink.{flushed_by_flush};
+ghost use Rattle.station_page.specs.Texts.{text_of, has_failed, is_flushed};
 
 use byte_ends::{Failed, Sink};
 use std::alloc::Global;
@@ -15,7 +15,7 @@ pub(crate) struct Text {
     bytes: Vec<u8>,
     has_failed: bool,
     /// Whether a flush has come after the last byte that was taken.
-    is_handed_on: bool,
+    is_flushed: bool,
 }
 
 impl Text {
@@ -25,12 +25,12 @@ impl Text {
     pub(crate) fn new(alloc: Global) -> Text
         ensures empty { text_of result ≡ [] }
         ensures unfailed { has_failed result ≡ false }
-        ensures handed_on { is_handed_on result ≡ true }
+        ensures flushed { is_flushed result ≡ true }
     {
         Text {
             bytes: Vec::new(alloc),
             has_failed: false,
-            is_handed_on: true,
+            is_flushed: true,
         }
     }
 
@@ -47,20 +47,20 @@ impl Sink for Text {
 
     ghost holds = { λ text. Some (text_of text) };
 
-    ghost handed_on = { λ text. is_handed_on text };
+    ghost flushed = { λ text. is_flushed text };
 
     fn write(&mut self, bytes: &[u8]) -> Result<usize, Failed>
         ensures takes { TakesSome result (length bytes.now) }
         ensures failed { has_failed self.new ≡ failed_after (has_failed self.old) result }
         ensures holds { WriteAppends (Some (text_of self.old)) (Some (text_of self.new))
             result bytes.now }
-        ensures handed_on { is_handed_on self.new
-            ≡ handed_on_by_write (is_handed_on self.old) result }
+        ensures flushed { is_flushed self.new
+            ≡ flushed_by_write (is_flushed self.old) result }
     {
         match self.bytes.extend_from_slice(bytes) {
             Ok(()) => {
                 if !bytes.is_empty() {
-                    self.is_handed_on = false;
+                    self.is_flushed = false;
                 }
                 Ok(bytes.len())
             }
@@ -74,10 +74,10 @@ impl Sink for Text {
     fn flush(&mut self) -> Result<(), Failed>
         ensures failed { has_failed self.new ≡ failed_after (has_failed self.old) result }
         ensures holds { Some (text_of self.new) ≡ Some (text_of self.old) }
-        ensures handed_on { is_handed_on self.new
-            ≡ handed_on_by_flush (is_handed_on self.old) result }
+        ensures flushed { is_flushed self.new
+            ≡ flushed_by_flush (is_flushed self.old) result }
     {
-        self.is_handed_on = true;
+        self.is_flushed = true;
         Ok(())
     }
 }

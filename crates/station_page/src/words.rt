@@ -2,7 +2,7 @@
 
 ghost use Rattle.std.specs.Prelude.{◌≡◌, ◌≢◌, ◌≤◌, [], length, drop, take, Some, Err};
 ghost use Rattle.gsi_file.specs.FileAnswers.{file_answers};
-ghost use Rattle.station_check.specs.Came.{handed_in};
+ghost use Rattle.station_check.specs.Came.{source_of};
 ghost use Rattle.station_check.specs.RunEndings.{status_of};
 ghost use Rattle.station_check.specs.Words.{WritesWords};
 ghost use Rattle.station_check.specs.declared.fault.Fault.TheVariants.{Memory, Write};
@@ -12,7 +12,7 @@ ghost use Rattle.station_page.specs.Texts.{text_of};
 
 use crate::hand_out::hand_out;
 use crate::text::Text;
-use station_check::{DONE, Fault, REFUSED, VerdictLine, handed_in, refusal_line, write_words};
+use station_check::{ACCEPTED, Fault, REFUSED, VerdictLine, refusal_line, source_of, write_words};
 use std::alloc::Global;
 
 /// Hands out the words of a whole field file; at a fault of the file those of the blocks before it,
@@ -46,12 +46,12 @@ pub extern "C" fn station_page_words(
 /// The words of a field file.
 fn words_of(alloc: Global, gsi: &[u8]) -> (Result<u32, Fault>, Text)
     ensures writes { WritesWords result.0 (Some []) (Some (text_of result.1))
-        (file_answers (handed_in gsi.now)) }
+        (file_answers (source_of gsi.now)) }
     ensures unfailed { result.0 ≢ Err Write }
     ensures alone { result.0 ≡ Err Memory → text_of result.1 ≡ [] }
 {
     let mut text = Text::new(alloc);
-    match write_words(alloc, handed_in(gsi), &mut text) {
+    match write_words(alloc, source_of(gsi), &mut text) {
         // A text in memory can't be written where there is no memory for it. What came before is
         // dropped: nobody knows where it ends.
         Err(Fault::Write | Fault::Memory) => (Err(Fault::Memory), Text::new(alloc)),
@@ -64,7 +64,7 @@ fn status_of(answer: &Result<u32, Fault>) -> u8
     ensures { result ≡ status_of answer.now }
 {
     match answer {
-        Ok(_) => DONE,
+        Ok(_) => ACCEPTED,
         Err(_) => REFUSED,
     }
 }

@@ -1,7 +1,7 @@
 //! How a request is answered: its files are opened, and its run is made over them.
 
 ghost use Rattle.std.specs.Prelude.{◌≡◌, ◌⊎◌, ◌≤◌, IfOk, IfErr, OnErr, true, false};
-ghost use Rattle.byte_ends.specs.Sink.{writer_change};
+ghost use Rattle.byte_ends.specs.Writers.{writer_change};
 ghost use Rattle.station_program.specs.Answering.{IsAnswered, IsOpened, IsRun, NamesFile};
 ghost use Rattle.station_program.specs.Answering.{ChecksFiles, ComparesFiles, ReportsFile};
 ghost use Rattle.station_program.specs.Answering.{ReportsFiles};
@@ -46,8 +46,8 @@ pub fn answer<'a, H: Host, W: Sink, E: Sink>(
         (readers H.File.told H.File.failed H.File.gave)
         (H.known_file host.now) (H.may_not_open host.now)
         (readers H.Input.told H.Input.failed H.Input.gave) input) faults.now
-        (writer_change W.failed W.holds W.handed_on out.old out.new)
-        (writer_change E.failed E.holds E.handed_on err.old err.new) request.now) }
+        (writer_change W.Sink out.old out.new)
+        (writer_change E.Sink err.old err.new) request.now) }
     ensures unopened { IfErr result (λ unopened. NamesFile request.now unopened.path.now) }
     ensures fails { IfErr result (λ unopened. H.may_not_open host.now unopened.path.now ≡ true) }
     ensures unchanged { OnErr result ((out.new ≡ out.old) × (err.new ≡ err.old)) }
@@ -258,8 +258,8 @@ fn run_request<F: Source, I: Source, W: Sink, E: Sink>(
     ensures status { result ≤ 1 }
     ensures run { IsRun (readers F.told F.failed F.gave) (readers I.told I.failed I.gave)
         input faults.now
-        (writer_change W.failed W.holds W.handed_on out.old out.new)
-        (writer_change E.failed E.holds E.handed_on err.old err.new) request.entry result }
+        (writer_change W.Sink out.old out.new)
+        (writer_change E.Sink err.old err.new) request.entry result }
 {
     match request {
         Request::Check {
@@ -373,8 +373,8 @@ fn check_files<F: Source, W: Sink, E: Sink>(
 ) -> u8
     ensures status { result ≤ 1 }
     ensures run { ChecksFiles (readers F.told F.failed F.gave)
-        (writer_change W.failed W.holds W.handed_on out.old out.new)
-        (writer_change E.failed E.holds E.handed_on err.old err.new)
+        (writer_change W.Sink out.old out.new)
+        (writer_change E.Sink err.old err.new)
         gsi.entry sheet.entry limits residual digests result }
 {
     match digests {
@@ -407,8 +407,8 @@ fn compare_files<F: Source, W: Sink, E: Sink>(
 ) -> u8
     ensures status { result ≤ 1 }
     ensures run { ComparesFiles (readers F.told F.failed F.gave)
-        (writer_change W.failed W.holds W.handed_on out.old out.new)
-        (writer_change E.failed E.holds E.handed_on err.old err.new)
+        (writer_change W.Sink out.old out.new)
+        (writer_change E.Sink err.old err.new)
         gsi.entry station.now table.entry unit limits within digests result }
 {
     let name = station.as_bytes();
@@ -443,8 +443,8 @@ fn report_file<F: Source, W: Sink, E: Sink>(
 ) -> u8
     ensures status { result ≤ 1 }
     ensures run { ReportsFile (readers F.told F.failed F.gave)
-        (writer_change W.failed W.holds W.handed_on out.old out.new)
-        (writer_change E.failed E.holds E.handed_on err.old err.new)
+        (writer_change W.Sink out.old out.new)
+        (writer_change E.Sink err.old err.new)
         gsi.entry station.now limits digests result }
 {
     let name = station.as_bytes();
@@ -470,8 +470,8 @@ fn report_files<F: Source, W: Sink, E: Sink>(
 ) -> u8
     ensures status { result ≤ 1 }
     ensures run { ReportsFiles (readers F.told F.failed F.gave)
-        (writer_change W.failed W.holds W.handed_on out.old out.new)
-        (writer_change E.failed E.holds E.handed_on err.old err.new)
+        (writer_change W.Sink out.old out.new)
+        (writer_change E.Sink err.old err.new)
         gsi.entry station.now table.entry unit limits within digests result }
 {
     let asked = Asked {

@@ -20,7 +20,7 @@ use byte_ends::{OfRead, OfWrite};
 use clap::Error;
 use clap::error::ErrorKind;
 use run::{USAGE, run};
-use station_check::{DONE, Fault, refuse};
+use station_check::{ACCEPTED, Fault, refuse};
 use station_explain::all_explanations;
 use std::io;
 use std::process::ExitCode;
@@ -57,7 +57,7 @@ fn status_of_print(rt: &HostRuntime, printed: io::Result<()>) -> u8
     ensures failed { OnErr printed (result ≡ 1) }
 {
     match printed {
-        Ok(()) => DONE,
+        Ok(()) => ACCEPTED,
         Err(_) => refused(rt, Fault::Write),
     }
 }

@@ -1,7 +1,7 @@
 //! The run that the words of the command line ask for, over any host and any two sinks.
 
 ghost use Rattle.std.specs.Prelude.{◌≡◌, ◌≤◌, IfOk, IfErr, OnErr, map, string_bytes};
-ghost use Rattle.byte_ends.specs.Sink.{writer_change};
+ghost use Rattle.byte_ends.specs.Writers.{writer_change};
 ghost use Rattle.command_line.specs.CommandLine.{IsMistakeIn};
 ghost use Rattle.station_check.specs.RunEndings.{WritesOrFails};
 ghost use Rattle.station_program.specs.Answering.{IsStatusOfWords, IsStatusOfRun, IsMistakenRun};
@@ -45,14 +45,14 @@ pub fn run<H: Host, W: Sink, E: Sink>(
     out: &mut W,
     err: &mut E,
 ) -> Result<u8, Error>
-    ensures range { IfOk result (λ status. status ≤ 2) }
+    ensures bound { IfOk result (λ status. status ≤ 2) }
     ensures status { IfOk result (IsStatusOfRun
         (known_of (H.known_words host.now) (H.may_lack host.now)
         (readers H.File.told H.File.failed H.File.gave)
         (H.known_file host.now) (H.may_not_open host.now)
         (readers H.Input.told H.Input.failed H.Input.gave) input) faults.now
-        (writer_change W.failed W.holds W.handed_on out.old out.new)
-        (writer_change E.failed E.holds E.handed_on err.old err.new)) }
+        (writer_change W.Sink out.old out.new)
+        (writer_change E.Sink err.old err.new)) }
     ensures mistake { IfErr result (IsMistakenRun
         (known_of (H.known_words host.now) (H.may_lack host.now)
         (readers H.File.told H.File.failed H.File.gave)
@@ -76,14 +76,14 @@ fn status_of_words<H: Host, W: Sink, E: Sink>(
     out: &mut W,
     err: &mut E,
 ) -> Result<u8, Error>
-    ensures range { IfOk result (λ status. status ≤ 2) }
+    ensures bound { IfOk result (λ status. status ≤ 2) }
     ensures status { IfOk result (IsStatusOfWords
         (known_of (H.known_words host.now) (H.may_lack host.now)
         (readers H.File.told H.File.failed H.File.gave)
         (H.known_file host.now) (H.may_not_open host.now)
         (readers H.Input.told H.Input.failed H.Input.gave) input) faults.now
-        (writer_change W.failed W.holds W.handed_on out.old out.new)
-        (writer_change E.failed E.holds E.handed_on err.old err.new) (map string_bytes words.now)) }
+        (writer_change W.Sink out.old out.new)
+        (writer_change E.Sink err.old err.new) (map string_bytes words.now)) }
     ensures mistake { IfErr result (IsMistakeIn (map string_bytes words.now) faults.now) }
     ensures unchanged { OnErr result ((out.new ≡ out.old) × (err.new ≡ err.old)) }
 {
@@ -96,9 +96,9 @@ fn status_of_words<H: Host, W: Sink, E: Sink>(
 
 /// Names a file that can't be opened on `err`, and answers the exit status.
 fn report_unopened<E: Sink>(alloc: Global, unopened: &Unopened<'_>, err: &mut E) -> u8
-    ensures range { result ≤ 2 }
+    ensures bound { result ≤ 2 }
     ensures named { NamesUnopened unopened.now.path.now result
-        (writer_change E.failed E.holds E.handed_on err.old err.new) }
+        (writer_change E.Sink err.old err.new) }
 {
     match unopened_line(alloc, unopened.path) {
         Ok(line) => report(line.as_str(), err),
@@ -108,9 +108,9 @@ fn report_unopened<E: Sink>(alloc: Global, unopened: &Unopened<'_>, err: &mut E)
 
 /// Says on `err` why there are no words, and answers the exit status.
 fn report_lack<E: Sink>(reason: NoWords, err: &mut E) -> u8
-    ensures range { result ≤ 2 }
+    ensures bound { result ≤ 2 }
     ensures lacking { LacksWords reason result
-        (writer_change E.failed E.holds E.handed_on err.old err.new) }
+        (writer_change E.Sink err.old err.new) }
 {
     match reason {
         NoWords::OutOfMemory => refuse(Fault::Memory, err),
@@ -122,7 +122,7 @@ fn report_lack<E: Sink>(reason: NoWords, err: &mut E) -> u8
 fn report<E: Sink>(text: &str, err: &mut E) -> u8
     ensures status { result ≡ 2 }
     ensures line { WritesOrFails text.now
-        (writer_change E.failed E.holds E.handed_on err.old err.new) }
+        (writer_change E.Sink err.old err.new) }
 {
     // Where `err` fails, the text is lost.
     let _ = err.write_all(text.as_bytes());

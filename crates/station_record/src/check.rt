@@ -1,7 +1,7 @@
 //! The check, with the digests of what it judged.
 
 ghost use Rattle.std.specs.Prelude.{◌≡◌, ⊤};
-ghost use Rattle.byte_ends.specs.Sink.{writer_change};
+ghost use Rattle.byte_ends.specs.Writers.{writer_change};
 ghost use Rattle.byte_ends.specs.Source.{UntilDropped};
 ghost use Rattle.station_check.specs.RunEndings.{PrintsAnswer, Reports, Run, no_notes, status_of};
 ghost use Rattle.station_check.specs.VerdictLines.{refusal_line};
@@ -15,7 +15,7 @@ use adjust_kernel::{Accepted, ResidualLimit};
 use byte_digests::Digesting;
 use byte_ends::{Sink, Source};
 use station_book::Limits;
-use station_check::{DONE, Fault, accepted_line, check_sources, refuse};
+use station_check::{ACCEPTED, Fault, accepted_line, check_sources, refuse};
 use std::alloc::Global;
 
 /// Checks a sheet against a field file as `run_check` does, and answers its exit status. After the
@@ -36,8 +36,8 @@ pub fn run_check_recorded<R: Source, Q: Source, W: Sink, E: Sink>(
         UntilDropped Q.told Q.failed Q.gave sheet.entry.reader (λ sheet_change.
         Run {A = ⊤} refusal_line (IsRecordedCheck limits limit
         gsi_change gsi.entry.name.now sheet_change sheet.entry.name.now)
-        result (writer_change W.failed W.holds W.handed_on out.old out.new)
-        (writer_change E.failed E.holds E.handed_on err.old err.new))) }
+        result (writer_change W.Sink out.old out.new)
+        (writer_change E.Sink err.old err.new))) }
 {
     let digested_gsi = Digesting::new(gsi.reader);
     let mut digested_sheet = Digesting::new(sheet.reader);
@@ -54,7 +54,7 @@ pub fn run_check_recorded<R: Source, Q: Source, W: Sink, E: Sink>(
     report(printed, err)
 }
 
-/// Prints the lines of an accepted sheet and of the two files, and hands on a refusal.
+/// Prints the lines of an accepted sheet and of the two files, and passes on a refusal.
 fn print_verdict<W: Sink>(
     verdict: Result<Accepted, Fault>,
     gsi: [u8; 32],
@@ -65,7 +65,7 @@ fn print_verdict<W: Sink>(
 ) -> Result<(), Fault>
     ensures { PrintsAnswer (λ a. recorded_text (spec.accepted_line a) gsi gsi_name.now
         sheet sheet_name.now) Write verdict result
-        (writer_change W.failed W.holds W.handed_on out.old out.new) }
+        (writer_change W.Sink out.old out.new) }
 {
     let accepted = verdict?;
     let line = accepted_line(accepted);
@@ -77,10 +77,10 @@ fn print_verdict<W: Sink>(
 fn report<E: Sink>(printed: Result<(), Fault>, err: &mut E) -> u8
     ensures exits { result ≡ status_of printed }
     ensures reports { Reports no_notes refusal_line printed
-        (writer_change E.failed E.holds E.handed_on err.old err.new) }
+        (writer_change E.Sink err.old err.new) }
 {
     match printed {
-        Ok(()) => DONE,
+        Ok(()) => ACCEPTED,
         Err(fault) => refuse(fault, err),
     }
 }

@@ -1,7 +1,7 @@
 //! The comparison, with the digests of what it judged.
 
 ghost use Rattle.std.specs.Prelude.{◌≡◌, ⊤};
-ghost use Rattle.byte_ends.specs.Sink.{writer_change};
+ghost use Rattle.byte_ends.specs.Writers.{writer_change};
 ghost use Rattle.byte_ends.specs.Source.{UntilDropped};
 ghost use Rattle.station_check.specs.RunEndings.{PrintsAnswer, Reports, Run, no_notes, status_of};
 ghost use Rattle.station_compare.specs.FaultTexts.{refusal_line};
@@ -15,7 +15,7 @@ use byte_digests::Digesting;
 use byte_ends::{Sink, Source};
 use direction_table::AngleUnit;
 use station_book::Limits;
-use station_check::DONE;
+use station_check::ACCEPTED;
 use station_compare::{Agreement, CompareFault, agreement_line, compare_sources, refuse};
 use std::alloc::Global;
 
@@ -39,8 +39,8 @@ pub fn run_compare_recorded<R: Source, Q: Source, W: Sink, E: Sink>(
         UntilDropped Q.told Q.failed Q.gave table.entry.reader (λ table_change.
         Run {A = ⊤} refusal_line (IsRecordedCompare unit limits within station.now
         gsi_change gsi.entry.name.now table_change table.entry.name.now)
-        result (writer_change W.failed W.holds W.handed_on out.old out.new)
-        (writer_change E.failed E.holds E.handed_on err.old err.new))) }
+        result (writer_change W.Sink out.old out.new)
+        (writer_change E.Sink err.old err.new))) }
 {
     let digested_gsi = Digesting::new(gsi.reader);
     let mut digested_table = Digesting::new(table.reader);
@@ -59,7 +59,7 @@ pub fn run_compare_recorded<R: Source, Q: Source, W: Sink, E: Sink>(
     report(printed, err)
 }
 
-/// Prints the lines of a table that agrees and of the two files, and hands on a refusal.
+/// Prints the lines of a table that agrees and of the two files, and passes on a refusal.
 fn print_verdict<W: Sink>(
     verdict: Result<Agreement, CompareFault>,
     gsi: [u8; 32],
@@ -70,7 +70,7 @@ fn print_verdict<W: Sink>(
 ) -> Result<(), CompareFault>
     ensures { PrintsAnswer (λ a. recorded_text (spec.agreement_line a) gsi gsi_name.now
         table table_name.now) Write verdict result
-        (writer_change W.failed W.holds W.handed_on out.old out.new) }
+        (writer_change W.Sink out.old out.new) }
 {
     let agreement = verdict?;
     let line = agreement_line(agreement);
@@ -82,10 +82,10 @@ fn print_verdict<W: Sink>(
 pub(crate) fn report<E: Sink>(printed: Result<(), CompareFault>, err: &mut E) -> u8
     ensures exits { result ≡ status_of printed }
     ensures reports { Reports no_notes refusal_line printed
-        (writer_change E.failed E.holds E.handed_on err.old err.new) }
+        (writer_change E.Sink err.old err.new) }
 {
     match printed {
-        Ok(()) => DONE,
+        Ok(()) => ACCEPTED,
         Err(fault) => refuse(fault, err),
     }
 }

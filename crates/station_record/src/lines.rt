@@ -24,7 +24,7 @@ pub(crate) fn write_recorded<W: Sink>(
     ensures failed { W.failed out.new ≡ failed_after (W.failed out.old) result }
     ensures ok { OnOk result (Appends (W.holds out.old) (W.holds out.new)
         (recorded_text line.now gsi.now gsi_name.now other.now other_name.now)) }
-    ensures handed_on { OnOk result (W.handed_on out.new ≡ true) }
+    ensures flushed { OnOk result (W.flushed out.new ≡ true) }
     ensures cut_short { OnErr result (AppendsSome (W.holds out.old) (W.holds out.new)
         (recorded_text line.now gsi.now gsi_name.now other.now other_name.now)) }
 {
@@ -44,7 +44,7 @@ pub(crate) fn write_recorded_report<W: Sink>(
     ensures failed { W.failed out.new ≡ failed_after (W.failed out.old) result }
     ensures ok { OnOk result (Appends (W.holds out.old) (W.holds out.new)
         (recorded_report_text text.now gsi.now gsi_name.now)) }
-    ensures handed_on { OnOk result (W.handed_on out.new ≡ true) }
+    ensures flushed { OnOk result (W.flushed out.new ≡ true) }
     ensures cut_short { OnErr result (AppendsSome (W.holds out.old) (W.holds out.new)
         (recorded_report_text text.now gsi.now gsi_name.now)) }
 {
@@ -66,7 +66,7 @@ pub(crate) fn write_recorded_both<W: Sink>(
     ensures failed { W.failed out.new ≡ failed_after (W.failed out.old) result }
     ensures ok { OnOk result (Appends (W.holds out.old) (W.holds out.new)
         (recorded_both_text text.now gsi.now gsi_name.now table.now table_name.now)) }
-    ensures handed_on { OnOk result (W.handed_on out.new ≡ true) }
+    ensures flushed { OnOk result (W.flushed out.new ≡ true) }
     ensures cut_short { OnErr result (AppendsSome (W.holds out.old) (W.holds out.new)
         (recorded_both_text text.now gsi.now gsi_name.now table.now table_name.now)) }
 {

@@ -1,7 +1,7 @@
 //! The report, with the digest of what was read.
 
 ghost use Rattle.std.specs.Prelude.{◌≡◌, ⊤};
-ghost use Rattle.byte_ends.specs.Sink.{writer_change};
+ghost use Rattle.byte_ends.specs.Writers.{writer_change};
 ghost use Rattle.byte_ends.specs.Source.{UntilDropped};
 ghost use Rattle.station_check.specs.RunEndings.{PrintsAnswer, Run};
 ghost use Rattle.station_compare.specs.FaultTexts.{refusal_line};
@@ -34,8 +34,8 @@ pub fn run_report_recorded<R: Source, W: Sink, E: Sink>(
     ensures { UntilDropped R.told R.failed R.gave gsi.entry.reader (λ gsi_change.
         Run {A = ⊤} refusal_line
         (IsRecordedReport gsi.entry.name.now limits gsi_change station.now)
-        result (writer_change W.failed W.holds W.handed_on out.old out.new)
-        (writer_change E.failed E.holds E.handed_on err.old err.new)) }
+        result (writer_change W.Sink out.old out.new)
+        (writer_change E.Sink err.old err.new)) }
 {
     let digested = Digesting::new(gsi.reader);
     let (answer, digested) = report_of_source(alloc, digested, gsi.name, station, limits);
@@ -44,7 +44,7 @@ pub fn run_report_recorded<R: Source, W: Sink, E: Sink>(
     report(printed, err)
 }
 
-/// Prints a report and the digest of its field file, and hands on a refusal.
+/// Prints a report and the digest of its field file, and passes on a refusal.
 fn print_report<W: Sink>(
     answer: Result<Vec<u8>, CompareFault>,
     gsi: [u8; 32],
@@ -52,7 +52,7 @@ fn print_report<W: Sink>(
     out: &mut W,
 ) -> Result<(), CompareFault>
     ensures { PrintsAnswer (λ text. recorded_report_text text.items gsi gsi_name.now) Write answer
-        result (writer_change W.failed W.holds W.handed_on out.old out.new) }
+        result (writer_change W.Sink out.old out.new) }
 {
     let text = answer?;
     write_recorded_report(&text, &gsi, gsi_name, out)?;

@@ -1,7 +1,7 @@
 //! The report with a table, with the digests of what was read.
 
 ghost use Rattle.std.specs.Prelude.{⊤};
-ghost use Rattle.byte_ends.specs.Sink.{writer_change};
+ghost use Rattle.byte_ends.specs.Writers.{writer_change};
 ghost use Rattle.byte_ends.specs.Source.{UntilDropped};
 ghost use Rattle.station_check.specs.RunEndings.{Run};
 ghost use Rattle.station_compare.specs.FaultTexts.{refusal_line};
@@ -34,8 +34,8 @@ pub fn run_table_report_recorded<R: Source, Q: Source, W: Sink, E: Sink>(
         UntilDropped Q.told Q.failed Q.gave table (λ table_change.
         Run {A = ⊤} refusal_line
         (IsRecordedTableReport (asked_of asked.now) gsi_change table_change)
-        result (writer_change W.failed W.holds W.handed_on out.old out.new)
-        (writer_change E.failed E.holds E.handed_on err.old err.new))) }
+        result (writer_change W.Sink out.old out.new)
+        (writer_change E.Sink err.old err.new))) }
 {
     let digested_gsi = Digesting::new(gsi);
     let mut digested_table = Digesting::new(table);
@@ -51,7 +51,7 @@ pub fn run_table_report_recorded<R: Source, Q: Source, W: Sink, E: Sink>(
     report(printed, err)
 }
 
-/// Prints a report and the digests of its two files, and answers its verdict; or hands on a
+/// Prints a report and the digests of its two files, and answers its verdict; or passes on a
 /// refusal.
 fn print_report<W: Sink>(
     answer: Result<TableReport, CompareFault>,
@@ -62,7 +62,7 @@ fn print_report<W: Sink>(
 ) -> Result<(), CompareFault>
     ensures { PrintsReport (λ report. recorded_both_text report.text.items gsi asked.now.path.now
         table asked.now.table_path.now) (λ report. report.beyond) answer result
-        (writer_change W.failed W.holds W.handed_on out.old out.new) }
+        (writer_change W.Sink out.old out.new) }
 {
     let report = answer?;
     write_recorded_both(

@@ -9,7 +9,7 @@ use Rattle.adjust_kernel.specs.declared.obs.Obs.{Obs}
 use Rattle.angle_texts.specs.MgonTexts.{mgon_text, short_mgon_text}
 use Rattle.byte_digests.specs.DigestLines.{name_text}
 use Rattle.direction_table.specs.Texts.{direction_text}
-use Rattle.directions_apart.specs.declared.units.TheConstants.{HALF_UNIT}
+use Rattle.adjust_kernel.specs.declared.units.TheConstants.{HALF_UNIT}
 use Rattle.station_book.specs.Limits.{FaceLimits}
 use Rattle.station_book.specs.Stations.{SurveyedStation}
 use Rattle.station_report.specs.Columns.{each_place, left_text, right_text}

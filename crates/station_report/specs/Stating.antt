@@ -5,7 +5,7 @@
 -- full turns, each number rounded once.
 use Rattle.std.specs.Prelude.{◌≡◌, ℕ, ◌≤◌, ◌<◌, List, [], Option, length, unsigned_abs}
 use Rattle.adjust_kernel.specs.Stations.{StationValue}
-use Rattle.directions_apart.specs.declared.units.TheConstants.{UNIT}
+use Rattle.adjust_kernel.specs.declared.units.TheConstants.{UNIT}
 use Rattle.gsi_file.specs.FileAnswers.{FileAnswers}
 use Rattle.least_directions.specs.LeastDirections.{AreRounded}
 use Rattle.station_book.specs.Limits.{FaceLimits}

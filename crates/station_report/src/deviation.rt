@@ -45,7 +45,7 @@ pub fn deviation_by(
     requires limited { KeepsLimit station.now adjustment.now LARGEST_RESIDUAL_LIMIT }
     requires tied { AreTied station.now }
     ensures deviation { IfOk result (spec.IsDeviation station.now) }
-    ensures small { IfOk result (λ deviation. ForSome deviation (λ units. units < 2 ^ 31)) }
+    ensures bound { IfOk result (λ deviation. ForSome deviation (λ units. units < 2 ^ 31)) }
 {
     if degrees_of(station) == 0 {
         return Ok(None);
@@ -62,7 +62,7 @@ fn deviation_of(station: &Station, adjustment: &Adjustment, squares: &Wide) -> u
         ≤ adjustment.now.denominator * (4_000_000 * length station.now.obs) }
     ensures rounded { (s : ℤ) → pos (adjustment.now.denominator * squares.now) ≡ s
         → spec.IsRootOf adjustment.now.denominator (spec.degrees_of station.now) s result }
-    ensures small { result < 2 ^ 31 }
+    ensures bound { result < 2 ^ 31 }
 {
     let obs = station.obs();
     let degrees = degrees_of(station);

@@ -32,7 +32,7 @@ pub(crate) fn observation_at(station: &Station, place: usize) -> Obs
     ensures value { result.value ≡ spec.value_at station.now place }
     ensures set_in { result.set < length station.now.sets }
     ensures target_in { result.target < length station.now.targets }
-    ensures below { result.value < TURN }
+    ensures bound { result.value < TURN }
 {
     station.obs()[place]
 }

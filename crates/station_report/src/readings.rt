@@ -9,9 +9,8 @@ ghost use Rattle.angle_texts.specs.MgonTexts.{short_mgon_text};
 
 use crate::columns::{push_left, push_right, push_right_number};
 use crate::places::{faces_at, name_of, number_of, observation_at};
-use adjust_kernel::{LONGEST_NAME, Station, TURN};
+use adjust_kernel::{HALF_UNIT, LONGEST_NAME, Station, TURN};
 use angle_texts::{push_gon, push_short_gon, push_short_mgon};
-use directions_apart::HALF_UNIT;
 use station_book::{CIRCLE, HALF_CIRCLE, Surveyed};
 use std::alloc::{AllocError, Global};
 

@@ -1,7 +1,7 @@
 //! The report of a station of a field file.
 ghost use Rattle.std.specs.Prelude.{[], IfOk, MatchResult};
 ghost use Rattle.adjust_kernel.specs.declared.bounds.TheConstants.{LARGEST_RESIDUAL_LIMIT};
-ghost use Rattle.byte_ends.specs.Sink.{writer_change};
+ghost use Rattle.byte_ends.specs.Writers.{writer_change};
 ghost use Rattle.byte_ends.specs.Source.{reader_change, UntilDropped};
 ghost use Rattle.exact_adjustment.specs.Exact.{IsExact, KeepsLimit};
 ghost use Rattle.exact_adjustment.specs.LeastOf.{AreTied};
@@ -89,7 +89,7 @@ pub fn write_report<R: Source, W: Sink>(
 ) -> Result<(), CompareFault>
     ensures { UntilDropped R.told R.failed R.gave gsi (λ gsi. IsReportRun path.now limits gsi
         name.now result
-        (writer_change W.failed W.holds W.handed_on writer.old writer.new)) }
+        (writer_change W.Sink writer.old writer.new)) }
 {
     let text = report_text(alloc, gsi, path, name, limits)?;
     write_whole(writer, &text)?;

@@ -51,7 +51,7 @@ pub(crate) fn squares_of(
 /// The whole half units of each of these angles.
 fn wholes_of(alloc: Global, angles: &[Wide], denominator: &Wide) -> Result<Vec<u64>, AllocError>
     requires on_circle { AreOnCircle denominator.now angles.now }
-    requires short { denominator.now * LARGEST_FACTOR < WIDE_LIMIT }
+    requires fits { denominator.now * LARGEST_FACTOR < WIDE_LIMIT }
     ensures { IfOk result (λ wholes. AreWhole denominator.now angles.now wholes.items) }
 {
     let mut wholes = Vec::with_capacity(alloc, angles.len())?;

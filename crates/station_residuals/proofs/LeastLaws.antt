@@ -13,7 +13,7 @@ use Rattle.adjust_kernel.specs.declared.bounds.TheConstants.{LARGEST_RESIDUAL_LI
 use Rattle.adjust_kernel.proofs.ObservationLaws.{IsPlaced}
 use Rattle.directions_apart.proofs.RoundingLaws.{one_rounded}
 use Rattle.directions_apart.specs.Arcs.{IsWayRound}
-use Rattle.directions_apart.specs.declared.units.TheConstants.{CIRCLE}
+use Rattle.adjust_kernel.specs.declared.units.TheConstants.{CIRCLE}
 use Rattle.exact_adjustment.proofs.ExactLaws.{long, placed, same_but_turned, turns_again}
 use Rattle.exact_adjustment.specs.Adjustments.{AdjustmentValue, choice_by}
 use Rattle.exact_adjustment.specs.Exact.{IsExact, IsSameButTurned, KeepsLimit, observed_by}

@@ -9,7 +9,7 @@ use Rattle.adjust_kernel.specs.TurnedObservations.{TurnedObservation}
 use Rattle.directions_apart.specs.Arcs.{IsWayRound}
 use Rattle.directions_apart.specs.Rounding.{IsRounded}
 use Rattle.directions_apart.specs.Rounding as rounding
-use Rattle.directions_apart.specs.declared.units.TheConstants.{CIRCLE, UNIT}
+use Rattle.adjust_kernel.specs.declared.units.TheConstants.{CIRCLE, UNIT}
 use Rattle.station_residuals.specs.Residuals.{IsRoundedResidual, seen_in, twice_more}
 use Rattle.station_residuals.proofs.Fractions.{high, low, none_of}
 

@@ -2,7 +2,7 @@
 use Rattle.std.specs.Prelude.{ℕ, ◌*◌, List, [], ◌∷◌, map, codes, decimal}
 use Rattle.angle_texts.specs.MgonTexts.{mgon_text}
 use Rattle.direction_table.specs.Texts.{direction_text}
-use Rattle.directions_apart.specs.declared.units.TheConstants.{HALF_UNIT}
+use Rattle.adjust_kernel.specs.declared.units.TheConstants.{HALF_UNIT}
 use Rattle.sheet_format.specs.Texts.{rows_text}
 use Rattle.station_residuals.specs.declared.adjusted.AdjustedObs.{AdjustedObs}
 

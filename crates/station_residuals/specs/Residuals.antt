@@ -9,7 +9,7 @@ use Rattle.adjust_kernel.specs.Stations.{StationValue}
 use Rattle.adjust_kernel.specs.TurnedObservations.{TurnedObservation}
 use Rattle.directions_apart.specs.Arcs.{IsWayRound}
 use Rattle.directions_apart.specs.Rounding.{IsRounded}
-use Rattle.directions_apart.specs.declared.units.TheConstants.{CIRCLE, HALF_UNIT, UNIT}
+use Rattle.adjust_kernel.specs.declared.units.TheConstants.{CIRCLE, HALF_UNIT, UNIT}
 use Rattle.exact_adjustment.specs.LeastOf.{IsLeastOf, observed_with}
 use Rattle.least_directions.specs.LeastDirections.{IsAdjustable}
 use Rattle.station_residuals.specs.declared.adjusted.AdjustedObs.{AdjustedObs}

@@ -9,16 +9,15 @@ ghost use Rattle.directions_apart.specs.Arcs.{IsWayRound};
 ghost use Rattle.exact_adjustment.specs.Adjustments.{choice_by};
 ghost use Rattle.station_residuals.specs.Residuals.{IsRoundedResidual};
 
-use adjust_kernel::{LARGEST_RESIDUAL_LIMIT, LARGEST_TURN, Obs, TURN};
-use directions_apart::{CIRCLE, HALF_UNIT, UNIT};
+use adjust_kernel::{CIRCLE, HALF_UNIT, LARGEST_RESIDUAL_LIMIT, LARGEST_TURN, Obs, TURN, UNIT};
 use exact_adjustment::Adjustment;
 use wide_number::{Wide, quotient};
 
 /// Units of 0.001 mgon in a half unit (0.005 mgon).
-const PARTS: u64 = HALF_UNIT / UNIT;
+const UNITS: u64 = HALF_UNIT / UNIT;
 
 /// No residual is larger than this, in units of 0.001 mgon.
-pub(crate) const LARGEST_RESIDUAL: u64 = LARGEST_RESIDUAL_LIMIT as u64 * PARTS;
+pub(crate) const LARGEST_RESIDUAL: u64 = LARGEST_RESIDUAL_LIMIT as u64 * UNITS;
 
 /// As many turns are added to each observation, so that none is negative.
 pub const LIFT: u64 = LARGEST_TURN as u64 * TURN as u64;
@@ -68,9 +67,9 @@ pub(crate) fn lifted_residual(adjustment: &Adjustment, obs: &Obs, turn: i8) -> u
     let denominator = adjustment.denominator();
     let (first, second) = sides(adjustment, obs, turn);
     // Halves of units: half a unit more, and the quotient is the nearest whole number of units.
-    let mut halves = first.times(2 * PARTS);
+    let mut halves = first.times(2 * UNITS);
     halves.add_product(denominator, 2 * LARGEST_RESIDUAL + 1);
-    halves.subtract(&second.times(2 * PARTS));
+    halves.subtract(&second.times(2 * UNITS));
     quotient(&halves, &denominator.times(2), 2 * LARGEST_RESIDUAL + 1)
 }
 

@@ -1,6 +1,6 @@
 //! The residuals of a station of a field file.
 ghost use Rattle.std.specs.Prelude.{MatchResult};
-ghost use Rattle.byte_ends.specs.Sink.{writer_change};
+ghost use Rattle.byte_ends.specs.Writers.{writer_change};
 ghost use Rattle.byte_ends.specs.Source.{UntilDropped};
 ghost use Rattle.station_compare.specs.Directions.{HasNoDirections, HasNoTable};
 ghost use Rattle.station_compare.specs.Runs.{ReadsFieldFile};
@@ -62,7 +62,7 @@ pub fn write_residuals<R: Source, W: Sink>(
     writer: &mut W,
 ) -> Result<(), CompareFault>
     ensures { UntilDropped R.told R.failed R.gave gsi (λ gsi. IsResidualsRun limits gsi name.now
-        result (writer_change W.failed W.holds W.handed_on writer.old writer.new)) }
+        result (writer_change W.Sink writer.old writer.new)) }
 {
     let text = residuals_text(alloc, gsi, name, limits)?;
     write_whole(writer, &text)?;

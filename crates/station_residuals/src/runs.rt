@@ -1,7 +1,7 @@
 //! The command `residuals`, over a source of bytes and sinks: it makes its call, and answers the
 //! exit status.
 ghost use Rattle.std.specs.Prelude.{⊤};
-ghost use Rattle.byte_ends.specs.Sink.{writer_change};
+ghost use Rattle.byte_ends.specs.Writers.{writer_change};
 ghost use Rattle.byte_ends.specs.Source.{UntilDropped};
 ghost use Rattle.station_check.specs.RunEndings.{Run};
 ghost use Rattle.station_compare.specs.FaultTexts.{refusal_line};
@@ -10,7 +10,7 @@ ghost use Rattle.station_residuals.specs.Runs.{IsResidualsRun};
 use crate::residuals::write_residuals;
 use byte_ends::{Sink, Source};
 use station_book::Limits;
-use station_check::DONE;
+use station_check::ACCEPTED;
 use station_compare::refuse;
 use std::alloc::Global;
 
@@ -27,11 +27,11 @@ pub fn run_residuals<R: Source, W: Sink, E: Sink>(
 ) -> u8
     ensures { UntilDropped R.told R.failed R.gave gsi (λ gsi. Run {A = ⊤} refusal_line
         (IsResidualsRun limits gsi name.now)
-        result (writer_change W.failed W.holds W.handed_on out.old out.new)
-        (writer_change E.failed E.holds E.handed_on err.old err.new)) }
+        result (writer_change W.Sink out.old out.new)
+        (writer_change E.Sink err.old err.new)) }
 {
     match write_residuals(alloc, gsi, name, limits, out) {
-        Ok(()) => DONE,
+        Ok(()) => ACCEPTED,
         Err(fault) => refuse(fault, err),
     }
 }

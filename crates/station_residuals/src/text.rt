@@ -7,9 +7,9 @@ ghost use Rattle.sheet_format.specs.Texts.{Writes, rows_text};
 ghost use Rattle.station_residuals.specs.ResidualTexts as spec;
 
 use crate::adjusted::AdjustedObs;
+use adjust_kernel::HALF_UNIT;
 use angle_texts::{push_gon, push_mgon};
 use csv::{Writer, WriterBuilder};
-use directions_apart::HALF_UNIT;
 use itoa::Buffer;
 use std::alloc::{AllocError, Global};
 use std::io::Write;

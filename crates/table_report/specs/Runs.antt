@@ -16,13 +16,13 @@ IsVerdict None r = IsOk r
 IsVerdict (Some apart) r = r ≡ Err (Apart apart)
 
 -- What a report makes of `out`, and what the run then answers: where its text was written whole and
--- handed on, its verdict, by how far its directions are apart beyond the limit; where a call of
+-- flushed, its verdict, by how far its directions are apart beyond the limit; where a call of
 -- `out` failed, that, and some of the first bytes were written; at a refusal nothing is asked of
 -- `out`, and the refusal is answered.
 abbrev pub PrintsReport : {T A : Type 0} → (T → List ℕ) → (T → Option ℕ) → Result T CompareFault
     → Result A CompareFault → WriterChange → Type 0
 PrintsReport text beyond (Ok report) r out =
-    (IsVerdict (beyond report) r × IsWritten (text report) out × (out.is_handed_on ≡ true))
+    (IsVerdict (beyond report) r × IsWritten (text report) out × (out.is_flushed ≡ true))
     ⊎ ((r ≡ Err Write) × IsCutShort (text report) out)
 PrintsReport text beyond (Err fault) r out = (r ≡ Err fault) × out.is_unasked
 

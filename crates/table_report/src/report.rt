@@ -2,7 +2,7 @@
 ghost use Rattle.std.specs.Prelude.{MatchResult};
 ghost use Rattle.byte_ends.specs.Came.{BytesCame, Leaves};
 ghost use Rattle.byte_ends.specs.Input.{input_within};
-ghost use Rattle.byte_ends.specs.Sink.{writer_change};
+ghost use Rattle.byte_ends.specs.Writers.{writer_change};
 ghost use Rattle.byte_ends.specs.Source.{reader_change, UntilDropped};
 ghost use Rattle.direction_table.specs.declared.reading.TheConstants.{LONGEST_TABLE};
 ghost use Rattle.station_compare.specs.Answers.{table_left};
@@ -80,7 +80,7 @@ pub fn write_table_report<R: Source, Q: Source, W: Sink>(
 ) -> Result<(), CompareFault>
     ensures { UntilDropped R.told R.failed R.gave gsi (λ gsi. IsTableReportRun
         (asked_of asked.now) gsi (reader_change Q.told Q.failed Q.gave table.old table.new) result
-        (writer_change W.failed W.holds W.handed_on writer.old writer.new)) }
+        (writer_change W.Sink writer.old writer.new)) }
 {
     let (report, _gsi) = table_report_of_sources(alloc, gsi, table, asked);
     let report = report?;

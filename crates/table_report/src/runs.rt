@@ -1,7 +1,7 @@
 //! The command `report` with a table, over sources of bytes and sinks: it makes its call, and
 //! answers the exit status.
 ghost use Rattle.std.specs.Prelude.{⊤};
-ghost use Rattle.byte_ends.specs.Sink.{writer_change};
+ghost use Rattle.byte_ends.specs.Writers.{writer_change};
 ghost use Rattle.byte_ends.specs.Source.{reader_change, UntilDropped};
 ghost use Rattle.station_check.specs.RunEndings.{Run};
 ghost use Rattle.station_compare.specs.FaultTexts.{refusal_line};
@@ -11,7 +11,7 @@ ghost use Rattle.table_report.specs.Values.{asked_of};
 use crate::asked::Asked;
 use crate::report::write_table_report;
 use byte_ends::{Sink, Source};
-use station_check::DONE;
+use station_check::ACCEPTED;
 use station_compare::refuse;
 use std::alloc::Global;
 
@@ -30,11 +30,11 @@ pub fn run_table_report<R: Source, Q: Source, W: Sink, E: Sink>(
     ensures { UntilDropped R.told R.failed R.gave gsi (λ gsi. Run {A = ⊤} refusal_line
         (IsTableReportRun (asked_of asked.now) gsi
         (reader_change Q.told Q.failed Q.gave table.old table.new))
-        result (writer_change W.failed W.holds W.handed_on out.old out.new)
-        (writer_change E.failed E.holds E.handed_on err.old err.new)) }
+        result (writer_change W.Sink out.old out.new)
+        (writer_change E.Sink err.old err.new)) }
 {
     match write_table_report(alloc, gsi, table, asked, out) {
-        Ok(()) => DONE,
+        Ok(()) => ACCEPTED,
         Err(fault) => refuse(fault, err),
     }
 }

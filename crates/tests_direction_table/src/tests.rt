@@ -4,10 +4,10 @@
 mod memory;
 mod printed;
 
-use adjust_kernel::{Name, Obs, Station};
+use adjust_kernel::{Name, Obs, PARTS, Station};
 use direction_table::{
-    AngleUnit, Decimals, GON_PARTS, LONGEST_TABLE, RowKind, TableFault, TargetDirection,
-    push_direction, read_stated_table, read_table, table_text,
+    AngleUnit, Decimals, LONGEST_TABLE, RowKind, TableFault, TargetDirection, push_direction,
+    read_stated_table, read_table, table_text,
 };
 use std::alloc::Global;
 use std::process::Abort;
@@ -50,8 +50,8 @@ fn gon_answer(
         Ok(directions) => {
             let mut units = Vec::new(alloc);
             for parts in directions.iter() {
-                assert_eq!(rt; parts % GON_PARTS as i64, 0);
-                units.push(parts / GON_PARTS as i64)?;
+                assert_eq!(rt; parts % PARTS as i64, 0);
+                units.push(parts / PARTS as i64)?;
             }
             Ok(format!(in alloc; "{units:?}")?)
         }
@@ -462,7 +462,7 @@ fn stated_of(
 fn are_read(read: &[i64], stated: &[TargetDirection]) -> bool {
     read.len() == stated.len()
         && read.iter().zip(stated).all(|(read, row)| u64::try_from(*read)
-            == Ok(row.direction.saturating_mul(GON_PARTS)))
+            == Ok(row.direction.saturating_mul(PARTS)))
 }
 
 /// The largest direction of each number of decimals.

@@ -1,6 +1,7 @@
 //! Directions worked by hand and in exact fractions.
 
-use directions_apart::{CIRCLE, PARTS, apart_of, rounded};
+use adjust_kernel::{CIRCLE, PARTS};
+use directions_apart::{apart_of, rounded};
 use exact_adjustment::Adjustment;
 use std::alloc::Global;
 use std::process::Abort;

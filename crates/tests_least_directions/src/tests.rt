@@ -1,7 +1,6 @@
 //! Stated directions of stations worked by hand.
 
-use adjust_kernel::{MOST_TARGETS, Name, Obs, Station};
-use directions_apart::{CIRCLE, PARTS};
+use adjust_kernel::{CIRCLE, MOST_TARGETS, Name, Obs, PARTS, Station};
 use exact_adjustment::{AdjustError, AdjustFault};
 use least_directions::{apart_from_least, rounded_directions};
 use std::alloc::Global;

@@ -102,7 +102,7 @@ fn a_failing_flush_is_a_failed_write(rt: HostRuntime) -> Result<(), Fail> {
 #[derive(Drop)]
 struct FlushCount {
     flushes: u32,
-    is_handed_on: bool,
+    is_flushed: bool,
 }
 
 impl Sink for FlushCount {
@@ -112,18 +112,18 @@ impl Sink for FlushCount {
 
     ghost holds = { λ _. None };
 
-    ghost handed_on = { λ s. s.is_handed_on };
+    ghost flushed = { λ s. s.is_flushed };
 
     fn write(&mut self, bytes: &[u8]) -> Result<usize, Failed> {
         if !bytes.is_empty() {
-            self.is_handed_on = false;
+            self.is_flushed = false;
         }
         Ok(bytes.len())
     }
 
     fn flush(&mut self) -> Result<(), Failed> {
         self.flushes = self.flushes.saturating_add(1);
-        self.is_handed_on = true;
+        self.is_flushed = true;
         Ok(())
     }
 }
@@ -133,7 +133,7 @@ fn a_writer_is_flushed_once(rt: HostRuntime) -> Result<(), Fail> {
     let sheet = read_sheet(rt.alloc(), SHEET.as_bytes())?;
     let mut writer = FlushCount {
         flushes: 0,
-        is_handed_on: true,
+        is_flushed: true,
     };
     write_sheet(rt.alloc(), &sheet, &mut writer)?;
     assert!(rt; writer.flushes == 1);

@@ -1,9 +1,9 @@
 //! Stations worked in exact fractions, beside what is stated of their targets; and tables beside
 //! the worked station S1, through the whole.
 
-use adjust_kernel::{Name, Obs, Station};
+use adjust_kernel::{Name, Obs, PARTS, Station};
 use byte_ends::{Held, Script};
-use direction_table::{AngleUnit, GON_PARTS, RowKind, TableFault};
+use direction_table::{AngleUnit, RowKind, TableFault};
 use exact_adjustment::{AdjustError, AdjustFault};
 use station_book::Limits;
 use station_check::Fault;
@@ -106,7 +106,7 @@ fn text(
 ) -> Result<Vec<u8>, Fail> {
     let mut parts = Vec::new(alloc);
     for direction in stated {
-        parts.push(direction.saturating_mul(GON_PARTS as i64))?;
+        parts.push(direction.saturating_mul(PARTS as i64))?;
     }
     assert_eq!(rt; parts.len(), station.targets().len());
     let rows = target_differences(alloc, station, &parts).map_err(|_| "no adjustment")?;

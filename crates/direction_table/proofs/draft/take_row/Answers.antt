@@ -30,8 +30,8 @@ returns-clause-faultless c before same = fault-taken (record {
 
 pub returns-clause-taken : goal.returns-clause-taken
 returns-clause-taken c before same =
-    let low = c.in_ok-entry.ensures.small.low in
-    let high = c.in_ok-entry.ensures.small.high in
+    let low = c.in_ok-entry.ensures.bound.low in
+    let high = c.in_ok-entry.ensures.bound.high in
     let fits : FitsSigned w64 c.in_ok-entry.entry.stated.direction =
     omega (arith, ints, low, high) in
     ap (λ z. slice_set c.args.directions.now c.in_ok-entry.entry.place (Some z))

@@ -19,7 +19,7 @@ quotient-requires-clause-fits c =
     let step_fits : step < 4_294_967_296 = c.ranges.step.fits in
     let most : 2 * step * (400_000_000_000 / step + 2) ≤ 65_000_000_000_000 = omega arith in
     rw (c.times.ensures, c.from-step.ensures)
-    (omega (arith, mul-le-mul_left d most, c.requires.size))
+    (omega (arith, mul-le-mul_left d most, c.requires.fits))
 
 pub returns-clause-low : goal.returns-clause-low
 returns-clause-low c =

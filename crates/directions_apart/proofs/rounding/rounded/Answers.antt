@@ -13,4 +13,4 @@ returns c =
     let steps = rw c.denominator.ensures.value at c.nearest_steps-steps.ensures in
     rw c.from.ensures (rounded_is a t c.args.step c.nearest_steps-steps.result x c.requires.some
     c.requires.circle (on_circle_is (a.denominator * 400_000_000_000) (pos 5_000 *ℤ a.direction t)
-    x c.direction.ensures.below c.direction.ensures.value) steps.low steps.high)
+    x c.direction.ensures.bound c.direction.ensures.value) steps.low steps.high)

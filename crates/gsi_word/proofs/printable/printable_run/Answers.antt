@@ -14,7 +14,7 @@ returns c =
     let lanes = zip2_of_maps _ _ _ load (zip2_splat {Y = ℕ} _ load 16 _ long)
     (zip2_splat_left (λ (a b : ℕ). cond (nat_lt a b) 255 0) _ 16 load long) in
     record {
-      within = run_is_short bytes c.args.at c.requires c.lowest_lane.result _ _
+      bound = run_is_short bytes c.args.at c.requires c.lowest_lane.result _ _
           c.lowest_lane.ensures lanes;
       printable = run_is_printable bytes c.args.at c.requires c.lowest_lane.result _ _
           c.lowest_lane.ensures lanes printable_where_unset;

@@ -1,5 +1,5 @@
 use Rattle.std.proofs.Common.{◌≡◌, ◌∷◌, ◌<◌, ◌∙◌, List, ℕ, None, rules, sym, ap, arith}
-use Rattle.set_marks.specs.declared.bounds.TheConstants.{MOST_SETS}
+use Rattle.adjust_kernel.specs.declared.bounds.TheConstants.{MOST_SETS}
 use Rattle.std.specs.Prelude.{slice_get}
 use Rattle.set_marks.specs.declared.fault.MarkKind.TheVariants as kinds
 use Rattle.set_marks.specs.Divisions.{sets_flaw, set_flaw, end_by, part, next_of, flaw_at}

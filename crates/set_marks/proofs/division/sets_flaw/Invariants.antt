@@ -1,5 +1,5 @@
 use Rattle.std.proofs.Common.{◌≡◌, ◌≤◌, length}
-use Rattle.set_marks.specs.declared.bounds.TheConstants.{MOST_SETS}
+use Rattle.adjust_kernel.specs.declared.bounds.TheConstants.{MOST_SETS}
 use Rattle.set_marks.specs.Divisions.{sets_flaw, end_by}
 use Rattle.set_marks.proofs.division.sets_flaw.Given as goal
 

@@ -86,7 +86,7 @@ take_unless-requires g c =
     let given = rw (c.in_ok-line.was, c.in-Some.is) at c.next.follows.holds-at-none in
     let now = at_last _ _ given.answers in
     let limited : c.in-Some.line.number ≤ LONGEST_FILE = now.1.2.limited in
-    record { few = limited; room = c.lines.invariant.room }
+    record { bound = limited; room = c.lines.invariant.room }
 
 pub returns-in_err-take_unless : goal.returns-in_err-take_unless
 returns-in_err-take_unless g c =

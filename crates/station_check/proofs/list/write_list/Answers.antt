@@ -1,5 +1,5 @@
 use Rattle.std.proofs.Common.{◌≡◌, Err, rules}
-use Rattle.byte_ends.specs.Sink.{writer_change}
+use Rattle.byte_ends.specs.Writers.{writer_change}
 use Rattle.byte_ends.specs.Source.{reader_change}
 use Rattle.station_check.proofs.Counted.{list_alone, refusal_alone}
 use Rattle.station_check.proofs.list.write_list.Goals as goal

@@ -23,7 +23,7 @@ returns-in_err-survey g c =
         };
         of_list = of_list fault of_file;
         fails = none_written (Unit {0}) fault _ of_file refl;
-        handed = tt;
+        flushed = tt;
         unwritten = none_unasked (Unit {0}) fault _ refl;
       },
     )
@@ -52,7 +52,7 @@ returns g c =
         };
         of_list = tt;
         fails = c.in_ok-write_stations.ensures.failed;
-        handed = c.in_ok-write_stations.ensures.handed_on;
+        flushed = c.in_ok-write_stations.ensures.flushed;
         unwritten = tt;
       },
     )
@@ -83,7 +83,7 @@ returns-in_err-write_stations g c =
         };
         of_list = tt;
         fails = c.in_err-write_stations.ensures.failed;
-        handed = tt;
+        flushed = tt;
         unwritten = tt;
       },
     )

@@ -26,7 +26,7 @@ returns-in_err-lines g c =
         gsi_reader = refl;
         of_words = tt;
         fails = refl;
-        handed = tt;
+        flushed = tt;
         memory = refl;
       },
     )
@@ -57,7 +57,7 @@ returns g c =
             (left_as _ _ _ c.end_text.ensures.same c.print_blocks-answer.ensures.left);
         of_words = c.end_text.ensures.of_words c.print_blocks-answer.ensures.of_words;
         fails = c.end_text.ensures.failed c.args.writer.now c.print_blocks-answer.ensures.failed;
-        handed = c.end_text.ensures.handed_on;
+        flushed = c.end_text.ensures.flushed;
         memory = not_memory _ _ c.end_text.ensures.not_memory;
       },
     )

@@ -1,9 +1,6 @@
 use Rattle.std.proofs.Common.{◌≡◌, ℕ, ◌+◌, ◌<◌, ◌∙◌, List, length, get_or, pos, arith, ap}
-use Rattle.std.proofs.Common.{FitsSigned, rules, sym, subst}
-use Rattle.std.proofs.Math.IntN.{◌*ℤ◌, ◌-ℤ◌}
-use Rattle.std.proofs.lemmas.Int.{to_z-of_z}
+use Rattle.std.proofs.Common.{sym, subst}
 use Rattle.std.proofs.lemmas.List.{length_push}
-use mir.Syntax.{w64}
 use Rattle.directions_apart.specs.Apart.{circle_of, difference, stated_by}
 use Rattle.directions_apart.specs.Arcs.{IsWayRound}
 use Rattle.exact_adjustment.specs.Adjustments.{choice_by}
@@ -16,24 +13,17 @@ loop-target-preserved c =
     let l = c.loop-target in
     let made = l.angles.items in
     let items = c.in_ok-push.ensures.items in
-    let stated = get_or c.args.stated.now l.target (pos 0) in
-    let fits : FitsSigned w64 stated = search rules in
-    let here : IsWayRound (circle_of choice) (pos 0)
-    (difference choice (stated_by c.args.stated.now) l.target) c.angle.result =
-    subst (λ z. IsWayRound (circle_of choice) (pos 0)
-    (pos choice.denominator *ℤ z -ℤ pos 405_000 *ℤ choice.direction l.target) c.angle.result)
-    (to_z-of_z w64 stated fits) c.angle.ensures in
     let last = subst (λ (n : ℕ). IsWayRound (circle_of choice) (pos 0)
-    (difference choice (stated_by c.args.stated.now) n) c.angle.result) (sym l.invariant.count)
-    here in
+    (difference choice (stated_by c.args.stated.now) n) c.difference.result)
+    (sym l.invariant.count) c.difference.ensures in
     record {
-      count = ap length items ∙ length_push made c.angle.result
+      count = ap length items ∙ length_push made c.difference.result
           ∙ ap (λ (n : ℕ). n + 1) l.invariant.count;
       each = subst (λ (ds : List ℕ). (t : ℕ) → t < length ds
           → IsWayRound (circle_of choice) (pos 0)
           (difference choice (stated_by c.args.stated.now) t) (get_or ds t 0)) (sym items)
           (one_more (λ (t d : ℕ). IsWayRound (circle_of choice) (pos 0)
-          (difference choice (stated_by c.args.stated.now) t) d) made c.angle.result 0
+          (difference choice (stated_by c.args.stated.now) t) d) made c.difference.result 0
           l.invariant.each last);
     }
 

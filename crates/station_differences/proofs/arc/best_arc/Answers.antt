@@ -53,7 +53,7 @@ returns-clause-best c =
     (subst (λ (n : ℕ). IsFirstSoFar circle (angle_of angles) (length angles) n l.start l.spread)
     all l.invariant)
 
-pub returns-clause-below : goal.returns-clause-below
-returns-clause-below c =
+pub returns-clause-bound : goal.returns-clause-bound
+returns-clause-bound c =
     let some = c.requires.some in
     c.loop-place.invariant.narrowest.below (omega (arith, some, c.loop-place-test.false))

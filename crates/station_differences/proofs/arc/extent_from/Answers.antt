@@ -1,6 +1,6 @@
-use Rattle.std.proofs.Common.{◌≡◌, ℕ, ◌+◌, ◌<◌, length, arith, sym, subst}
+use Rattle.std.proofs.Common.{◌≡◌, ℕ, ◌+◌, ◌<◌, length, pos, arith, sym, subst}
 use Rattle.std.specs.Prelude.{max}
-use Rattle.directions_apart.specs.Arcs.{IsExtent}
+use Rattle.directions_apart.specs.Arcs.{IsExtent, IsWayRound}
 use Rattle.directions_apart.proofs.ArcLaws.{next_extent}
 use Rattle.station_differences.specs.Angles.{angle_of}
 use Rattle.station_differences.proofs.DifferenceLaws.{between_places}
@@ -13,21 +13,24 @@ loop-place-preserved c =
     let angles = c.args.angles.now in
     let place = c.loop-place.place in
     let widest = c.loop-place.widest in
+    let copy : c.times.result ≡ c.index-angles-place.result = omega (arith, c.times.ensures) in
     let way = between_places circle angles c.args.start place c.index-angles-start.result
-    c.index-angles-place.result c.onward-way.result c.requires.start c.loop-place-test.true
-    c.index-angles-start.is c.index-angles-place.is c.onward-way.ensures in
-    let larger : c.if-is_below.widest ≡ max widest c.onward-way.result =
+    c.index-angles-place.result c.way_round-way.result c.requires.start c.loop-place-test.true
+    c.index-angles-start.is c.index-angles-place.is
+    (subst (λ (n : ℕ). IsWayRound circle (pos c.index-angles-start.result) (pos n)
+    c.way_round-way.result) copy c.way_round-way.ensures) in
+    let larger : c.if-is_below.widest ≡ max widest c.way_round-way.result =
     elim c.if-is_below.branch [
       | then-is_below w ↦
-          let below : widest < c.onward-way.result = c.is_below.ensures.0 w.if-is_below.true in
+          let below : widest < c.way_round-way.result = c.is_below.ensures.0 w.if-is_below.true in
           omega (arith, w.widest-is, below)
       | else-is_below w ↦
-          let other : ¬ (widest < c.onward-way.result) =
+          let other : ¬ (widest < c.way_round-way.result) =
           λ l. (let e = c.is_below.ensures.1 l in let f = w.if-is_below.false in cc) in
           omega (arith, w.widest-is, other)
     ] in
     subst (IsExtent circle (angle_of angles) (place + 1) c.args.start) (sym larger)
-    (next_extent circle (angle_of angles) place c.args.start widest c.onward-way.result
+    (next_extent circle (angle_of angles) place c.args.start widest c.way_round-way.result
     c.loop-place.invariant way)
 
 pub returns : goal.returns

@@ -2,7 +2,7 @@ use Rattle.std.proofs.Common.{◌*◌, ◌≡◌, ℕ, ◌<◌, length, get_or, 
 use Rattle.std.specs.List.{AllZip}
 use Rattle.directions_apart.specs.Arcs.{IsWayRound}
 use Rattle.directions_apart.specs.Rounding.{IsRounded}
-use Rattle.directions_apart.specs.declared.units.TheConstants.{CIRCLE, PARTS, UNIT}
+use Rattle.adjust_kernel.specs.declared.units.TheConstants.{CIRCLE, PARTS, UNIT}
 use Rattle.exact_adjustment.specs.Adjustments.{choice_by}
 use Rattle.station_differences.specs.Angles.{angle_of}
 use Rattle.station_differences.specs.Differences.{IsFromMiddle, differences_of, least_of}

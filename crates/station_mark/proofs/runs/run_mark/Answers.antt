@@ -1,7 +1,7 @@
 use Rattle.std.proofs.Common.{◌≡◌, ℕ, List, Ok, Err, refl, subst, ◌∙◌, ap}
 use Rattle.std.specs.Prelude.{codes}
 use Rattle.std.specs.List.{flat_map}
-use Rattle.byte_ends.specs.Sink.{writer_change}
+use Rattle.byte_ends.specs.Writers.{writer_change}
 use Rattle.set_marks.specs.declared.fault.MarkFault.TheVariants.{Memory}
 use Rattle.set_marks.specs.declared.recognized.Recognized.{Recognized}
 use Rattle.station_check.specs.RunEndings.{WritesOrFails}
@@ -45,7 +45,7 @@ returns-in_default g c = (
 pub returns-in-Ok-write_copy : goal.returns-in-Ok-write_copy
 returns-in-Ok-write_copy g c =
     let file = c.in-Ok.file in
-    let err = writer_change g.E.Sink.failed g.E.Sink.holds g.E.Sink.handed_on c.args.err.now
+    let err = writer_change g.E.Sink c.args.err.now
     c.tell.new.err in
     let notes : c.deref-in-Ok-write_copy.result.now ≡ notes_in file =
     c.deref-in-Ok-write_copy.ensures.value
@@ -65,7 +65,7 @@ returns-in-Ok-write_copy g c =
                   c.in-Ok-write_copy.ensures.ok;
               unfailed = c.in-Ok-write_copy.ensures.failed;
             },
-            c.in-Ok-write_copy.ensures.handed_on,
+            c.in-Ok-write_copy.ensures.flushed,
           );
         };
         exits = c.tell.ensures.status;

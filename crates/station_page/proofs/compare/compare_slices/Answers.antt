@@ -6,4 +6,4 @@ use Rattle.station_page.proofs.compare.compare_slices.Goals as goal
 pub returns : goal.returns
 returns c =
     comparison_as_told Gon c.args.limits c.args.within _ _ c.args.name.now c.compare_bytes.result
-    c.compare_bytes.ensures.1 _ _ (ap Some c.handed_in.ensures) (ap Some c.handed_in-2.ensures)
+    c.compare_bytes.ensures.1 _ _ (ap Some c.source_of.ensures) (ap Some c.source_of-2.ensures)

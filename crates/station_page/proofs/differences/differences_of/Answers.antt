@@ -22,4 +22,4 @@ both_as_told gsi table r So a file stated e f =
 pub returns : goal.returns
 returns c =
     both_as_told _ _ c.differences_text.result _ c.differences_text.ensures.1 _ _
-    (ap Some c.handed_in.ensures) (ap Some c.handed_in-2.ensures)
+    (ap Some c.source_of.ensures) (ap Some c.source_of-2.ensures)

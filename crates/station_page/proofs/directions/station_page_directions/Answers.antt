@@ -1,6 +1,6 @@
 use Rattle.std.proofs.Common.{ℕ, Ok, Err, rules, subst}
 use Rattle.gsi_file.specs.FileAnswers.{file_answers}
-use Rattle.station_check.specs.Came.{handed_in}
+use Rattle.station_check.specs.Came.{source_of}
 use Rattle.station_compare.specs.Directions.{StatesDirections}
 use Rattle.station_page.proofs.directions.station_page_directions.Goals as goal
 
@@ -12,7 +12,7 @@ returns-in-Ok-clause-directions c face decimals = record {
   tells = subst
       (λ (count : ℕ).
       StatesDirections c.in-Some.limits
-      (file_answers (handed_in c.args.gsi.now)) c.args.name.now count c.in-Ok.table.items)
+      (file_answers (source_of c.args.gsi.now)) c.args.name.now count c.in-Ok.table.items)
       c.in-Some-new.ensures.some c.in-Ok.ensures;
   hands_out = search rules;
 }

@@ -3,7 +3,7 @@ use Rattle.gsi_file.specs.FileAnswers.{file_answers}
 use Rattle.set_marks.specs.Markings.{AnswersMark}
 use Rattle.set_marks.specs.declared.fault.MarkFault.{MarkFault}
 use Rattle.set_marks.specs.declared.marked.Marked.{Marked}
-use Rattle.station_check.specs.Came.{handed_in}
+use Rattle.station_check.specs.Came.{source_of}
 use Rattle.station_check.specs.RunEndings.{status_of}
 use Rattle.station_mark.specs.FaultTexts.{refusal_line}
 use Rattle.station_mark.specs.declared.fault.PrintFault.TheVariants.{Mark}
@@ -17,7 +17,7 @@ use Rattle.station_page.proofs.mark.station_page_mark.Goals as goal
 -- An answer, handed out.
 of_answer : (gsi name : List ℕ) (room notes_room status answered : ℕ) (shown notes : List ℕ)
     (r : Result Noted MarkFault) (marking : Result Marked MarkFault)
-    → AnswersMark (stated_name name) gsi (file_answers (handed_in gsi)) marking
+    → AnswersMark (stated_name name) gsi (file_answers (source_of gsi)) marking
     → Notes gsi marking r → HandsOut (status_of r) (copy_in r) room status shown
     → HandsOut status (notes_in r) notes_room answered notes
     → IsMarkOf gsi name room notes_room answered shown notes

@@ -1,5 +1,5 @@
 use Rattle.std.proofs.Common.{inr, subst}
-use Rattle.byte_ends.specs.Sink.{writer_change}
+use Rattle.byte_ends.specs.Writers.{writer_change}
 use Rattle.station_program.specs.Answering.{NamesUnopened}
 use Rattle.station_program.proofs.run.status_of_words.Goals as goal
 
@@ -14,7 +14,7 @@ returns-in-Err-clause-status g c = record {
     fails = c.in-Err.ensures.fails;
     named = subst
         (λ e. NamesUnopened c.in-Err.unopened.path.now c.report_unopened.result
-        (writer_change g.E.Sink.failed g.E.Sink.holds g.E.Sink.handed_on e
+        (writer_change g.E.Sink e
         c.report_unopened.new.err))
         c.in-Err.ensures.unchanged.1 c.report_unopened.ensures.named;
     unwritten = c.in-Err.ensures.unchanged.0;

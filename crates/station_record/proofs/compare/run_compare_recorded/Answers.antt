@@ -1,7 +1,7 @@
 use Rattle.std.proofs.Common.{subst}
 use Rattle.byte_digests.proofs.Histories.{digested}
 use Rattle.byte_digests.specs.Digesting.{reader_of}
-use Rattle.byte_ends.specs.Sink.{writer_change}
+use Rattle.byte_ends.specs.Writers.{writer_change}
 use Rattle.byte_ends.specs.Source.{reader_change}
 use Rattle.station_record.specs.Recorded.{IsRecordedCompare}
 use Rattle.station_record.proofs.CompareUndigested.{comparison_of, recorded}
@@ -15,7 +15,7 @@ returns g c =
     let table' = c.compare_sources-verdict.new.table in
     let verdict = c.compare_sources-verdict.result.0 in
     let a = c.compare_sources-verdict.ensures in
-    let out = writer_change g.W.Sink.failed g.W.Sink.holds g.W.Sink.handed_on c.args.out.now
+    let out = writer_change g.W.Sink c.args.out.now
     c.print_verdict-printed.new.out in
     let printed = c.print_verdict-printed.result in
     let answers = comparison_of g.R.Source.told g.R.Source.failed g.R.Source.gave g.Q.Source.told

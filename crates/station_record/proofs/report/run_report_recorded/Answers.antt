@@ -1,7 +1,7 @@
 use Rattle.std.proofs.Common.{subst}
 use Rattle.byte_digests.proofs.Histories.{digested}
 use Rattle.byte_digests.specs.Digesting.{reader_of}
-use Rattle.byte_ends.specs.Sink.{writer_change}
+use Rattle.byte_ends.specs.Writers.{writer_change}
 use Rattle.byte_ends.specs.Source.{reader_change}
 use Rattle.station_record.specs.Recorded.{IsRecordedReport}
 use Rattle.station_record.proofs.ReportUndigested.{field_file_of, recorded_report}
@@ -13,7 +13,7 @@ returns g c =
     let gsi' = c.report_of_source-answer.result.1 in
     let answer = c.report_of_source-answer.result.0 in
     let a = c.report_of_source-answer.ensures in
-    let out = writer_change g.W.Sink.failed g.W.Sink.holds g.W.Sink.handed_on c.args.out.now
+    let out = writer_change g.W.Sink c.args.out.now
     c.print_report-printed.new.out in
     let printed = c.print_report-printed.result in
     let tells = field_file_of g.R.Source.told g.R.Source.failed g.R.Source.gave gsi gsi' answer _

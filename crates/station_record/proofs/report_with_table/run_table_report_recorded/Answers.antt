@@ -1,7 +1,7 @@
 use Rattle.std.proofs.Common.{subst}
 use Rattle.byte_digests.proofs.Histories.{digested}
 use Rattle.byte_digests.specs.Digesting.{reader_of}
-use Rattle.byte_ends.specs.Sink.{writer_change}
+use Rattle.byte_ends.specs.Writers.{writer_change}
 use Rattle.byte_ends.specs.Source.{reader_change}
 use Rattle.station_record.specs.Recorded.{IsRecordedTableReport}
 use Rattle.station_record.proofs.ReportUndigested.{both_of, recorded_both}
@@ -17,7 +17,7 @@ returns g c =
     let answer = c.table_report_of_sources-answer.result.0 in
     let a = c.table_report_of_sources-answer.ensures in
     let asked = asked_of c.args.asked.now in
-    let out = writer_change g.W.Sink.failed g.W.Sink.holds g.W.Sink.handed_on c.args.out.now
+    let out = writer_change g.W.Sink c.args.out.now
     c.print_report-printed.new.out in
     let printed = c.print_report-printed.result in
     let tells = both_of g.R.Source.told g.R.Source.failed g.R.Source.gave g.Q.Source.told

@@ -1,7 +1,7 @@
 use Rattle.std.proofs.Common.{◌∙◌, ap, arith, Bool}
-use Rattle.byte_ends.specs.Sink.{handed_on_after}
+use Rattle.byte_ends.specs.Sink.{flushed_after}
 use Rattle.std.proofs.lemmas.List.{take_rest, length-drop}
-use Rattle.byte_ends.proofs.Writing.{appends_then, handed_on_then, take_piece}
+use Rattle.byte_ends.proofs.Writing.{appends_then, flushed_then, take_piece}
 use Rattle.byte_ends.proofs.sink.Sink.write_all.Goals as goal
 
 pub writing-preserved : goal.writing-preserved
@@ -14,7 +14,7 @@ writing-preserved g c =
       held = appends_then _ _ _ _ _ _ so_far.held c.in_ok-written.ensures.holds
           (take_piece k c.in_ok-written.field-0 bs);
       failed = c.in_ok-written.ensures.failed ∙ so_far.failed;
-      handed_on = c.in_ok-written.ensures.handed_on
-          ∙ ap (λ (before : Bool). handed_on_after before c.in_ok-written.field-0) so_far.handed_on
-          ∙ handed_on_then _ k c.in_ok-written.field-0;
+      flushed = c.in_ok-written.ensures.flushed
+          ∙ ap (λ (before : Bool). flushed_after before c.in_ok-written.field-0) so_far.flushed
+          ∙ flushed_then _ k c.in_ok-written.field-0;
     }

@@ -1,8 +1,8 @@
-//! One digit of a number, as text.
+//! Digits of a number, as text.
 ghost use Rattle.std.specs.Prelude.{◌≡◌, ◌+◌, ◌%◌};
 
 /// The last digit of a number, as text.
-pub(crate) fn digit(number: u64) -> u8
+pub fn digit(number: u64) -> u8
     ensures { result ≡ 48 + number % 10 }
 {
     b'0' + (number % 10) as u8

@@ -7,7 +7,7 @@ ghost use Rattle.exact_adjustment.specs.Adjustments.{IsAdjustment, choice_by};
 ghost use Rattle.wide_number.specs.Limbs.{WIDE_LIMIT};
 
 use crate::circle::{on_circle, way_round};
-use crate::units::{CIRCLE, HALF_UNIT, PARTS};
+use adjust_kernel::{CIRCLE, HALF_UNIT, PARTS};
 use exact_adjustment::Adjustment;
 use wide_number::Wide;
 
@@ -24,14 +24,14 @@ fn direction(adjustment: &Adjustment, target: usize) -> Wide
     requires { target < length adjustment.now.directions }
     ensures value { pos result
         ≡ (pos (PARTS * HALF_UNIT) *ℤ (choice_by adjustment.now).direction target) }
-    ensures below { result < spec.circle_of (choice_by adjustment.now) }
+    ensures bound { result < spec.circle_of (choice_by adjustment.now) }
 {
     adjustment.directions()[target].times(PARTS * HALF_UNIT)
 }
 
 /// The stated direction of a target less the adjusted one, on the circle: in parts times the
 /// denominator.
-pub(crate) fn difference(adjustment: &Adjustment, stated: &[i64], target: usize) -> Wide
+pub fn difference(adjustment: &Adjustment, stated: &[i64], target: usize) -> Wide
     requires in_adjustment { target < length adjustment.now.directions }
     requires in_stated { target < length stated.now }
     ensures { IsWayRound (spec.circle_of (choice_by adjustment.now)) (pos 0)

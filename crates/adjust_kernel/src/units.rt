@@ -1,6 +1,6 @@
-//! The units of directions.
+//! The units of directions, each once: the crates of tables and of adjustments share them.
 
-use adjust_kernel::TURN;
+use crate::bounds::TURN;
 
 /// A half unit (0.005 mgon), in which directions are adjusted, in units of 0.000000001 gon.
 pub const HALF_UNIT: u64 = 5_000;

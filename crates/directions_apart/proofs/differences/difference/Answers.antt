@@ -4,7 +4,7 @@ use mir.Syntax.{w64}
 use Rattle.directions_apart.specs.Apart.{stated_by}
 use Rattle.exact_adjustment.specs.Adjustments.{choice_by}
 use Rattle.directions_apart.proofs.ArcLaws.{difference_is}
-use Rattle.directions_apart.proofs.difference.difference.Goals as goal
+use Rattle.directions_apart.proofs.differences.difference.Goals as goal
 
 pub returns : goal.returns
 returns c =
