@@ -24,5 +24,6 @@ mod window;
 pub use bounds::{LONGEST_FILE, LONGEST_LINE};
 pub use file_fault::{FileFault, FileKind};
 pub use line::Line;
+pub use line_end::{CARRIAGE_RETURN, LINE_FEED, is_blank};
 pub use lines::Lines;
 pub use out_of_memory::OutOfMemory;

@@ -3,15 +3,12 @@
 ghost use Rattle.std.specs.Prelude.{◌≡◌, ◌<◌, ℕ, slice_index};
 ghost use Rattle.std.specs.List.{position};
 ghost use Rattle.gsi_word.specs.Words.{IsLineByte};
-ghost use Rattle.gsi_file.specs.Parts.{is_blank, is_line_end};
+ghost use Rattle.gsi_file.specs.Parts.{is_line_end};
 ghost use Rattle.set_marks.specs.Lines.{end_bytes, end_from, end_before, end_beside};
 
+use gsi_file::{CARRIAGE_RETURN, LINE_FEED};
 use gsi_word::steps::{LANES, printable_run};
 use memchr::memchr2;
-
-pub(crate) const LINE_FEED: u8 = 10;
-
-const CARRIAGE_RETURN: u8 = 13;
 
 /// The bytes that end a line.
 #[derive(Clone, Copy, Debug, PartialEq, Eq, Drop)]
@@ -133,11 +130,4 @@ pub(crate) fn end_beside(bytes: &[u8], at: usize) -> LineEnd
     } else {
         end_before(bytes, at)
     }
-}
-
-/// Whether a part has no byte other than a blank.
-pub(crate) fn is_blank(part: &[u8]) -> bool
-    ensures { result ≡ is_blank part.now }
-{
-    part.iter().all(|b| *b == b' ')
 }

@@ -10,8 +10,9 @@ ghost use Rattle.set_marks.specs.Placing.{marks_of_block, marks_after};
 ghost use Rattle.set_marks.specs.Searching.{HasNoMark};
 ghost use Rattle.set_marks.specs.Copies.{AreOrdered, BeginsAt, BeginsLine};
 
-use crate::line_end::{LINE_FEED, end_beside, is_blank, place_of_end};
+use crate::line_end::{end_beside, place_of_end};
 use crate::mark::{BlockMark, Mark};
+use gsi_file::{LINE_FEED, is_blank};
 use std::alloc::{AllocError, Global};
 
 /// How many bytes stand before the first that ends a line.
