@@ -4,11 +4,11 @@ use Rattle.station_book.specs.declared.fault.BookFault.{BookFault}
 use Rattle.station_book.specs.declared.fault.BookFault.TheVariants.{At, Memory as NoMemory}
 use Rattle.station_book.specs.declared.fault.BookKind.{BookKind}
 use Rattle.station_book.specs.declared.fault.Refusal.{Refusal}
-use Rattle.station_book.specs.declared.fault.Refusal.TheVariants.{Kind, Memory}
+use Rattle.station_book.specs.declared.fault.Refusal.TheVariants.{Fault, Memory}
 
 -- the fault is this one; where memory ran out there is none
 abbrev pub ExplainsRefusal : Option BookKind → Refusal → Type 0
-ExplainsRefusal fault (Kind k) = fault ≡ Some k
+ExplainsRefusal fault (Fault k) = fault ≡ Some k
 ExplainsRefusal fault Memory = fault ≡ None
 
 -- the same, with the number of the block

@@ -161,10 +161,10 @@ impl StationsSoFar {
         ensures unchanged { OnErr result (self.new ≡ self.old) }
     {
         if self.knows(name) {
-            return Err(Refusal::Kind(BookKind::StationTwice));
+            return Err(Refusal::Fault(BookKind::StationTwice));
         }
         if self.len() >= MOST_STATIONS {
-            return Err(Refusal::Kind(BookKind::TooManyStations));
+            return Err(Refusal::Fault(BookKind::TooManyStations));
         }
         self.add_station(name, number)?;
         Ok(())
@@ -182,7 +182,7 @@ impl StationsSoFar {
         ensures unchanged { OnErr result (self.new ≡ self.old) }
     {
         if let Some(kind) = self.last().set_fault(number) {
-            return Err(Refusal::Kind(kind));
+            return Err(Refusal::Fault(kind));
         }
         self.add_set(number)?;
         Ok(())

@@ -56,10 +56,10 @@ impl Book {
         ensures unchanged { OnErr result (self.new ≡ self.old) }
     {
         let taken = match role_of(block) {
-            Role::Station => self.take_station(block).map_err(Refusal::Kind),
+            Role::Station => self.take_station(block).map_err(Refusal::Fault),
             Role::Set => self.take_set(block),
-            Role::Close => self.take_close().map_err(Refusal::Kind),
-            Role::Measurement => self.take_measurement(block).map_err(Refusal::Kind),
+            Role::Close => self.take_close().map_err(Refusal::Fault),
+            Role::Measurement => self.take_measurement(block).map_err(Refusal::Fault),
             Role::Other => Ok(()),
         };
         match taken {
@@ -69,7 +69,7 @@ impl Book {
                 };
                 Ok(())
             }
-            Err(Refusal::Kind(kind)) => Err(BookFault::At(self.taken.blocks + 1, kind)),
+            Err(Refusal::Fault(kind)) => Err(BookFault::At(self.taken.blocks + 1, kind)),
             Err(Refusal::Memory) => Err(BookFault::Memory),
         }
     }
@@ -134,7 +134,7 @@ impl Book {
         ensures unchanged { OnErr result (self.new ≡ self.old) }
     {
         if let Some(kind) = self.end_fault() {
-            return Err(Refusal::Kind(kind));
+            return Err(Refusal::Fault(kind));
         }
         let number = set_number(block)?;
         self.open_set(number)
@@ -156,14 +156,14 @@ impl Book {
     {
         let stage = self.stage;
         match stage {
-            Stage::Outside => Err(Refusal::Kind(BookKind::SetOutside)),
+            Stage::Outside => Err(Refusal::Fault(BookKind::SetOutside)),
             Stage::Station(name) => match number {
                 Some(number) => self.open_first(name, number),
-                None => Err(Refusal::Kind(BookKind::SetNumber)),
+                None => Err(Refusal::Fault(BookKind::SetNumber)),
             },
             Stage::BetweenSets | Stage::InSet => match number {
                 Some(number) => self.open_further(number),
-                None => Err(Refusal::Kind(BookKind::SetNumber)),
+                None => Err(Refusal::Fault(BookKind::SetNumber)),
             },
         }
     }
