@@ -8,18 +8,42 @@ import random
 import shutil
 import subprocess
 import unittest
-from pathlib import Path
 from typing import NamedTuple
 
+import model
+from against_model import Case
 from program import EXAMPLE, EXAMPLE_SHEET, ROOT, SWEEP, ProgramTest, answer_of, side_by_side
-from worked import ACCEPTED, AGREES, LIST, RESIDUALS, SHEET, STATION, TABLE, edited, refused
+from worked import (
+    ACCEPTED,
+    AGREES,
+    JOB,
+    LIST,
+    LIST_ROWS,
+    MARKED,
+    NOTES,
+    REPORT,
+    REPORT_ROWS,
+    RESIDUALS,
+    SHEET,
+    STATION,
+    TABLE,
+    edited,
+    refused,
+)
 
 # How many command lines of each command are run beside those that change one option, where not all
 # are.
 SAMPLE = 100
 
+# In how many orders and forms, which are drawn, each choice of options and values is run.
+ORDERS = 30 if SWEEP else 1
+
 # The station's table with one of its two directions 30 units off: one rotation leaves each 15 off.
 TABLE_OFF = edited(TABLE, (b"50.000030", b"50.000060"))
+
+# The same directions in degrees: 45.000054 are 50.00006 gon. Read in the unit of the other each of
+# the two tables is 2 gon off or more.
+DEGREES_OFF = edited(TABLE_OFF, (b"50.000060", b"45.000054"))
 
 WITHIN_15 = b"agrees S1: 2 targets, within 15\n"
 
@@ -57,11 +81,21 @@ WITHIN = Option("--within", "15", "14", refusal("compare: Apart 15"), ("0.015mgo
 
 DECIMALS = Option("--decimals", "6", "4", (0, b"A,0.0000\nB,50.0000\n", b""))
 
-# The flag that adds a line for each of the two files of a command.
-DIGESTS = "--sha256"
+# The same limits where the answer shows them: what changes nothing is what is usual.
+SHOWN_LIMITS = [
+    limit._replace(kept="2000", in_mgon=("20mgon", limit.in_mgon[1])) for limit in LIMITS
+]
 
-# The commands that have the flag.
-RECORDED = ["check", "compare"]
+# The flag that adds the digest of each file, and the commands that have it.
+DIGESTS = "--sha256"
+RECORDED = ["check", "compare", "report"]
+
+# Each flag, with the commands that have it.
+FLAGS = {
+    DIGESTS: RECORDED,
+    "--degrees": ["compare", "differences", "report"],
+    "--csv": ["list", "report"],
+}
 
 # The words of each command, its options, and what it answers where none changes anything.
 COMMANDS = {
@@ -70,9 +104,13 @@ COMMANDS = {
     "differences": ([str(EXAMPLE), "S1", "{table}"], LIMITS, DIFFERENCES_15),
     "directions": ([str(EXAMPLE), "S1"], [*LIMITS, DECIMALS], TABLE),
     "residuals": ([str(EXAMPLE), "S1"], LIMITS, RESIDUALS),
+    "report": ([str(EXAMPLE), "S1"], SHOWN_LIMITS, REPORT % bytes(EXAMPLE)),
     "means": ([str(EXAMPLE), "S1"], LIMITS, SHEET),
     "list": ([str(EXAMPLE)], LIMITS, LIST),
 }
+
+# The options of a report beside its limits.
+OF_REPORT = {"--table": ["{table}"], "--within": ["15", "0.014mgon"]}
 
 # What a number may be written as.
 SPELLINGS = [str, "+{}".format, "000{}".format]
@@ -123,6 +161,19 @@ def orders(words, options):
                     yield [*line[: len(line) - at], "--", *line[len(line) - at :]]
 
 
+def an_order(draw, words, options):
+    """One of these orders and forms, which is drawn."""
+    line, left = [], list(words)
+    options = draw.sample(options, len(options))
+    places = sorted(draw.choices(range(len(words) + 1), k=len(options)))
+    for place, (name, value) in zip(places, options):
+        while len(words) - len(left) < place:
+            line.append(left.pop(0))
+        line += [name] if value is None else draw.choice([[name, value], [f"{name}={value}"]])
+    end = draw.choice([None, *range(len(left) + 1)])
+    return [*line, *left] if end is None else [*line, *left[:end], "--", *left[end:]]
+
+
 def runs_of(words, options, stdout):
     """Each command line of a command, and what it answers."""
     for given in itertools.product(["absent", "kept", "changed"], repeat=len(options)):
@@ -133,19 +184,52 @@ def runs_of(words, options, stdout):
             yield line, expected
 
 
-def digest_line(path):
-    """The line of a file's digest, where its path has nothing to escape."""
-    return f"{hashlib.sha256(Path(path).read_bytes()).hexdigest()}  {path}\n".encode()
+def choices_of(command):
+    """Each choice of a command's options and their values; a flag has the value None."""
+    values = {option.name: [option.kept, option.changed] for option in COMMANDS[command][1]}
+    values |= {flag: [None] for flag, commands in FLAGS.items() if command in commands}
+    values |= OF_REPORT if command == "report" else {}
+    stated = [[[], *[[(name, value)] for value in of_name]] for name, of_name in values.items()]
+    for chosen in itertools.product(*stated):
+        yield dict(itertools.chain(*chosen))
 
 
-def recorded_runs_of(words, options, stdout):
-    """Each command line of a command with the flag and one option at most, and what it answers."""
-    digests = digest_line(words[0]) + digest_line(words[-1])
-    for option, value in [(None, None), *itertools.product(options, ["kept", "changed"])]:
-        expected = option.answer if value == "changed" else (0, stdout + digests, b"")
-        stated = [(option.name, getattr(option, value))] if option else []
-        for line in orders(words, [(DIGESTS, None), *stated]):
-            yield line, expected
+def is_mistake(command, given):
+    """Whether options don't go together: the rows of a report stand alone, and what is said of a
+    table needs one."""
+    of_table = {"--within", "--degrees"} & set(given)
+    if command != "report":
+        return False
+    if "--csv" in given:
+        return bool(of_table) or "--table" in given or DIGESTS in given
+    return bool(of_table) and "--table" not in given
+
+
+def answer_by_model(command, given, table):
+    """What a command answers of the example and of the table at a path, given these options."""
+    def limit(name, usual, unit, largest):
+        return model.limit(given[name], unit, largest) if name in given else usual
+
+    face = model.FACE_UNIT, model.LARGEST_LIMIT
+    limits = [limit(name, model.USUAL_LIMIT, *face) for name in ("--two-c", "--two-i")]
+    path, kinds = EXAMPLE_SHEET if command == "check" else table, ["--csv", "--table"]
+    case = Case(
+        "",
+        " ".join([command, *[kind for kind in kinds if kind in given]]),
+        STATION,
+        path.read_bytes(),
+        limits=model.Limits(*limits),
+        residual=limit("--residual", None, model.RESIDUAL_UNIT, model.LARGEST_RESIDUAL),
+        within=limit("--within", None, model.TABLE_UNIT, model.LARGEST_WITHIN),
+        degrees="--degrees" in given,
+    )
+    status, text, said = case.expected(EXAMPLE, path)
+    if DIGESTS not in given or not text:
+        return status, text, said
+    files = [(bytes(EXAMPLE), STATION), (bytes(path), case.sheet)]
+    if command == "report":
+        return model.with_digests((status, text, said), *files[: 1 + ("--table" in given)])
+    return status, text + b"".join(model.digest_line(*file) for file in files), said
 
 
 def changes_one(line, options):
@@ -184,27 +268,85 @@ class EdgeTest(ProgramTest):
             chosen = runs if SWEEP else [*plain, *draw.sample(runs, min(SAMPLE, len(runs)))]
             self.assert_answers([([command, *line], expected) for line, expected in chosen])
 
-    def test_digests_are_printed_where_the_flag_stands_in_each_order(self):
+    def test_each_choice_of_options_counts(self):
+        """Of each command with flags, over a table in gon and over one in degrees, in orders and
+        forms that are drawn."""
+        table, draw = self.folder / "table.csv", random.Random(39)
+        for command, text in itertools.product(COMMANDS, [TABLE_OFF, DEGREES_OFF]):
+            table.write_bytes(text)
+            words = [word.format(table=table) for word in COMMANDS[command][0]]
+            for given in choices_of(command):
+                if not set(given) & {*FLAGS, *OF_REPORT}:
+                    continue
+                options = [(name, v and v.format(table=table)) for name, v in given.items()]
+                lines = [[command, *an_order(draw, words, options)] for _ in range(ORDERS)]
+                if is_mistake(command, given):
+                    self.assert_mistakes(lines)
+                else:
+                    expected = answer_by_model(command, given, table)
+                    self.assert_answers([(line, expected) for line in lines])
+
+    def assert_mistakes(self, lines):
+        for line, (status, stdout, stderr) in zip(lines, side_by_side(answer_of, lines)):
+            with self.subTest(line=line):
+                self.assertEqual((2, b"", b"error: "), (status, stdout, stderr[:7]))
+
+    def test_a_flag_counts_in_each_order_and_form(self):
+        """With one option at most, and of a report in degrees with its table."""
+        table = self.folder / "table.csv"
+        table.write_bytes(DEGREES_OFF)
+        for flag, commands in FLAGS.items():
+            for command in commands:
+                words, options, _ = COMMANDS[command]
+                words = [word.format(table=table) for word in words]
+                needs_table = (flag, command) == ("--degrees", "report")
+                needed = {flag: None} | ({"--table": str(table)} if needs_table else {})
+                choices = [{o.name: value} for o in options for value in (o.kept, o.changed)]
+                runs = []
+                for stated in [{}, *choices]:
+                    given = needed | stated
+                    expected = answer_by_model(command, given, table)
+                    ordered = orders(words, list(given.items()))
+                    runs += [([command, *line], expected) for line in ordered]
+                self.assertEqual(len(runs), len({tuple(line) for line, _ in runs}))
+                self.assert_answers(runs[::7] if needs_table and not SWEEP else runs)
+
+    def test_what_a_flag_adds_is_worked_out(self):
+        """What the model answers of the flags, as it is written elsewhere by hand."""
         table = self.folder / "table.csv"
         table.write_bytes(TABLE)
-        for command in RECORDED:
-            words, options, _ = COMMANDS[command]
-            words = [word.format(table=table) for word in words]
-            options = [option for option in options if option != WITHIN]
-            stdout = {"check": ACCEPTED, "compare": AGREES}[command]
-            runs = [([command, *line], expected) for line, expected in recorded_runs_of(words, options, stdout)]
-            self.assert_answers(runs)
-            self.assertEqual(len(runs), len({tuple(line) for line, _ in runs}))
+        digests = model.digest_line(bytes(EXAMPLE), STATION)
+        of_sheet = digests + model.digest_line(bytes(EXAMPLE_SHEET), SHEET)
+        of_table = digests + model.digest_line(bytes(table), TABLE)
+        for command, flag, stdout in [
+            ("check", DIGESTS, ACCEPTED + of_sheet),
+            ("compare", DIGESTS, AGREES + of_table),
+            ("list", "--csv", LIST_ROWS),
+            ("report", "--csv", REPORT_ROWS),
+        ]:
+            self.assertEqual((0, stdout, b""), answer_by_model(command, {flag: None}, table))
+        self.assertIn(hashlib.sha256(STATION).hexdigest().encode(), digests)
+        # 50.00006 degrees are 55.555622222 gon.
+        table.write_bytes(TABLE_OFF)
+        far = b"A,0.000000000,0.000000,-2777.796\nB,55.555622222,50.000030,2777.796\n"
+        for command, answer in [
+            ("compare", refusal("compare: Apart 2777797")),
+            ("differences", (0, DIFFERENCES_15.splitlines(keepends=True)[0] + far, b"")),
+        ]:
+            self.assertEqual(answer, answer_by_model(command, {"--degrees": None}, table))
+        table.write_bytes(DEGREES_OFF)
+        for command, stdout in [("compare", WITHIN_15), ("differences", DIFFERENCES_15)]:
+            given = {"--degrees": None} | ({"--within": "15"} if command == "compare" else {})
+            self.assertEqual((0, stdout, b""), answer_by_model(command, given, table))
 
     def test_a_flag_has_no_value_and_stands_once(self):
-        for command in RECORDED:
+        for flag, command in itertools.product(FLAGS, COMMANDS):
             words = [word.format(table=EXAMPLE_SHEET) for word in COMMANDS[command][0]]
-            for flags in [[f"{DIGESTS}=true"], [f"{DIGESTS}="], [DIGESTS, DIGESTS], ["--sha"], ["--SHA256"]]:
-                status, stdout, stderr = answer_of([command, *flags, *words])
-                self.assertEqual((2, b""), (status, stdout), flags)
-                self.assertIn(b"error: ", stderr)
-        for command in set(COMMANDS) - set(RECORDED):
-            self.assertEqual((2, b""), answer_of([command, DIGESTS, *COMMANDS[command][0]])[:2])
+            if command == "report" and flag == "--degrees":
+                words = [f"--table={EXAMPLE_SHEET}", *words]
+            lines = [[f"{flag}=true"], [f"{flag}="], [flag, flag], [flag[:-1]], [flag.upper()]]
+            lines += [] if command in FLAGS[flag] else [[flag]]
+            self.assert_mistakes([[command, *line, *words] for line in lines])
 
     def test_a_path_stands_beside_its_digest_as_sha256sum_prints_it(self):
         """Each path twice: as that of the field file, and as that of the sheet. To `sha256sum` `-` is
@@ -246,6 +388,18 @@ class EdgeTest(ProgramTest):
                         lines = [[option.name, number, *words], [*words, f"{option.name}={number}"]]
                         self.assert_answers([([command, *line], expected) for line in lines])
 
+    def test_the_name_that_mark_is_told_counts_in_each_order_and_form(self):
+        job = self.folder / "job.gsi"
+        job.write_bytes(JOB)
+        self.assert_answers([(["mark", str(job)], refusal("block 1: mark: NoSetUp"))])
+        for name, told in [("S1", b"S1"), ("XY", b"XY"), ("-7", b"-7"), ("00A", b"A")]:
+            copy = edited(MARKED, (b"000000S1", told.rjust(8, b"0")))
+            expected = 0, copy, edited(NOTES, (b" S1:", b" " + told + b":"))
+            lines = orders([str(job)], [("--station", name)])
+            if name.startswith("-"):  # which would be an option, as a word of its own
+                lines = [line for line in lines if f"--station={name}" in line]
+            self.assert_answers([(["mark", *line], expected) for line in lines])
+
     def test_a_limit_counts_in_mgon_in_each_order_and_form(self):
         table = self.folder / "table.csv"
         table.write_bytes(TABLE_OFF)
@@ -268,16 +422,33 @@ class EdgeTest(ProgramTest):
                     continue
                 no_unit, most, more = BOUNDS[option.name]
                 near = [] if option == WITHIN else [f"{WITHIN.name}={WITHIN.kept}"] * (WITHIN in options)
+                answers = {n: (0, stdout, b"") for n in most}
+                if command == "report":  # which shows the limit
+                    answers = {n: answer_by_model(command, {option.name: n}, table) for n in most}
                 self.assert_answers([
                     *[([command, f"{option.name}={n}", *words], option.answer) for n in NOUGHTS],
-                    *[([command, f"{option.name}={n}", *near, *words], (0, stdout, b"")) for n in most],
+                    *[([command, f"{option.name}={n}", *near, *words], answers[n]) for n in most],
                 ])  # fmt: skip
-                for text in [*NO_LIMITS, *no_unit, *more]:
-                    with self.subTest(command=command, option=option.name, text=text):
-                        status, out, err = answer_of([command, f"{option.name}={text}", *words])
-                        self.assertEqual((2, b""), (status, out))
-                        begin = f"error: invalid value '{text}' for '{option.name} <LIMIT>': state mgon, as 0.".encode()
-                        self.assertTrue(err.startswith(begin), err)
+                self.assert_no_limits(option.name, [*NO_LIMITS, *no_unit, *more], command, words)
+
+    def assert_no_limits(self, option, texts, command, words):
+        """None of these is a limit of an option, and what is one is said."""
+        for text in texts:
+            with self.subTest(command=command, option=option, text=text):
+                status, out, err = answer_of([command, f"{option}={text}", *words])
+                self.assertEqual((2, b""), (status, out))
+                begin = f"error: invalid value '{text}' for '{option} <LIMIT>': state mgon, as 0."
+                self.assertTrue(err.startswith(begin.encode()), err)
+
+    def test_the_limit_of_a_table_in_a_report_is_a_whole_number_of_its_unit(self):
+        table = self.folder / "table.csv"
+        table.write_bytes(TABLE_OFF)
+        words = [f"--table={table}", str(EXAMPLE), "S1"]
+        no_unit, most, more = BOUNDS["--within"]
+        for text in [*NOUGHTS, *most]:
+            expected = answer_by_model("report", {"--table": table, "--within": text}, table)
+            self.assertEqual(expected, answer_of(["report", f"--within={text}", *words]))
+        self.assert_no_limits("--within", [*NO_LIMITS, *no_unit, *more], "report", words)
 
     def test_of_two_limits_that_are_none_the_first_is_named(self):
         for line, named in [
