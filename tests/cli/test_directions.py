@@ -5,7 +5,7 @@ from random import Random
 
 import model
 from against_model import AgainstModel, Case
-from generated import SEED, station_to_adjust
+from generated import SEED, station_to_adjust, table_of_station
 from program import EXAMPLE, SWEEP, ProgramTest, Run, answer_of
 from test_means import largest
 from worked import STATION, TABLE, edited, field_file, refused, widened
@@ -108,6 +108,22 @@ class AdjustedTest(AgainstModel):
             random = Random(f"{SEED} directions {place}")
             file, decimals = station_to_adjust(random), random.randint(1, 8)
             self.compare([Case(f"{place}", "directions", file, decimals=decimals)])
+
+    def test_sessions_beside_the_model(self):
+        """Dense parts that are joined by one target, or by a way: their directions, residuals and
+        tables."""
+        for place in range(STATIONS // 2):
+            random = Random(f"{SEED} sessions {place}")
+            file = station_to_adjust(random, 12, 20, "sessions")
+            table = table_of_station(random, model.survey_of(file, model.Limits())[0])
+            within = random.choice([None, 0, 10, 51])
+            answers = self.compare([
+                Case(f"{place}: directions", "directions", file, decimals=random.randint(1, 8)),
+                Case(f"{place}: residuals", "residuals", file),
+                Case(f"{place}: compare", "compare", file, table, within=within),
+                Case(f"{place}: differences", "differences", file, table),
+            ])
+            self.assertEqual([(0, b"")] * 2, [(status, said) for status, _, said in answers[:2]])
 
     def test_compare_accepts_what_is_printed_with_6_decimals_or_more(self):
         """Of stations up to the largest, some of which fall into parts and are not told of."""

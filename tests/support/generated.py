@@ -418,11 +418,49 @@ def sheet_text(random: Random, stations: list[model.Station]) -> bytes:
 # ---------------------------------------------------------------- stations to adjust
 
 
-def seen_in(random: Random, kind: str, targets: list[Target], place: int) -> list[Target]:
-    """The targets that are observed in a set: all of them, some, or two neighbours in a chain."""
+KINDS = ["complete", "gaps", "gaps", "chain", "sessions"]
+
+
+def shared_out(random: Random, count: int, parts: int) -> list[int]:
+    """How many of so many things fall to each of some parts: two or more."""
+    numbers = [2] * parts
+    for _ in range(count - 2 * parts):
+        numbers[random.randrange(parts)] += 1
+    return numbers
+
+
+def seen_in_sessions(random: Random, targets: list[Target], sets: int) -> list[list[Target]]:
+    """What is observed in each of four sets or more, of five targets or more: sessions that observe
+    their own targets again and again, and are joined by one target that all have, each to the one
+    before by one target, or two by a way of two sets."""
+    joint = random.choice(["common", "row", "way"] if sets >= 6 else ["common", "row"])
+    parts = 2 if joint == "way" else random.randint(2, min(sets, len(targets) - 1) // 2)
+    first, *others = targets
+    rest = iter(others)
+    own = [[next(rest) for _ in range(n)] for n in shared_out(random, len(others), parts)]
+    way = [[own[0][-1], first], [first, own[1][0]]] if joint == "way" else []
+    if joint == "common":
+        own = [[first, *session] for session in own]
+    if joint == "row":
+        own = [[before[-1], *session] for before, session in zip([[first], *own], own)]
+    counts = shared_out(random, sets - len(way), parts)
+    seen = [session for session, count in zip(own, counts) for _ in range(count)]
+    seen[counts[0] : counts[0]] = way
+    if random.random() < 0.3:
+        random.shuffle(seen)
+    return seen
+
+
+def seen_in_sets(random: Random, kind: str, targets: list[Target], sets: int) -> list[list[Target]]:
+    """The targets that are observed in each set: all of them, some, two neighbours in a chain, or
+    those of its session."""
+    if kind == "sessions":
+        return seen_in_sessions(random, targets, sets)
     if kind == "chain":
-        return targets[place : place + 2]
-    return random.sample(targets, random.randint(2, len(targets))) if kind == "gaps" else targets
+        return [targets[place : place + 2] for place in range(sets)]
+    if kind == "gaps":
+        return [random.sample(targets, random.randint(2, len(targets))) for _ in range(sets)]
+    return [targets] * sets
 
 
 def scattered(random: Random, direction: int) -> int:
@@ -430,20 +468,23 @@ def scattered(random: Random, direction: int) -> int:
     return (direction + random.randint(-30, 30)) % CIRCLE
 
 
-def station_to_adjust(random: Random, most_sets: int = 7, most_targets: int = 9) -> bytes:
-    """The field file of the station S1, in sets that are complete, have gaps or are a chain; of
-    some targets the readings lie on both sides of zero."""
-    kind = random.choice(["complete", "gaps", "gaps", "chain"])
+def station_to_adjust(
+    random: Random, most_sets: int = 7, most_targets: int = 9, kind: str | None = None
+) -> bytes:
+    """The field file of the station S1, in sets that are complete, have gaps, are a chain or fall
+    into sessions; of some targets the readings lie on both sides of zero."""
+    kind = kind or random.choice(KINDS)
     places = [random.randrange(CIRCLE), *(random.randrange(-20, 20) for _ in range(2))]
     directions = [random.choice([*places, random.randrange(CIRCLE)]) for _ in range(most_targets)]
+    least = 5 if kind == "sessions" else 2
     most = min(most_targets, most_sets + 1) if kind == "chain" else most_targets
-    targets = [(f"T{n}", hz) for n, hz in enumerate(directions[: random.randint(2, most)])]
-    sets = len(targets) - 1 if kind == "chain" else random.randint(1, most_sets)
+    targets = [(f"T{n}", hz) for n, hz in enumerate(directions[: random.randint(least, most)])]
+    sets = random.randint(4 if kind == "sessions" else 1, most_sets)
+    sets = len(targets) - 1 if kind == "chain" else sets
     readings = {}
-    for place in range(sets):
+    for number, seen in enumerate(seen_in_sets(random, kind, targets, sets), 1):
         begin = random.choice([0, random.randrange(CIRCLE)])
-        seen = seen_in(random, kind, targets, place)
-        readings[place + 1] = [
+        readings[number] = [
             (name, *(scattered(random, hz + begin + turned) for turned in (0, HALF_CIRCLE)))
             for name, hz in seen
         ]
