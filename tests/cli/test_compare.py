@@ -193,6 +193,10 @@ FAULTS = [
     ("another name", b"A,0\nC,1\n", "table row 2: Unknown"),
     ("a small letter", b"A,0\nb,1\n", "table row 2: Unknown"),
     ("a blank in the name", b"A,0\nB B,1\n", "table row 2: Unknown"),
+    ("degrees with hyphens", of_b(b"45-00-00.0972"), "table row 2: Number"),
+    ("degrees with signs", of_b("45°00'00.0972\"".encode()), "table row 2: Number"),
+    ("zeros before a name", b"000A,0\nB,50.00003\n", "table row 1: Unknown"),
+    ("zeros before the other name", b"A,0\n000B,50.00003\n", "table row 2: Unknown"),
     ("A twice", TABLE + b"A,0.000000\n", "table row 3: Twice"),
     ("A twice with blanks around it", TABLE + b" A ,0.000000\n", "table row 3: Twice"),
     ("titles in the second row", TABLE[:2] + b"0\nName,Hz\n", "table row 2: Number"),
@@ -206,6 +210,50 @@ FAULTS = [
     ("the range before the station's names", b"C,401\n", "table row 1: Range"),
     ("the first row before the second", b"A,401\nB\n", "table row 1: Range"),
     ("a row before what is missing", b"B,401\n", "table row 1: Range"),
+]
+
+# The example's table in UTF-16: its first row is one of titles, and a byte 0 stands before the name
+# in the second, or alone between CR and LF.
+IN_UTF_16 = [
+    (f"{encoding}, {name}", text.encode(encoding), why)
+    for encoding in ["utf-16", "utf-16-le", "utf-16-be"]
+    for name, text, why in [
+        ("line feeds", "A,0\nB,50.00003\n", "table row 2: Name"),
+        ("titles", "Name,Hz\nA,0\nB,50.00003\n", "table row 2: Name"),
+        ("semicolons", "A;0\nB;50,00003\n", "table row 2: Name"),
+        ("tabs", "A\t0\nB\t50.00003\n", "table row 2: Name"),
+        ("CR LF", "A,0\r\nB,50.00003\r\n", "table row 2: Fields"),
+    ]
+]
+
+# Each is a table in degrees, and the line of its verdict within 0.000001 gon: 50.00003 gon are
+# 45.000027 degrees, or 0.0972 seconds beside 45 degrees.
+IN_DEGREES = [
+    ("hyphens", b"A,0-00-00\nB,45-00-00.0972\n", agrees(0)),
+    ("a tenth of a second", b"A,0-00-00.0\nB,45-00-00.1\n", agrees(1)),
+    ("zeros and a sign", b"A,+000-00-00\nB,+045-00-00.0972000\n", agrees(0)),
+    ("the other way round", b"A,-0-00-00\nB,-314-59-59.9028\n", agrees(0)),
+    ("a full circle", b"A,360-00-00\nB,-315.0000\n", apart(15)),
+    ("signs", "A,0°00'00\"\nB,45°00'00.0972\"\n".encode(), agrees(0)),
+    ("signs in quotes", 'A,"0°00\'00"""\nB,"45°00\'00,0972"""\n'.encode(), agrees(0)),
+    ("signs and semicolons", "A;0°00'00\"\nB;45°00'00,0972\"\n".encode(), agrees(0)),
+    ("decimals", b"A 0\nB 45.000027\n", agrees(0)),
+    ("hyphens beside decimals", b"A,0-00-00\r\nB,45.000027\r\n", agrees(0)),
+    ("degrees that are above 360", of_b(b"360-00-00.0001"), refused("table row 2: Range")),
+    *(
+        (f"B as {text!r}", of_b(text.encode()), refused("table row 2: Number"))
+        for text in [
+            *["45-0-0", "45-00-0", "45-0-00", "45-00", "45-", "-45-", "45--00-00", "45-00-00-00"],
+            *["45-60-00", "45-00-60", "45 0 0", "45 00 00", "45:00:00", "4500.00.00"],
+            *["0045-00-00", "-00-00", "45-00.5-00", "45-00-00.0000001", "45-00-00N"],
+            *["45°", "45°00'", "45°00'00", "45°00-00", "45-00'00\"", "45° 00' 00\"", "45º00'00\""],
+            *["45°00\u203200\u2033", "45°00\u201900\u201d", "45°00'00''", "45d00m00s"],
+        ]
+    ),
+    *(
+        (f"the sign as {sign!r}", of_b(b"45%s00'00\"" % sign), refused("table row 2: Number"))
+        for sign in [b"\xb0", b"\xf8", b"\xc2", b"\xc2\xba", b"\xcb\x9a"]
+    ),
 ]
 
 # Each is a field file, a station of it, a table, and the line of the verdict.
@@ -241,7 +289,12 @@ class CompareTest(ProgramTest):
             options = [] if within is None else ["--within", within]
             self.check([judged(name, STATION, table, line, *options)])
         self.check([judged(name, STATION, table, line) for name, table, line in USUAL])
-        self.check([judged(name, STATION, table, refused(why)) for name, table, why in FAULTS])
+        faults = [*FAULTS, *IN_UTF_16]
+        self.check([judged(name, STATION, table, refused(why)) for name, table, why in faults])
+
+    def test_a_table_in_degrees_agrees_or_its_first_fault_is_named(self):
+        for name, table, line in IN_DEGREES:
+            self.check([judged(name, STATION, table, line, "--degrees", "--within=1")])
 
     def test_tables_are_read_as_programs_print_them(self):
         for name, table, within in PRINTED:
