@@ -13,6 +13,9 @@ BYTES = [b" ", b"\t", b"\r", b"\n", b"*", b"0", b"9", b"+", b"-", b'"', b",", b"
 FIVE_LINES = b"".join(FIELD.splitlines(keepends=True)[:5])
 SIXTH_LINE = FIELD.splitlines()[5]
 
+# The table in degrees, in both forms with minutes and seconds.
+DEGREES = "A,0-00-00.0\nB,45°00'00.1\"\n".encode()
+
 # How many bytes of the sixth line are there, and what `list` answers.
 CUT_SIXTH_LINE = [
     (range(0, 1), b"refused: block 6: OneFace\n"),
@@ -78,7 +81,7 @@ class CutsTest(AgainstModel):
         steps = [("words", 3), ("list", 3), ("means", 3), ("check", 3), ("directions", 5)]
         for command, step in [*steps, ("residuals", 5), ("report", 5), ("report --csv", 7), ("list --csv", 5)]:
             self.compare(sample(cuts(command, b"", FIELD, sheet=SHEET), step))
-        for command in ["differences", "report --table"]:
+        for command in ["compare", "differences", "report --table"]:
             self.compare(sample(cuts(command, b"", FIELD, sheet=TABLE), 5))
 
     def test_every_first_part_of_a_job(self):
@@ -102,13 +105,22 @@ class CutsTest(AgainstModel):
         for command in ["compare", "differences", "report --table"]:
             self.compare(Case(name, command, FIELD, table) for name, table in tables)
 
+    def test_a_table_in_degrees_cut_and_replaced(self):
+        texts = [(f"{left} bytes", DEGREES[:left]) for left in range(len(DEGREES) + 1)]
+        texts += sample(replaced(DEGREES), 3)
+        for command in ["compare", "differences", "report --table"]:
+            self.compare(Case(name, command, FIELD, table, degrees=True) for name, table in texts)
+
     def test_every_byte_of_the_example_replaced(self):
         steps = [("list", 5), ("check", 23), ("words", 29), ("means", 31), ("directions", 37)]
         for command, step in [*steps, ("residuals", 41), ("report", 43), ("report --csv", 53), ("list --csv", 47)]:
             fields = sample(replaced(FIELD), step)
             self.compare(Case(f"{command}, {name}", command, *pair) for name, *pair in fields)
-        fields = sample(replaced(FIELD), 43)
-        self.compare(Case(f"differences, {name}", "differences", field, TABLE) for name, field in fields)
+        for command, step in [("compare", 47), ("differences", 43), ("report --table", 41)]:
+            fields = sample(replaced(FIELD), step)
+            self.compare(
+                Case(f"{command}, {name}", command, field, TABLE) for name, field in fields
+            )
 
     def test_every_byte_of_the_sheet_replaced(self):
         sheets = sample(replaced(SHEET), 5)
