@@ -11,7 +11,8 @@ longest counts. Extensions may be in capitals too.
 A field file is done where `station_check list` names stations in it, and each of them has an
 accepted sheet or a table that agrees. The answer to each sheet and table is printed, and kept in
 NAME.answer beside NAME.csv. A table that belongs to no field file, or to one of its stations by no
-name, is said to be skipped, which is no mistake.
+name, is said to be skipped, which is no mistake. So is a file of rows that station_check itself
+printed: by `list --csv`, `residuals`, `differences` or `report --csv`.
 
 Exit status: 0 where there are field files, each is done, and nothing was refused; 1 where not;
 2 where nothing could be checked: a mistake on the command line, no such folder, one that takes no
@@ -58,7 +59,17 @@ STATION_LINE = re.compile(rb"^station (.*)" + COUNTS + rb"$", re.MULTILINE)
 # begin with their kind, a table has numbers at the ends of its rows.
 HEAD = 4096
 SHEET_ROW = re.compile(rb'^"?(?:sheet|target|set|obs)"?(?:,[^,\r\n]*){4}\s*$', re.MULTILINE)
-TABLE_ROW = re.compile(rb"^[^,;\t ].*[,;\t ]\"?[+-]?\d[\d.,'-]*\"?[,;\s]*$", re.MULTILINE)
+TABLE_ROW = re.compile(
+    rb"^[^,;\t ].*[,;\t ]\"?[+-]?\d[\d.,'\"\xc2\xb0-]*\"?[,;\s]*$", re.MULTILINE
+)
+
+# The rows of titles of what station_check prints as rows, and by which command.
+TITLES = {
+    b"station,set,target,direction,2c,2i": "list --csv",
+    b"set,target,direction,adjusted,residual": "residuals",
+    b"target,stated,least squares,difference": "differences",
+    b"station,set,target,face one,face two,direction,2c,2i,adjusted,residual": "report --csv",
+}
 
 
 class Refused(Exception):
@@ -87,16 +98,27 @@ def files_by_name(paths: Iterable[str], extension: str) -> dict[str, list[str]]:
     return files
 
 
+def head_of(path: str) -> bytes:
+    """The first bytes of a file; none of one that can't be read."""
+    try:
+        with open(path, "rb") as file:
+            return file.read(HEAD)
+    except OSError:
+        return b""
+
+
 def is_table(name: str, path: str) -> bool:
     """Whether a file is a table of directions, by its name or by what it holds."""
     if name.lower().endswith(TABLE):
         return True
-    try:
-        with open(path, "rb") as file:
-            head = file.read(HEAD)
-    except OSError:
-        return False
+    head = head_of(path)
     return bool(TABLE_ROW.search(head)) and not SHEET_ROW.search(head)
+
+
+def printed_by(path: str) -> str | None:
+    """The command of station_check that printed the rows of a file, as its first row tells."""
+    first = head_of(path).removeprefix(b"\xef\xbb\xbf").partition(b"\n")[0]
+    return TITLES.get(first.rstrip(b"\r"))
 
 
 class Claim(NamedTuple):
@@ -188,7 +210,17 @@ class Folder:
                 os.remove(path)
         self.fields = files_by_name(paths, FIELD)
         self.claims: list[Claim] = []
-        for name, files in files_by_name(paths, CLAIM).items():
+        # The names of files of rows that station_check printed, and by which command.
+        self.printed: dict[str, str] = {}
+        for name, given in files_by_name(paths, CLAIM).items():
+            files = []
+            for path in given:
+                if command := printed_by(path):
+                    self.printed[name] = command
+                else:
+                    files.append(path)
+            if not files:
+                continue
             field = field_of(name, self.fields)
             self.claims.append(Claim(name, files, is_table(name, files[0]), field))
         # Of each field file its stations, and what is said where it has none.
@@ -212,7 +244,8 @@ class Folder:
                 stations = STATION_LINE.findall(printed) if status == ACCEPTED else []
                 self.stations[run.name] = stations
                 if not stations:
-                    self.said[run.name] = "no station" if status == ACCEPTED else first_line(printed)
+                    says = printed or status != ACCEPTED  # a note, or why it is refused
+                    self.said[run.name] = first_line(printed) if says else "no station"
 
     def why_not(self, claim: Claim) -> str | None:
         """Why a sheet or a table can't be checked, where its name doesn't tell which files belong
@@ -276,6 +309,8 @@ class Folder:
         well."""
         for claim in self.claims:
             print(f"{claim.name}: {self.results[claim.name][1]}")
+        for name, command in self.printed.items():
+            print(f"{name}: rows that 'station_check {command}' printed")
         left = {field: self.left(field) for field in self.fields}
         for field, lines in left.items():
             for said in lines:
@@ -303,7 +338,8 @@ def command_line() -> argparse.ArgumentParser:
         "field files, NAME.gsi, and compares tables of directions, NAME.directions.csv or "
         "NAME.STATION.directions.csv, with them. Each station that 'station_check list' names needs "
         "an accepted sheet or a table that agrees. The answer to each is kept in NAME.answer.",
-        epilog="Exit status: 0 all is accepted, 1 not all, 2 nothing could be checked.",
+        epilog="Exit status: 0 there are field files, each is done, each sheet is accepted and "
+        "each table that was compared agrees, 1 not so, 2 nothing could be checked.",
     )
     parser.add_argument("folder", metavar="FOLDER")
     for option, command in [
@@ -314,6 +350,8 @@ def command_line() -> argparse.ArgumentParser:
     ]:
         text = f"as of 'station_check {command} {option}'"
         parser.add_argument(option, metavar="LIMIT", action="append", default=[], help=text)
+    text = "as of 'station_check compare --degrees': tables are in degrees, and not in gon"
+    parser.add_argument("--degrees", action="count", default=0, help=text)
     parser.add_argument("--jobs", metavar="N", type=int, help="so many at a time")
     return parser
 
@@ -326,6 +364,7 @@ def stated(asked: argparse.Namespace, *names: str) -> list[str]:
 def options_of(asked: argparse.Namespace) -> Options:
     limits = stated(asked, "two-c", "two-i")
     check, compare = [*limits, *stated(asked, "residual")], [*limits, *stated(asked, "within")]
+    compare += ["--degrees"] * asked.degrees
     return Options(limits, check, compare, max(1, asked.jobs or os.cpu_count() or 1))
 
 

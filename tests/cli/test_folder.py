@@ -7,7 +7,18 @@ import unittest
 
 from pages import tools
 from program import ROOT, ProgramTest
-from worked import ACCEPTED, SHEET, STATION, edited, field_file
+from worked import (
+    ACCEPTED,
+    DIFFERENCES,
+    JOB,
+    LIST_ROWS,
+    REPORT_ROWS,
+    RESIDUALS,
+    SHEET,
+    STATION,
+    edited,
+    field_file,
+)
 
 SCRIPT = ROOT / "examples" / "check_folder.py"
 FILES = 1_000
@@ -43,6 +54,21 @@ TABLE = b"A,0.000000\nB,50.000030\n"
 ROUNDED = b"A,0.0000\nB,50.0000\n"
 OFF = b"A,0\nB,50.00005\n"
 AGREES = "agrees S1: 2 targets, within {}"
+
+# The same directions in degrees, in each form; the last two are right to a tenth of a second.
+IN_DEGREES = [
+    b"A,0.000000\nB,45.000027\n",
+    b"A,0-00-00.0\nB,45-00-00.1\n",
+    "A,0°00'00.0\"\nB,45°00'00.1\"\n".encode(),
+]
+
+# The rows that station_check prints of the example, and by which command.
+ROWS = [
+    ("list --csv", "job.list.csv", LIST_ROWS),
+    ("residuals", "job.residuals.csv", RESIDUALS),
+    ("differences", "job.S1.differences.CSV", DIFFERENCES),
+    ("report --csv", "job.report.csv", REPORT_ROWS),
+]
 
 
 def station(number):
@@ -220,6 +246,73 @@ class FolderTest(ProgramTest):
                 self.assertIn(f"{name}: {said}", lines)
                 self.assertFalse((self.folder / "files" / f"{name}.answer").exists())
 
+    def test_rows_that_station_check_printed_are_no_mistake(self):
+        """As they are, as a spreadsheet saves them, and their titles alone."""
+        files, said = {"job.gsi": STATION, "job.csv": SHEET}, f"job: {ACCEPTED_S1}"
+        skipped = [f"{name[:-4]}: rows that 'station_check {by}' printed" for by, name, _ in ROWS]
+        lines = [said, *skipped, SUMMARY.format(1, 1, 1, 0, 0)]
+        for form in [
+            lambda rows: rows,
+            lambda rows: b"\xef\xbb\xbf" + rows.replace(b"\n", b"\r\n"),
+            lambda rows: rows.partition(b"\n")[0],
+        ]:
+            saved = {name: form(rows) for _, name, rows in ROWS}
+            self.assertEqual((0, sorted(lines)), self.sorted_answers({**files, **saved}))
+            kept = [path.name for path in (self.folder / "files").glob("*.answer")]
+            self.assertEqual(["job.answer"], kept)
+
+    def test_rows_that_station_check_printed_do_for_no_sheet(self):
+        missing = f"job: {MISSING.format('S1')}"
+        for command, _, rows in ROWS:
+            with self.subTest(command):
+                skipped = f"job: rows that 'station_check {command}' printed"
+                lines = [skipped, missing, SUMMARY.format(0, 1, 0, 0, 0)]
+                self.assertEqual((1, lines), self.answers({"job.gsi": STATION, "job.csv": rows}))
+        # The sheet beside them is checked, and its refusal shows.
+        for sheet, status in [(SHEET, 0), (WRONG, 1)]:
+            both = {"job.gsi": STATION, "job.CSV": RESIDUALS, "job.csv": sheet}
+            self.assertEqual(status, self.answers(both)[0])
+
+    def test_titles_like_those_of_rows_are_titles_of_a_table(self):
+        for titles in [b"target,stated", b"target,stated,least squares", b"Station,Set,Target"]:
+            with self.subTest(titles):
+                table = titles + b"\n" + TABLE
+                status, lines = self.answers({"job.gsi": STATION, "job.csv": table})
+                self.assertEqual((0, f"job: {AGREES.format(0)}"), (status, lines[0]))
+
+    def test_tables_in_degrees(self):
+        for name, table, within in zip(
+            ["job.directions.csv", "job.csv", "job.S1.csv"], IN_DEGREES, [0, 1, 1]
+        ):
+            with self.subTest(table=table):
+                files = {"job.gsi": STATION, name: table}
+                said = f"{name[:-4]}: {AGREES.format(within)}"
+                lines = [said, SUMMARY.format(1, 1, 0, 0, 0) + TABLES.format(1, 0, 0)]
+                self.assertEqual((0, lines), self.answers(files, "--degrees"))
+                status, lines = self.answers(files)
+                self.assertEqual(1, status)
+                self.assertTrue(lines[-1].endswith(TABLES.format(0, 1, 0)))
+        # Sheets and the limits are what they were.
+        files = {"job.gsi": STATION, "job.csv": SHEET, "job.directions.csv": IN_DEGREES[1]}
+        status, lines = self.answers(files, "--degrees", "--within=0", "--residual=1")
+        said = [f"job: {ACCEPTED_S1}", "job.directions: refused: compare: Apart 1"]
+        self.assertEqual((1, said), (status, lines[:2]))
+
+    def test_a_job_without_codes_is_not_done_and_the_note_of_list_is_printed(self):
+        note = "note: nothing was checked: 8 readings stand in no set; "
+        note += "station_check mark puts codes into a copy"
+        lines = [f"job: {note}", SUMMARY.format(0, 1, 0, 0, 0)]
+        self.assertEqual((1, lines), self.answers({"job.gsi": JOB}))
+        lines = [f"job.directions: {note}", f"job: {note}"]
+        status, said = self.answers({"job.gsi": JOB, "job.directions.csv": TABLE})
+        self.assertEqual((1, lines), (status, said[:2]))
+
+    def test_help_says_of_tables_when_the_status_is_0(self):
+        help_text = " ".join(self.run_script("--help", folder=self.folder)[1])
+        _, _, statuses = " ".join(help_text.split()).partition("Exit status: ")
+        for said in ["0 there are field files, each is done,", "and each table that was compared"]:
+            self.assertIn(said, statuses)
+
     def test_a_table_of_a_station_that_is_not_there_is_refused(self):
         files = {"job.gsi": STATION, "job.S2.directions.csv": TABLE}
         status, lines = self.answers(files)
@@ -314,6 +407,7 @@ class FolderTest(ProgramTest):
         self.assertEqual((2, []), (status, lines))
         self.assertIn(f"cannot write {long}.answer: File name too long", answer)
         mistakes = [["--residual=0.3"], ["--two-c=1", "--two-c=2"], ["--two-x=1"], ["more"], ["--within=x"]]
+        mistakes += [["--degrees", "--degrees"], ["--degrees=yes"]]
         for options in mistakes:
             status, lines, answer = self.run_script(*options)
             self.assertEqual((2, []), (status, lines), options)
