@@ -35,6 +35,12 @@ SEALED = [
     ROOT / "crates" / "exact_adjustment" / "src" / "adjusting.rt",
 ]
 
+# What each crate's page says is trusted: no list of libraries, which would have to follow crates.txt.
+TRUSTED_BY_EACH = (
+    "## Trusted\n\nThe toolchain, with [its contracts](../../README.md#what-is-trusted) of std "
+    "and of the libraries that this crate and those below it call."
+)
+
 # A part of what is trusted, and how many lines it has.
 PART = re.compile(r"^\| \[`[\w.]+`\]\(([\w.]+)\): .* \| (\d+) \|$", re.MULTILINE)
 
@@ -122,6 +128,12 @@ class PagesTest(TimedTest):
         self.assertEqual([SOLVER / "proofs" / "found" / "find" / "Answers.antt"], opened)
         cited = [path for path, text in texts.items() if "modular_solver.proofs" in text]
         self.assertEqual([], [path for path in cited if SOLVER not in path.parents])
+
+    def test_the_page_of_each_crate_says_what_is_trusted(self):
+        for page in ROOT.glob("crates/*/README.md"):
+            if not page.parent.name.startswith("test"):
+                with self.subTest(page.parent.name):
+                    self.assertIn(TRUSTED_BY_EACH, page.read_text())
 
     def test_the_lines_of_what_is_trusted_are_counted(self):
         parts = PART.findall(TRUSTED.read_text())

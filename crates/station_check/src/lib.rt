@@ -1,5 +1,6 @@
-//! The check of a sheet against the field file of its station, from end to end, and what else is
-//! printed of field files.
+//! The library `station_check` (the program of this name is `station_program`): the check of a
+//! sheet against the field file of its station, from end to end, and what else is printed of field
+//! files.
 //!
 //! | Call | Does |
 //! |---|---|

@@ -1,8 +1,8 @@
-//! Checks survey station adjustments against the field file.
+//! The program `station_check`: checks directions and sheets against the field file, and prints the
+//! adjustment.
 //!
-//! The command line says what is asked for; each answer is made by a call of the library
-//! `station_check` over sources of bytes and sinks, whose contract says what it read and wrote. The
-//! promise of the whole program stands at its `check_bytes`.
+//! The words of the command line say what is asked; each answer is a call of a library over sources
+//! and sinks, whose contract says what it read and wrote.
 //!
 //! What is asked of the runtime stands here, in `show`, and in `host.rt`. All between is generic.
 #![tactic(auto)]
