@@ -49,9 +49,10 @@ KeepsLimit station sheet most = IsLimited most (choice_stated_by sheet) (observa
 abbrev pub AtNth : (ℕ → Type 0) → ℕ → Type 0
 AtNth P n = (place : ℕ) × (n ≡ place + 1) × P place
 
--- This fault stands (profile, but for the sums and the connection, which are the textbook's):
--- something is not as it has to be; where the fault has a number, it is the least one of its kind,
--- from 1.
+-- When each fault stands (profile, but for the sums and the connection, which are the textbook's).
+-- Its number is the smallest, from 1, for which it does: of a row that isn't the station's, of a
+-- target or a set whose residuals don't add to 0, of an observation whose residual is above the
+-- limit.
 abbrev pub Stands : StationValue → SheetValue → Option ℕ → KernelFault → Type 0
 Stands station sheet limit Name = sheet.name ≢ station.name
 Stands station sheet limit (TargetRow n) =

@@ -108,7 +108,7 @@ fn check_sums<T: Tally>(tally: T, station: &Station, sheet: &Sheet) -> Result<i1
     Ok(greatest_residual)
 }
 
-/// Nothing where the observations hold all sets and targets together.
+/// `Ok` where the observations hold all sets and targets together; else that fault.
 fn check_connection(station: &Station, sheet: &Sheet) -> Result<(), KernelFault>
     requires matches { Matches station.now sheet.now }
     requires targets { TargetsAddUp station.now sheet.now }
@@ -122,7 +122,7 @@ fn check_connection(station: &Station, sheet: &Sheet) -> Result<(), KernelFault>
     Err(KernelFault::NotConnected)
 }
 
-/// Nothing where each residual is within the limit, if one is stated; if not, the first that isn't.
+/// `Ok` where each residual is within the limit, if one is stated; else the first that isn't.
 fn check_limit(
     station: &Station,
     sheet: &Sheet,

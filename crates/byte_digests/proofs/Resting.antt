@@ -1,4 +1,4 @@
--- Texts that are put into a slice one behind the other.
+-- Texts that are put into a slice one after the other.
 use Rattle.std.proofs.Common.{◌≡◌, ◌+◌, ◌++◌, ◌<◌, ◌∙◌, ℕ, List, length, take, drop, append_assoc}
 use Rattle.std.proofs.Common.{length-append, flat_map, append-nil, sym, ap, subst, add-one, arith}
 use Rattle.std.proofs.Math.Seq.{take-suc}
@@ -9,13 +9,13 @@ use Rattle.std.specs.Prelude.{[], ◌∷◌, slice_index}
 use Rattle.byte_digests.specs.DigestLines.{escaped}
 use Rattle.byte_digests.specs.PutAt.{IsPut}
 
--- Behind a later end is what stayed behind an earlier one.
+-- After a later end is what stayed after an earlier one.
 rest_behind : (old new : List ℕ) (end more : ℕ) → drop end new ≡ drop end old
     → drop (end + more) new ≡ drop (end + more) old
 rest_behind old new end more h =
     sym (drop-drop more end new) ∙ (ap (drop more) h ∙ drop-drop more end old)
 
--- Where a text is put behind what stayed, what is behind it stays.
+-- Where a text is put after what stayed, what is after it stays.
 pub both_rest : (text old now new : List ℕ) (middle end : ℕ) → drop middle now ≡ drop middle old
     → IsPut text middle now new end → drop end new ≡ drop end old
 both_rest text old now new middle end h p =
@@ -32,7 +32,7 @@ next_taken name i lt =
     ∙ ap (λ (l : List ℕ). flat_map escaped (take i name) ++ l)
     (flat_map-cons escaped (slice_index name i) [] ∙ append-nil (escaped (slice_index name i)))))
 
--- Two texts, one behind the other.
+-- Two texts, one after the other.
 both_put : (first second : List ℕ) (at : ℕ) (old now new : List ℕ) (middle end : ℕ)
     → IsPut first at old now middle → IsPut second middle now new end → length now ≡ length old
     → IsPut (first ++ second) at old new end

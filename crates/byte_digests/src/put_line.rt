@@ -13,7 +13,7 @@ use crate::digest_line::{BEFORE_NAME, LINE_FEED, digits_of, escape_of, mark_of};
 pub const MOST_BESIDE_NAME: usize = 1 + BEFORE_NAME + 1;
 
 /// Puts the line of a digest and of the name of its file at the front of a slice, and answers how
-/// many bytes it has; none where it has no room, and then nothing is put. What stands behind the
+/// many bytes it has; none where it has no room, and then nothing is put. What stands after the
 /// line stays.
 pub fn put_digest_line(digest: &[u8; 32], name: &[u8], out: &mut [u8]) -> Option<usize>
     ensures fits { IfSome result (λ end. end ≤ length out.old) }

@@ -11,7 +11,8 @@ pub data Input : Type 0 where
   -- It gave a byte more than the limit.
   RanPast : Input
 
--- A byte past the limit comes before the failure of a source that gives more bytes than the limit.
+-- How a source ends for a reader that stops after `limit` bytes: with more bytes than that it has
+-- run past, whether or not it would fail later.
 abbrev pub input_within : ℕ → Told → Input
 input_within limit t =
     if nat_lt limit (length t.bytes) then RanPast

@@ -9,8 +9,8 @@ use crate::failed::Failed;
 /// A source that has ended or failed is over: no byte comes after that, but the same end or failure
 /// again.
 pub trait Source: Drop {
-    // The bytes left in it and whether it fails after them, where that is known: of a source that
-    // tells from its beginning, and of any other once it is over.
+    // What it will still give, and whether it then fails. `None`: contracts don't know; after an
+    // end or a failure they always do.
     ghost told: { Self → Option Told };
 
     // Whether a read of it has failed.

@@ -31,7 +31,7 @@ pub record AreBroughtNear (targets : ℕ) (c : Choice) (stated : ℕ → ℤ) (m
       (pos 2
       *ℤ (pos parts *ℤ (difference c stated t +ℤ pos (circle_of c) *ℤ circles t) -ℤ rotation))
 
--- The same, within so many units of 0.000001 gon.
+-- `AreBroughtNear`, with the bound in units of 0.000001 gon.
 abbrev pub AreBroughtWithin : ℕ → Choice → (ℕ → ℤ) → ℕ → Type 0
 AreBroughtWithin targets c stated most = AreBroughtNear targets c stated (2 * (PARTS * UNIT) * most)
 

@@ -32,7 +32,7 @@ fn rounded_up(numerator: &Wide, denominator: &Wide) -> u32
 /// That is half the spread of the differences on the circle, rounded up. Stated directions are in
 /// parts, 81 of which are 0.000000001 gon.
 ///
-/// What that says of every least-squares choice of the station, `laws::each_least` tells.
+/// `laws::each_least` says what follows for every least-squares choice.
 pub fn apart_of(adjustment: &Adjustment, stated: &[i64]) -> u32
     requires { length stated.now ≡ length adjustment.now.directions }
     ensures apart { IsApart (length stated.now) (choice_by adjustment.now)

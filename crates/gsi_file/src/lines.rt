@@ -94,7 +94,7 @@ impl<R: Source> Lines<R> {
         Lines::over(alloc, reader).map_err(|_| OutOfMemory)
     }
 
-    /// The same, and where there is no memory the reader is given back.
+    /// What [`Lines::new`] gives, and where there is no memory the reader is given back.
     pub fn over(alloc: Global, reader: R) -> Result<Lines<R>, R>
         ensures unread { IfOk result (λ l. reader_of l ≡ reader) }
         ensures number { IfOk result (λ l. (to_come R.told l).number ≡ 0) }

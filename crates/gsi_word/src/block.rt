@@ -130,7 +130,7 @@ impl<'a> Block<'a> {
         Some((one, other))
     }
 
-    /// The same of any block, in one pass.
+    /// What `find_two` answers, of any block, in one pass.
     #[inline(always)]
     fn search_two(&self, first: u8, second: u8) -> (Found<'a>, Found<'a>)
         ensures first { result.0 ≡ found first (block_of self.now).words }

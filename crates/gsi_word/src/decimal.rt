@@ -30,7 +30,7 @@ pub fn decimal_number(bytes: &[u8]) -> Option<u64>
     }
 }
 
-/// The same, one byte after another.
+/// `decimal_number`, one byte after another.
 // Apart from its caller, so that the ways of eight and of sixteen bytes, which all contents take,
 // stay small.
 #[inline(never)]
@@ -48,7 +48,7 @@ fn number_one_by_one(bytes: &[u8]) -> Option<u64>
     Some(number)
 }
 
-/// The same of eight bytes: one test for all of them.
+/// `decimal_number` of eight bytes: one test for all of them.
 #[inline(always)]
 fn number_of_eight(bytes: &[u8]) -> Option<u64>
     requires { length bytes.now ≡ 8 }
@@ -60,7 +60,7 @@ fn number_of_eight(bytes: &[u8]) -> Option<u64>
     Some(value_of_eight(bytes) as u64)
 }
 
-/// The same of sixteen bytes: one test for all of them, and then each half as eight.
+/// `decimal_number` of sixteen bytes: one test for all of them, and then each half as eight.
 #[inline(always)]
 fn number_of_sixteen(bytes: &[u8]) -> Option<u64>
     requires { length bytes.now ≡ 16 }

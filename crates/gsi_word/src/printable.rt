@@ -35,7 +35,7 @@ fn are_printable(bytes: &[u8]) -> bool
     has_no_unprintable(&bytes[..whole]) && has_no_unprintable(&bytes[bytes.len() - LANES..])
 }
 
-/// The same, in one pass.
+/// What `are_printable` answers, in one pass over all bytes.
 fn has_no_unprintable(bytes: &[u8]) -> bool
     ensures { IsTrue result ↔ All IsLineByte bytes.now }
 {

@@ -76,7 +76,7 @@ numbered_codes bytes at (m ∷ ms) more roomy =
     ∙ (λ i. one_numbered (text_of mark) mark.line_end (text_has_no_end mark roomy.0)
     (text_is_line m.wide m.code) i ++ numbered_codes bytes at ms more roomy.1 i)
 
--- each code line stands at this place or behind it
+-- each code line stands at this place or after it
 abbrev AreBehind : ℕ → List Mark → Type 0
 AreBehind at ms = AllByRecursion (λ m. at ≤ m.at) ms
 

@@ -89,7 +89,8 @@ module _ (station : Option (List ℕ)) (bytes : List ℕ) (fails : Bool) (m : Ma
         let lines = numbered_lines bytes in
         let h = marking.blocks in
         subst (λ (g : History). IsFoundAsDivided station h g)
-        (one_history (copy_of bytes m) (copy_history station h) copy copy_has_blocks blocks) (record {
+        (one_history (copy_of bytes m) (copy_history station h) copy copy_has_blocks blocks)
+        (record {
           found = found_as_divided station lines h file_blocks is marking.clean;
           faults = λ limits. no_fault_of_codes limits station lines h file_blocks is marking.clean;
           end = no_fault_at_end station lines h file_blocks is marking.clean;

@@ -107,7 +107,7 @@ of_sets n (set ∷ sets) more =
     (of_more set (one_after_another sets ++ more) (marks_of_sets (suc n) sets)
     (of_sets (suc n) sets more)))
 
--- The sets in the copy, and the blocks behind them.
+-- The sets in the copy, and the blocks after them.
 pub record SetsDone (name : List ℕ) (k : ℕ) (sets : List (List Sight)) (later : List Sight)
     (ms : List BlockMark) (n : ℕ) (bs : List GsiBlock)
     : Type 0 where

@@ -12,7 +12,7 @@ use Rattle.set_marks.specs.declared.line_end.LineEnd.TheVariants.{LineFeed, Carr
 use Rattle.set_marks.specs.Lines.{end_bytes}
 use Rattle.set_marks.proofs.WholeLines.{LastEnds}
 
--- The parts of a piece that ends a line, and of the piece with more behind it.
+-- The parts of a piece that ends a line, and of the piece with more after it.
 record HasParts (a b : List ℕ) : Type 0 where
   pub first : List ℕ
   pub more : List (List ℕ)
@@ -64,7 +64,7 @@ one_numbered text Both none line =
 pub one_part : (text : List ℕ) → HasNoEnd text → parts text ≡ text ∷ []
 one_part text none = slice_split_none is_line_end text none
 
--- The first part of some bytes, and what stands behind it.
+-- The first part of some bytes, and what stands after it.
 pub record IsCut (tail part : List ℕ) (more : List (List ℕ)) : Type 0 where
   pub end : ℕ
   pub rest : List ℕ

@@ -170,7 +170,7 @@ names_with names (r ∷ rs) = names_with (with_new names r.target) rs
 abbrev pub targets_of : List Sight → List (List ℕ)
 targets_of rs = names_with [] rs
 
--- After the last reading of a target that is among these: what stands behind it are detail points.
+-- After the last reading of a target that is among these: what stands after it are detail points.
 abbrev pub end_of : List (List ℕ) → ℕ → ℕ → List Sight → ℕ
 end_of known end at [] = end
 end_of known end at (r ∷ rs) =

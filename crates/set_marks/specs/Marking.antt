@@ -83,7 +83,7 @@ close_mark in_set rs = if in_set then mark_at (slice_get rs 0) Close else []
 
 -- A station with sets, after so many leading readings, where a set of an earlier station is open or
 -- not: code 30 before the leading readings, which are in no set; code 10 and 20 before the first
--- set; code 20 before each other one; and code 30 after the last, where readings stand behind it.
+-- set; code 20 before each other one; and code 30 after the last, where readings stand after it.
 abbrev pub sets_marks : Bool → Occupation → ℕ → List BlockMark
 sets_marks in_set s leading =
     close_mark (in_set && nat_lt 0 leading) s.sights

@@ -17,7 +17,7 @@ pub fn marked_copy(alloc: Global, bytes: &[u8], marks: &[Mark]) -> Result<Vec<u8
     weave(alloc, bytes, marks)
 }
 
-/// The same: the bytes up to each place, and its code line.
+/// The bytes up to each place, and its code line; and the rest.
 fn weave(alloc: Global, bytes: &[u8], marks: &[Mark]) -> Result<Vec<u8>, AllocError>
     requires { AreOrdered 0 (length bytes.now) marks.now }
     ensures { IfOk result (λ copy. copy.items ≡ woven 0 bytes.now marks.now) }

@@ -29,7 +29,7 @@ pub(crate) fn flaw_at(kind: MarkKind, sight: Option<&Sight>) -> Flaw
     }
 }
 
-/// The same, where the test says so.
+/// What `flaw_at` answers, where the test says so.
 pub(crate) fn flaw_when(test: bool, kind: MarkKind, sight: Option<&Sight>) -> Option<Flaw>
     ensures { result ≡ flaw_when test kind (option_map (λ s. s.now) sight.entry) }
 {
@@ -40,7 +40,7 @@ pub(crate) fn flaw_when(test: bool, kind: MarkKind, sight: Option<&Sight>) -> Op
     }
 }
 
-/// The same, at a reading that was found, if one was.
+/// What `flaw_at` answers, at a reading that was found, if one was.
 pub(crate) fn flaw_found(kind: MarkKind, sight: Option<&Sight>) -> Option<Flaw>
     ensures { result ≡ flaw_found kind (option_map (λ s. s.now) sight.entry) }
 {

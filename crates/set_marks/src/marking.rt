@@ -61,7 +61,7 @@ fn station_fault(names: &mut Names, name: &Name, sights: &[Sight], divided: Divi
     }
 }
 
-/// The same, where its readings are sets after so many leading ones.
+/// The fault of a station whose readings are sets after so many leading ones.
 fn sets_fault(names: &mut Names, name: &Name, sights: &[Sight], leading: usize) -> Option<Flaw>
     ensures fault { result ≡ station_fault names.old
         (record { name = name.now; sights = sights.now }) (Sets leading) }

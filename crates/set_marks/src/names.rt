@@ -95,7 +95,7 @@ impl Names {
         self.is_beside(name) || self.is_kept(name)
     }
 
-    /// The same, by the hash of the name.
+    /// What `has` answers, by the hash of the name.
     fn is_kept(&mut self, name: &Name) -> bool
         ensures value { result ≡ is_among self.old name.now }
         ensures unchanged { self.new ≡ self.old }
@@ -121,7 +121,7 @@ impl Names {
         self.insert(*name)
     }
 
-    /// The same, by the hash of the name.
+    /// Adds a name as `add` does, by its hash.
     fn insert(&mut self, name: Name) -> Result<bool, AllocError>
         ensures known { IfOk result (λ known. known ≡ is_among self.old name) }
         ensures added { OnOk result (self.new ≡ with_new self.old name) }

@@ -265,7 +265,7 @@ pub(crate) fn readings_of(
     read_lines(alloc, &mut lines, station)
 }
 
-/// The same of the lines that are still to come.
+/// What `readings_of` answers, of the lines that are still to come.
 fn read_lines<R: Source>(
     alloc: Global,
     lines: &mut Lines<R>,

@@ -253,7 +253,7 @@ fn flaw_of_few(set: &[Sight]) -> Option<Flaw>
     }
 }
 
-/// The same, where their targets are kept.
+/// What `flaw_of_few` answers, where the targets that were read are kept in a table.
 fn flaw_of_many(alloc: Global, set: &[Sight]) -> Result<Option<Flaw>, AllocError>
     ensures { IfOk result (λ o. o ≡ readings_flaw set.now) }
 {
@@ -315,8 +315,8 @@ pub(crate) fn is_clean(alloc: Global, first: &[Sight]) -> Result<bool, AllocErro
     Ok(set_flaw(alloc, first, first)?.is_none())
 }
 
-/// The same, where it is known whether the first set has no flaw. Then no other has one that
-/// repeats it.
+/// What `set_flaw` answers, where it is known whether the first set has no flaw. Then no other has
+/// one that repeats it.
 pub(crate) fn later_flaw(
     alloc: Global,
     first: &[Sight],

@@ -1,8 +1,8 @@
 //! The sheet as far as its rows were read.
 //!
-//! A draft takes the rows one by one and keeps the entry of each. What may come next follows from
-//! the entries that it has, so it keeps no other state. Each entry is tested when it is taken and
-//! never again: the entries of a draft keep the rules of a sheet's.
+//! A draft takes the rows one by one and keeps the entry of each. The entries say what may come
+//! next; there is no other state. Each entry is tested when it is taken and never again: the
+//! entries of a draft keep the rules of a sheet's.
 
 ghost use Rattle.std.specs.Prelude.{◌≡◌, ◌≤◌, if◌then◌else◌, length, None, Some, IfErr, IfNone};
 ghost use Rattle.std.specs.Prelude.{IfSome, OnOk};

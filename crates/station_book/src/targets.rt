@@ -54,8 +54,8 @@ pub(crate) enum Placed {
     Added,
 }
 
-/// The place beside this one: in face II the one before it, else the one after it. Whatever it
-/// answers, what is looked for there is compared: it changes the speed alone.
+/// Where the next reading is expected: after this place in face I, before it in face II. A guess,
+/// for speed: the name is compared.
 #[inline(always)]
 fn beside(place: usize, face: Face) -> usize {
     match face {

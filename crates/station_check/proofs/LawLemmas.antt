@@ -13,7 +13,7 @@ pub use Rattle.station_check.proofs.OneVerdict.{some_outcome, one_outcome, one_v
 pub use Rattle.station_check.proofs.Refusals.{refusal}
 pub use Rattle.station_check.proofs.SomeVerdict.{some_verdict}
 
--- The station of a name of a surveyed file is that of its lines, and no other is.
+-- The station that is found under a name is exactly the one that the file's lines define.
 pub station_of_file : (limits : FaceLimits) (file : FileAnswers) (name : List ℕ)
     (its : SurveyedStation) → AreLimits limits
     → HasStation limits file name its ↔ IsStationOfFile limits file name its

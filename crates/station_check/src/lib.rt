@@ -4,15 +4,16 @@
 //!
 //! | Call | Does |
 //! |---|---|
-//! | `check_bytes` | accepts a sheet, or answers the first fault of the field file or of the sheet |
+//! | `check_bytes` | accepts a sheet, or answers the first fault of the field file or the sheet |
 //! | `check_slices` | the same of bytes that are at hand |
 //! | `write_means` | writes the sheet of a station whose sets are complete: means |
 //! | `write_list` | writes the stations of a field file, their directions and face differences |
 //! | `write_words` | writes the words of a field file |
 //! | `check_sources` | as `check_bytes`, and gives the field file's reader back |
-//! | `stations_of_file` | the stations of a field file, for what else is made of them, and its reader |
-//! | `noted_stations_of_file`, `note_unchecked` | the same, and how many readings stand in no set; and the note of these |
-//! | `run_check`, `run_means`, `run_list`, `run_words` | the same as commands: a line of the verdict or the text, the line of a refusal, and the exit status |
+//! | `stations_of_file` | the stations of a field file, for other libraries, and its reader |
+//! | `noted_stations_of_file` | the same, and how many readings stand in no set |
+//! | `note_unchecked` | notes how many these are |
+//! | `run_check`, `run_means`, `run_list`, `run_words` | the commands: text and exit status |
 //!
 //! Each reads its bytes from a `Source` and writes to a `Sink`, which may be a file, a slice, or
 //! what a caller makes of them. The promise of the whole is the contract of `check_bytes`.

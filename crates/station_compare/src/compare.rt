@@ -62,7 +62,7 @@ pub fn compare_sources<R: Source, Q: Source>(
     ensures { IsComparison unit limits within (reader_change R.told R.failed R.gave gsi result.1)
         (reader_change Q.told Q.failed Q.gave table.old table.new) name.now result.0 }
 {
-    // The promise rests on laws of limits that were made.
+    // For the proof alone: limits keep their bounds.
     limits.recall();
     let (surveyed, gsi) = stations_of_file(alloc, gsi, limits);
     let stations = match surveyed {
@@ -76,7 +76,7 @@ pub fn compare_sources<R: Source, Q: Source>(
     (answer, gsi)
 }
 
-/// The same of what comes of the table's reader, for the station.
+/// Compares the table that its reader gives with the adjustment of the station.
 fn compare_station<Q: Source>(
     alloc: Global,
     station: &Station,
@@ -93,7 +93,7 @@ fn compare_station<Q: Source>(
     compare_table(alloc, station, &bytes, unit, within)
 }
 
-/// The same of the bytes of the table.
+/// Compares the table that these bytes are with the adjustment of the station.
 fn compare_table(
     alloc: Global,
     station: &Station,

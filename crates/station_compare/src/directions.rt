@@ -39,7 +39,7 @@ pub fn directions_text<R: Source>(
         (λ text. StatesDirections limits file name.now decimals text.items)
         (HasNoDirections limits file name.now))) }
 {
-    // The promise rests on laws of limits that were made.
+    // For the proof alone: limits keep their bounds.
     limits.recall();
     let (surveyed, _gsi) = stations_of_file(alloc, gsi, limits);
     let stations = surveyed?;

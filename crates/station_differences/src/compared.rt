@@ -54,7 +54,7 @@ pub fn target_differences(
     Ok(differences_by(alloc, station.targets(), &adjustment, stated)?)
 }
 
-/// The same by an adjustment, of these targets.
+/// What [`target_differences`] answers, by an adjustment, of these targets.
 ///
 /// The only error is that memory was refused.
 pub fn differences_by(

@@ -52,7 +52,7 @@ pub fn differences_text<R: Source, Q: Source>(
         (λ text. StatesDifferences unit limits file stated name.now text.items)
         (HasNoDifferences unit limits file stated name.now))) }
 {
-    // The promise rests on laws of limits that were made.
+    // For the proof alone: limits keep their bounds.
     limits.recall();
     let (surveyed, _gsi) = stations_of_file(alloc, gsi, limits);
     let stations = surveyed?;

@@ -3,11 +3,11 @@
 //!
 //! | Call | Does |
 //! |---|---|
-//! | `mark_bytes` | finds where codes are put into the field file that a reader gives, or answers its first fault |
+//! | `mark_bytes` | finds where codes are put into a field file, or answers its first fault |
 //! | `mark_source` | the same, and gives the reader back |
 //! | `notes_text` | what is told of the stations of a marked file |
 //! | `refusal_line` | the line of a refusal |
-//! | `run_mark` | the command: the copy on `out`, the notes or the line of a refusal on `err`, and the exit status |
+//! | `run_mark` | the command: the copy on `out`, the notes or the refusal on `err`, the status |
 //!
 //! The rule by which codes are put in is `set_marks`.
 #![tactic(auto)]

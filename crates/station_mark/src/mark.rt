@@ -53,7 +53,7 @@ pub fn mark_source<R: Source>(
     }
 }
 
-/// The same of what a reader gave.
+/// Marks what a reader gave.
 fn mark_given(alloc: Global, given: Given, station: Option<Name>) -> Result<MarkedFile, MarkFault>
     ensures answers { AnswersMark station given.bytes.items
         (file_answers (record { bytes = given.bytes.items; fails = given.fails }))

@@ -2,16 +2,16 @@
 //!
 //! | Export | Does |
 //! |---|---|
-//! | `station_page_check` | checks a sheet against a field file, and hands out the line of the verdict |
+//! | `station_page_check` | checks a sheet against a field file: the line of the verdict |
 //! | `station_page_list` | hands out the list of a field file's stations |
 //! | `station_page_means` | hands out the sheet of means of a station |
 //! | `station_page_words` | hands out the words of a field file |
 //! | `station_page_directions` | hands out the table of a station's least-squares directions |
 //! | `station_page_residuals` | hands out the residuals of a station, observation by observation |
 //! | `station_page_report` | hands out the report of a station's sets |
-//! | `station_page_compare` | compares a table of directions, and hands out the line of the answer |
-//! | `station_page_differences` | hands out the differences of a table of directions, target by target |
-//! | `station_page_mark` | hands out a copy of a field file with codes put in, and what was recognized |
+//! | `station_page_compare` | compares a table of directions: the line of the answer |
+//! | `station_page_differences` | hands out the differences of a table, target by target |
+//! | `station_page_mark` | hands out a copy with codes put in, and what was recognized |
 //! | `station_page_digest` | hands out the line of a file's SHA-256 digest |
 //! | `station_page_explain` | hands out what the fault means that a text names |
 //!

@@ -31,7 +31,7 @@ module _ (obs : List Obs) (set target : ℕ) (ordered : AllPairs IsBefore obs) w
       → P (get_or obs i e)
   of_any P i d e inside p = subst P (get_or_default obs i d e inside) p
 
-  -- The front lies behind an observation in the middle that stands before.
+  -- The front lies after an observation in the middle that stands before.
   pub front_after : (low high middle : ℕ) (d : Obs) → IsFront obs set target low high
       → low ≤ middle → middle < high → StandsBefore set target (get_or obs middle d)
       → IsFront obs set target (middle + 1) high

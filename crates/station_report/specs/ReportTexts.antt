@@ -115,7 +115,8 @@ directions_text station directions =
 
 -- the residual of the observation at a place
 abbrev pub residual_at : List AdjustedObs → ℕ → ℤ
-residual_at rows place = slice_index_or (map (λ (row : AdjustedObs). row.residual) rows) place (pos 0)
+residual_at rows place =
+    slice_index_or (map (λ (row : AdjustedObs). row.residual) rows) place (pos 0)
 
 -- the place of the observation of a set and a target, if there is one
 abbrev pub place_of : StationValue → ℕ → ℕ → Option ℕ

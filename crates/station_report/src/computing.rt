@@ -33,7 +33,7 @@ pub fn computed_of(alloc: Global, station: &Station) -> Result<Computed, AdjustE
     Ok(computed_by(alloc, station, &adjustment)?)
 }
 
-/// The same by an adjustment of the station.
+/// What `computed_of` answers, by an adjustment of the station.
 pub(crate) fn computed_by(
     alloc: Global,
     station: &Station,

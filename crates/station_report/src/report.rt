@@ -59,7 +59,7 @@ pub fn report_of_source<R: Source>(
         (λ text. StatesReport path.now limits file name.now text.items)
         (HasNoDirections limits file name.now)) }
 {
-    // The promise rests on laws of limits that were made.
+    // For the proof alone: limits keep their bounds.
     limits.recall();
     let (surveyed, gsi) = stations_of_file(alloc, gsi, limits);
     let stations = match surveyed {

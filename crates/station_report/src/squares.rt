@@ -61,7 +61,7 @@ fn wholes_of(alloc: Global, angles: &[Wide], denominator: &Wide) -> Result<Vec<u
     Ok(wholes)
 }
 
-/// The same sum, by the whole half units of the directions and the orientations.
+/// The sum of `squares_of`, by the whole half units of the directions and the orientations.
 fn squares_by(
     station: &Station,
     adjustment: &Adjustment,

@@ -38,7 +38,7 @@ pub fn residuals_text<R: Source>(
         (λ text. StatesResiduals limits file name.now text.items)
         (HasNoDirections limits file name.now))) }
 {
-    // The promise rests on laws of limits that were made.
+    // For the proof alone: limits keep their bounds.
     limits.recall();
     let (surveyed, _gsi) = stations_of_file(alloc, gsi, limits);
     let stations = surveyed?;

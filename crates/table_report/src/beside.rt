@@ -62,7 +62,7 @@ fn report_beside(
     Ok(report_by(alloc, asked, surveyed, &adjustment, stated, limit)?)
 }
 
-/// The same by an adjustment of the station.
+/// The report of `report_beside`, by an adjustment of the station.
 fn report_by(
     alloc: Global,
     asked: &Asked<'_>,

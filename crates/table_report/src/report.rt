@@ -50,7 +50,7 @@ pub fn table_report_of_sources<R: Source, Q: Source>(
         (λ report. StatesTableReport (asked_of asked.now) file stated (value_of report))
         (HasNoDifferences asked.now.unit asked.now.limits file stated asked.now.station.now)) }
 {
-    // The promise rests on laws of limits that were made.
+    // For the proof alone: limits keep their bounds.
     asked.limits.recall();
     let (surveyed, gsi) = stations_of_file(alloc, gsi, asked.limits);
     let stations = match surveyed {

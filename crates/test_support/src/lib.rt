@@ -4,7 +4,7 @@
 //! |---|---|
 //! | `Recovers` | a reader that fails or ends once, and goes on after |
 //! | `Resumes` | a writer that fails once, and goes on after |
-//! | `hoard`, `hoard_of_all_but` | all memory, in `BLOCKS` blocks at most, so that what a call asks for is refused |
+//! | `hoard`, `hoard_of_all_but` | all memory, in few blocks, so that what is asked is refused |
 #![tactic(auto)]
 
 mod memory;

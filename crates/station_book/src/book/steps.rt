@@ -44,7 +44,7 @@ impl Book {
         }
     }
 
-    /// Takes a block: what is kept after it, and its fault, are those of what was kept before.
+    /// Takes a block: `after` and `fault_of` say what becomes of the book, or why it is refused.
     #[inline(always)]
     pub(super) fn take_block(&mut self, block: &Block<'_>) -> Result<(), BookFault>
         requires { self.old.taken < MOST_BLOCKS }
@@ -233,7 +233,7 @@ impl Book {
         }
     }
 
-    /// Ends the file: the stations, and the fault of the end, are those of what is kept.
+    /// Ends the file: the stations kept, or the fault of a set that may not end.
     pub(super) fn finish_stations(self) -> Result<Stations, BookFault>
         ensures clean { OnOk result (ending self.stage self.stations ≡ None) }
         ensures ok { IfOk result (λ s. s ≡ surveys_of self.stations) }

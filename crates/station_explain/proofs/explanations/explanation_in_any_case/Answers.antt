@@ -7,7 +7,8 @@ use Rattle.station_explain.proofs.explanations.explanation_in_any_case.Goals as 
 pub entries-preserved : goal.entries-preserved
 entries-preserved c =
     All-more (LacksNameInAnyCase c.args.name.now) c.args.entries.now c.entries.entry-index _
-    (omega arith) c.entries.invariant (c.has_name_in_any_case.ensures.missing c.if-has_name_in_any_case.false)
+    (omega arith) c.entries.invariant
+    (c.has_name_in_any_case.ensures.missing c.if-has_name_in_any_case.false)
 
 pub returns-clause-missing : goal.returns-clause-missing
 returns-clause-missing c =
