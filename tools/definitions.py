@@ -1,9 +1,9 @@
 """Makes docs/DEFINITIONS.md from the comments in specs/: `python3 tools/definitions.py`.
 
-The page has what the promise of an acceptance rests on, then that of an agreement, and then those of
-differences, of residuals and of reports: the file of each promise and all that it cites, however far, in
-reading order, with the comment that it begins with. Those of records are there for an acceptance; of the
-other promises for the file of the promise alone. The other definitions are read where they stand.
+The page has what the promise of an acceptance rests on, and then that of an agreement: the file of
+the promise and all that it cites, however far, in reading order, with the comment that it begins with.
+Those of records are there for an acceptance; of an agreement for the file of the promise alone. Of the
+other answers it has the names of the files. The other definitions are read where they stand.
 """
 
 import re
@@ -20,11 +20,15 @@ CONTRACT = [
     ("station_check", "Promise"),
 ]
 AGREEMENT = ("station_compare", "Agreeing")
-DIFFERENCES = ("station_differences", "Stating")
-RESIDUALS = ("station_residuals", "Stating")
-REPORT = ("station_report", "Stating")
-TABLE_REPORT = ("table_report", "Stating")
-REPORT_ROWS = ("report_rows", "Stating")
+
+# The promises of what is printed, each after those whose files it shares.
+PRINTED = {
+    "differences": ("station_differences", "Stating"),
+    "residuals": ("station_residuals", "Stating"),
+    "report": ("station_report", "Stating"),
+    "report --table": ("table_report", "Stating"),
+    "report --csv": ("report_rows", "Stating"),
+}
 
 USE = re.compile(r"^use Rattle\.(\w+)\.specs\.(\w+)(?:\.|$| as)", re.MULTILINE)
 DEFINITION = re.compile(r"^(?:abbrev|unfoldable) pub ([^\s:]+)|^pub (?:record|data) ([^\s:]+)")
@@ -197,6 +201,39 @@ def belief_beside(title: str, says: str, specs: list[Spec], known: list[Spec]) -
     yield from in_words(more, specs[-1:])
 
 
+def belief_of_printed(known: list[Spec]) -> Iterator[str]:
+    """What has to be believed of what is printed, a line for each command."""
+    yield "## What you have to believe of what is printed\n"
+    yield (
+        "What a command prints means what the first file of its line says. That file rests on files "
+        "above and on those that the line names, and on no others.\n"
+    )
+    known = list(known)
+    for command, root in PRINTED.items():
+        *cited, promise = [spec for spec in closure(Spec(*root)) if spec not in known]
+        lines = sum(spec.lines() for spec in [*cited, promise])
+        yield f"- What `{command}` prints: {named([promise, *cited])}; {lines} lines."
+        known += [*cited, promise]
+    yield ""
+
+
+def named(specs: list[Spec]) -> str:
+    """The names of files, the first one with a link: those of a crate together, and crates that have
+    files of one name alone."""
+    crates: dict[str, list[str]] = {}
+    for spec in specs[1:]:
+        crates.setdefault(f"`{spec.module}`", []).append(f"`{spec.crate}`")
+    modules: dict[str, list[str]] = {f"`{specs[0].crate}`": [specs[0].link]}
+    for module, owners in crates.items():
+        modules.setdefault(listed(owners), []).append(module)
+    return "; ".join(f"{listed(names)} of {owners}" for owners, names in modules.items())
+
+
+def listed(words: list[str]) -> str:
+    """Words as a sentence lists them: a, b and c."""
+    return " and ".join(filter(None, [", ".join(words[:-1]), words[-1]]))
+
+
 def in_words(specs: list[Spec], whole: list[Spec]) -> Iterator[str]:
     """What files of definitions are about, by crate; of these `whole` ones with their records."""
     crate = None
@@ -220,34 +257,14 @@ What refusals, lists and texts are, and how the code keeps things: no acceptance
 
 def page() -> str:
     contract = [Spec(*pair) for pair in CONTRACT]
-    roots = ACCEPTANCE, AGREEMENT, DIFFERENCES, RESIDUALS, REPORT, TABLE_REPORT, REPORT_ROWS
-    accepted, agreement, differences, residuals, report, beside, rows = (
-        closure(Spec(*root)) for root in roots
-    )
+    accepted, agreement = closure(Spec(*ACCEPTANCE)), closure(Spec(*AGREEMENT))
     known = [*accepted, *contract]
-    compared = [*known, *agreement]
     believed = [
         *belief(accepted),
         *belief_of_contract(contract),
         *belief_beside("an agreement", "That a table of directions agrees", agreement, known),
         HOW_NEAR,
-        *belief_beside("differences", "What `differences` prints", differences, compared),
-        *belief_beside("residuals", "What `residuals` prints", residuals, [*compared, *differences]),
-        *belief_beside(
-            "a report", "What `report` prints", report, [*compared, *differences, *residuals]
-        ),
-        *belief_beside(
-            "a report with a table",
-            "What `report --table` prints",
-            beside,
-            [*compared, *differences, *residuals, *report],
-        ),
-        *belief_beside(
-            "the rows of a report",
-            "What `report --csv` prints",
-            rows,
-            [*compared, *differences, *residuals, *report, *beside],
-        ),
+        *belief_of_printed([*known, *agreement]),
     ]
     return "\n".join([INTRODUCTION, *believed, EVERY_READER, OTHERS])
 

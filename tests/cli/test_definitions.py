@@ -19,8 +19,7 @@ ALIKE = {"refusal_line"}
 
 def promised():
     """The files that the promises rest on."""
-    beside = [definitions.DIFFERENCES, definitions.RESIDUALS, definitions.REPORT]
-    firsts = [definitions.ACCEPTANCE, definitions.AGREEMENT, *beside]
+    firsts = [definitions.ACCEPTANCE, definitions.AGREEMENT, *definitions.PRINTED.values()]
     closures = [definitions.closure(definitions.Spec(*first)) for first in firsts]
     return dict.fromkeys(spec for closure in closures for spec in closure)
 
