@@ -3,8 +3,6 @@
 A fenced block `console` has commands, each after `$ `, and under each what it prints on standard
 output and standard error; a line `..` stands for any number of lines. A backslash at the end of a
 line continues a command. The commands of a page are run one after the other by one shell.
-
-`python3 tests/support/pages.py PAGE` writes what the commands print now into a page, where it differs.
 """
 
 import os
@@ -95,22 +93,3 @@ def checked(path: Path) -> list[tuple[Step, str]]:
     steps = page_steps(path.read_text())
     with tempfile.TemporaryDirectory() as top:
         return list(zip(steps, printed_by(steps, copied(path, Path(top)))))
-
-
-def mended(path: Path) -> str:
-    """The page with what its commands print now."""
-    answers = iter(checked(path))
-
-    def block(found: re.Match[str]) -> str:
-        mended = [
-            f"$ {step.command}\n{step.printed if step.fits(printed) else printed}"
-            for step, (_, printed) in zip(steps_of(found[1]), answers)
-        ]
-        return f"```console\n{''.join(mended)}```"
-
-    return BLOCK.sub(block, path.read_text())
-
-
-if __name__ == "__main__":
-    for name in sys.argv[1:]:
-        Path(name).write_text(mended(Path(name)))

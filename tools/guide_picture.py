@@ -1,14 +1,17 @@
-"""Makes the picture of the page in the guide anew: `python3 tests/page/guide_picture.py`.
+"""Makes the picture of the page in the guide anew: `python3 tools/guide_picture.py`.
 
 The page has to be made before, and a Chromium has to be there. Look at the picture before you keep
 it.
 """
 
+import sys
 from pathlib import Path
+
+ROOT = Path(__file__).resolve().parents[1]
+sys.path.insert(0, str(ROOT / "tests" / "page"))
 
 import browser
 
-ROOT = Path(__file__).resolve().parents[2]
 PAGE = ROOT / "build" / "station_check.html"
 EXAMPLE = ROOT / "examples" / "station_p7"
 PICTURE = ROOT / "docs" / "page.png"
