@@ -3,8 +3,8 @@
 #
 #     sh capi/link.sh ARCHIVE LIBRARY
 #
-# The exports get the names of station_check.h, and nothing else is shown. Memory is the C library's:
-# the kit's heap calls its malloc, realloc and free.
+# The exports get the names of station_check.h, and nothing else is shown. Memory is the C
+# library's: the kit's heap calls its malloc, realloc and free.
 set -eu
 
 here=$(dirname "$0")

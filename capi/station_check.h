@@ -3,13 +3,13 @@
  * Whole files and numbers go in, a status and a text come out. docs/LIBRARY.md has an example, and
  * docs/FORMATS.md the files and texts, byte by byte. Link with -lstation_check.
  *
- * Buffers are the caller's: a call reads `length` bytes at a pointer, which is never null, and keeps
- * no pointer when it returns. No two buffers of a call overlap. The library takes memory by malloc,
- * and gives all of it back. Calls on several threads may run at the same time. A call is not made
- * from a signal handler, nor in the child that a process with threads forked.
+ * Buffers are the caller's: a call reads `length` bytes at a pointer, which is never null, and
+ * keeps no pointer when it returns. No two buffers of a call overlap. The library takes memory by
+ * malloc, and gives all of it back. Calls on several threads may run at the same time. A call is
+ * not made from a signal handler, nor in the child that a process with threads forked.
  *
- * Texts: `text` has room for `room` bytes. The call writes the text to its beginning, without a zero
- * at the end, and its length to `*length`. Where there is too little room nothing is written but
+ * Texts: `text` has room for `room` bytes. The call writes the text to its beginning, without a
+ * zero at the end, and its length to `*length`. If there is too little room nothing is written but
  * the length 0, and the status is 3: call again with more.
  * STATION_CHECK_LINE bytes are enough for each line of station_check_check and
  * station_check_compare; any other text may have more bytes than the files.
@@ -34,7 +34,7 @@ extern "C" {
 /* What a call answers. */
 enum {
     STATION_CHECK_DONE = 0,            /* accepted, agrees, or written: the text says it */
-    STATION_CHECK_REFUSED = 1,         /* the text is the line of the refusal, with the first fault */
+    STATION_CHECK_REFUSED = 1,         /* the text is the line of the refusal */
     STATION_CHECK_OUT_OF_RANGE = 2,    /* a number or a name is out of its range: no text */
     STATION_CHECK_TOO_LITTLE_ROOM = 3  /* the text has more bytes than there is room for: no text */
 };
@@ -53,24 +53,26 @@ uint8_t station_check_check(const void *gsi, size_t gsi_length,
                             char *text, size_t room, size_t *length);
 
 /* Compares a table of directions with the least-squares ones of a station. The text is the line of
- * the agreement or of the refusal. `within` is how far they may be apart, in units of 0.001 mgon, at
- * most 1,000,000; where none is stated, what is usual for the decimals of the table. */
+ * the agreement or of the refusal. `within` is how far they may be apart, in units of 0.001 mgon,
+ * at most 1,000,000; if none is stated, what is usual for the decimals of the table. */
 uint8_t station_check_compare(const void *gsi, size_t gsi_length,
                               const void *table, size_t table_length,
                               const char *station, size_t station_length,
                               uint32_t two_c, uint32_t two_i, bool is_stated, uint32_t within,
                               char *text, size_t room, size_t *length);
 
-/* The differences of a table of directions from the least-squares ones of a station: a row of titles,
- * and a row for each target, with what the table states and the least-squares direction in gon, and
- * their difference in mgon after the rotation that makes the largest smallest, exactly rounded. */
+/* The differences of a table of directions from the least-squares ones of a station: a row of
+ * titles, and a row for each target, with what the table states and the least-squares direction in
+ * gon, and their difference in mgon after the rotation that makes the largest smallest, exactly
+ * rounded. */
 uint8_t station_check_differences(const void *gsi, size_t gsi_length,
                                   const void *table, size_t table_length,
                                   const char *station, size_t station_length,
                                   uint32_t two_c, uint32_t two_i,
                                   char *text, size_t room, size_t *length);
 
-/* The table of a station's least-squares directions, in gon with 1 to 8 decimals, exactly rounded. */
+/* The table of a station's least-squares directions, in gon with 1 to 8 decimals, exactly
+ * rounded. */
 uint8_t station_check_directions(const void *gsi, size_t gsi_length,
                                  const char *station, size_t station_length,
                                  uint32_t two_c, uint32_t two_i, uint32_t decimals,
@@ -85,8 +87,8 @@ uint8_t station_check_residuals(const void *gsi, size_t gsi_length,
 
 /* The report of a station's sets: what was read in both faces, the least-squares directions, the
  * residuals, the greatest of them, and the standard deviation of one two-face direction, exactly
- * rounded. It names the field file by `path`, which may be any bytes: they are escaped as in the line
- * of a digest. */
+ * rounded. It names the field file by `path`, which may be any bytes: they are escaped as in the
+ * line of a digest. */
 uint8_t station_check_report(const void *gsi, size_t gsi_length,
                              const char *path, size_t path_length,
                              const char *station, size_t station_length,
@@ -105,7 +107,7 @@ uint8_t station_check_list(const void *gsi, size_t gsi_length,
                            char *text, size_t room, size_t *length);
 
 /* The words of a field file, one a line. At a fault of the file `text` has the words before it, and
- * `refusal` the line of the refusal; else that is empty. The status is 3 where either has too little
+ * `refusal` the line of the refusal; else that is empty. The status is 3 if either has too little
  * room. */
 uint8_t station_check_words(const void *gsi, size_t gsi_length,
                             char *text, size_t room, size_t *length,

@@ -12,8 +12,8 @@ without its line feed, and raises Refused where the command refuses. Limits have
 command's options; one that is out of its range, or a name that no station can have where it must be
 one, is a ValueError.
 
-The library is the one that STATION_CHECK_LIBRARY names, else that of the installation which this file
-belongs to, else the one that the system finds.
+The library is the one that STATION_CHECK_LIBRARY names, else that of the installation which this
+file belongs to, else the one that the system finds.
 """
 
 from __future__ import annotations
@@ -38,7 +38,7 @@ _Number = ctypes.c_uint32 | ctypes.c_bool
 
 
 class _Reply(NamedTuple):
-    """What a call answers: its status, its text, and what it says beside it, where it has two texts."""
+    """What a call answers: its status, its text, and what it says beside it, if there are two."""
 
     status: int
     text: bytes
@@ -46,8 +46,8 @@ class _Reply(NamedTuple):
 
 
 class Refused(Exception):
-    """The first fault that was found: `line` is the program's, and `text` what it wrote before, which is
-    empty but of `words`."""
+    """The first fault that was found: `line` is the program's, and `text` what it wrote before,
+    which is empty but of `words`."""
 
     def __init__(self, line: str, text: str = "") -> None:
         super().__init__(line)
@@ -62,28 +62,45 @@ class Marked(NamedTuple):
     notes: str
 
 
-def check(gsi: bytes, sheet: bytes, *, two_c: int = FACES, two_i: int = FACES, residual: int | None = None) -> str:
+def check(
+    gsi: bytes,
+    sheet: bytes,
+    *,
+    two_c: int = FACES,
+    two_i: int = FACES,
+    residual: int | None = None,
+) -> str:
     """The line of the acceptance; `residual` limits the residuals, in half units of 0.005 mgon."""
     numbers = [*_numbers(two_c, two_i), *_stated(residual)]
     return _line(_answer("check", [gsi, sheet], numbers))
 
 
 def compare(
-    gsi: bytes, station: str, table: bytes, *, two_c: int = FACES, two_i: int = FACES, within: int | None = None
+    gsi: bytes,
+    station: str,
+    table: bytes,
+    *,
+    two_c: int = FACES,
+    two_i: int = FACES,
+    within: int | None = None,
 ) -> str:
-    """The line of the agreement; `within` is in units of 0.001 mgon, and where it is None what is usual for
-    the decimals of the table."""
+    """The line of the agreement; `within` is in units of 0.001 mgon, and if it is None what is
+    usual for the decimals of the table."""
     numbers = [*_numbers(two_c, two_i), *_stated(within)]
     return _line(_answer("compare", [gsi, table, station.encode()], numbers))
 
 
-def differences(gsi: bytes, station: str, table: bytes, *, two_c: int = FACES, two_i: int = FACES) -> str:
-    """The differences of the table, target by target, after the rotation that makes the largest smallest:
-    exactly rounded, however large they are."""
+def differences(
+    gsi: bytes, station: str, table: bytes, *, two_c: int = FACES, two_i: int = FACES
+) -> str:
+    """The differences of the table, target by target, after the rotation that makes the largest
+    smallest: exactly rounded, however large they are."""
     return _answer("differences", [gsi, table, station.encode()], _numbers(two_c, two_i)).decode()
 
 
-def directions(gsi: bytes, station: str, *, two_c: int = FACES, two_i: int = FACES, decimals: int = 6) -> str:
+def directions(
+    gsi: bytes, station: str, *, two_c: int = FACES, two_i: int = FACES, decimals: int = 6
+) -> str:
     """The table of the station's least-squares directions, in gon, exactly rounded."""
     return _answer("directions", [gsi, station.encode()], _numbers(two_c, two_i, decimals)).decode()
 
@@ -110,7 +127,7 @@ def list(gsi: bytes, *, two_c: int = FACES, two_i: int = FACES) -> str:
 
 
 def words(gsi: bytes) -> str:
-    """The words of the field file, one a line; a refusal has those before the fault as its `text`."""
+    """The words of the field file, one a line; a refusal has those before the fault as `text`."""
     reply = _call("words", [gsi], [], texts=2)
     if reply.status == _REFUSED:
         raise Refused(_line(reply.beside), reply.text.decode())
@@ -118,8 +135,8 @@ def words(gsi: bytes) -> str:
 
 
 def mark(gsi: bytes, station: str | None = None) -> Marked:
-    """A copy of a job that was recorded without codes, with codes put in. `station` names the one station of
-    a job whose lines name none."""
+    """A copy of a job that was recorded without codes, with codes put in. `station` names the one
+    station of a job whose lines name none."""
     reply = _call("mark", [gsi, (station or "").encode()], [], texts=2)
     if reply.status == _REFUSED:
         raise Refused(_line(reply.beside))
@@ -132,7 +149,7 @@ def digest(file: bytes, name: str) -> str:
 
 
 def explain(line: str = "") -> str:
-    """What the fault means that the line of a refusal names; of no line, the names of all faults."""
+    """What the fault means that the line of a refusal names; of no line, all names of faults."""
     return _answer("explain", [line.encode()], []).decode()
 
 
@@ -173,21 +190,26 @@ def _call(name: str, inputs: Sequence[bytes], numbers: Sequence[_Number], texts:
         room *= _MORE
 
 
-def _call_within(room: int, name: str, inputs: Sequence[bytes], numbers: Sequence[_Number], texts: int) -> _Reply:
+def _call_within(
+    room: int, name: str, inputs: Sequence[bytes], numbers: Sequence[_Number], texts: int
+) -> _Reply:
     """The same, with so much room for each text."""
     buffers = [ctypes.create_string_buffer(room) for _ in range(texts)]
     lengths = [ctypes.c_size_t() for _ in range(texts)]
     call = getattr(_library, f"station_check_{name}")
     call.restype = ctypes.c_uint8
     # (a pointer made of bytes alone: another kind of text is a TypeError here)
-    given = [part for data in inputs for part in (ctypes.c_char_p(data), ctypes.c_size_t(len(data)))]
+    given = [
+        part for data in inputs for part in (ctypes.c_char_p(data), ctypes.c_size_t(len(data)))
+    ]
     outs = [
         part
         for buffer, length in zip(buffers, lengths)
         for part in (buffer, ctypes.c_size_t(room), ctypes.byref(length))
     ]
     status: int = call(*given, *numbers, *outs)
-    return _Reply(status, *(ctypes.string_at(buffer, length.value) for buffer, length in zip(buffers, lengths)))
+    said = [ctypes.string_at(buffer, length.value) for buffer, length in zip(buffers, lengths)]
+    return _Reply(status, *said)
 
 
 def _find() -> str:
