@@ -6,7 +6,7 @@ ghost use Rattle.adjust_kernel.specs.Pairs.{turned_by};
 ghost use Rattle.adjust_kernel.specs.Residuals.{residual, set_sum, target_sum};
 ghost use Rattle.adjust_kernel.specs.Stations.{IsObs};
 ghost use Rattle.adjust_kernel.specs.Within.{IsWithin};
-ghost use Rattle.adjust_kernel.specs.declared.bounds.TheConstants.{LARGEST_TURN, TURN};
+ghost use Rattle.adjust_kernel.specs.declared.bounds.TheConstants.{LARGEST_TURN, MOST_ROWS, TURN};
 ghost use Rattle.exact_adjustment.specs.Adjustments.{AreOnCircle, choice_in};
 ghost use Rattle.exact_adjustment.specs.Sides.{turned};
 ghost use Rattle.wide_number.specs.Limbs.{WIDE_LIMIT};
@@ -91,7 +91,7 @@ fn is_target_even(
     obs: &[Obs],
     target: u32,
 ) -> bool
-    requires few { length obs.now ≤ 4_000 }
+    requires few { length obs.now ≤ MOST_ROWS }
     requires each { length turns.now ≡ length obs.now }
     requires obs { All (IsObs (length orientations.now) (length directions.now)) obs.now }
     requires turns { All (IsWithin LARGEST_TURN) turns.now }
@@ -130,7 +130,7 @@ fn is_set_even(
     obs: &[Obs],
     set: u32,
 ) -> bool
-    requires few { length obs.now ≤ 4_000 }
+    requires few { length obs.now ≤ MOST_ROWS }
     requires each { length turns.now ≡ length obs.now }
     requires obs { All (IsObs (length orientations.now) (length directions.now)) obs.now }
     requires turns { All (IsWithin LARGEST_TURN) turns.now }
@@ -168,7 +168,7 @@ pub(crate) fn are_targets_even(
     turns: &[i8],
     obs: &[Obs],
 ) -> bool
-    requires few { length obs.now ≤ 4_000 }
+    requires few { length obs.now ≤ MOST_ROWS }
     requires each { length turns.now ≡ length obs.now }
     requires obs { All (IsObs (length orientations.now) (length directions.now)) obs.now }
     requires turns { All (IsWithin LARGEST_TURN) turns.now }
@@ -196,7 +196,7 @@ pub(crate) fn are_sets_even(
     turns: &[i8],
     obs: &[Obs],
 ) -> bool
-    requires few { length obs.now ≤ 4_000 }
+    requires few { length obs.now ≤ MOST_ROWS }
     requires each { length turns.now ≡ length obs.now }
     requires obs { All (IsObs (length orientations.now) (length directions.now)) obs.now }
     requires turns { All (IsWithin LARGEST_TURN) turns.now }

@@ -3,6 +3,7 @@ ghost use Rattle.std.specs.Prelude.{◌≡◌, ◌<◌, ◌≤◌, ◌^◌, ◌*
 ghost use Rattle.std.specs.Option.{ForSome};
 ghost use Rattle.adjust_kernel.specs.Stations.{IsStation};
 ghost use Rattle.adjust_kernel.specs.declared.bounds.TheConstants.{LARGEST_RESIDUAL_LIMIT};
+ghost use Rattle.adjust_kernel.specs.declared.bounds.TheConstants.{MOST_ROWS};
 ghost use Rattle.exact_adjustment.specs.Exact.{IsExact, KeepsLimit};
 ghost use Rattle.exact_adjustment.specs.LeastOf.{AreTied};
 ghost use Rattle.station_report.specs.Deviations as spec;
@@ -24,7 +25,7 @@ const LARGEST_SQUARE: u64 = LARGEST_RESIDUAL_LIMIT as u64 * LARGEST_RESIDUAL_LIM
 /// sets, and one more.
 pub fn degrees_of(station: &Station) -> u64
     ensures value { result ≡ spec.degrees_of station.now }
-    ensures bound { result ≤ 4_000 }
+    ensures bound { result ≤ MOST_ROWS }
     ensures valid { IsStation station.now }
 {
     let obs = station.obs().len() as u64 + 1;
@@ -59,7 +60,7 @@ pub fn deviation_by(
 fn deviation_of(station: &Station, adjustment: &Adjustment, squares: &Wide) -> u32
     requires free { 1 ≤ spec.degrees_of station.now }
     requires squares { squares.now
-        ≤ adjustment.now.denominator * (4_000_000 * length station.now.obs) }
+        ≤ adjustment.now.denominator * (LARGEST_SQUARE * length station.now.obs) }
     ensures rounded { (s : ℤ) → pos (adjustment.now.denominator * squares.now) ≡ s
         → spec.IsRootOf adjustment.now.denominator (spec.degrees_of station.now) s result }
     ensures bound { result < 2 ^ 31 }

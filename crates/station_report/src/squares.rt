@@ -40,7 +40,7 @@ pub(crate) fn squares_of(
     ensures squares { IfOk result (λ squares. pos (adjustment.now.denominator * squares)
         ≡ sum_of_squares (choice_by adjustment.now) (observed_by station.now adjustment.now)) }
     ensures bound { IfOk result (λ squares. squares
-        ≤ adjustment.now.denominator * (4_000_000 * length station.now.obs)) }
+        ≤ adjustment.now.denominator * (LARGEST * LARGEST * length station.now.obs)) }
 {
     let denominator = adjustment.denominator();
     let directions = wholes_of(alloc, adjustment.directions(), denominator)?;
@@ -76,7 +76,8 @@ fn squares_by(
         orientations.now }
     ensures squares { pos (adjustment.now.denominator * result)
         ≡ sum_of_squares (choice_by adjustment.now) (observed_by station.now adjustment.now) }
-    ensures bound { result ≤ adjustment.now.denominator * (4_000_000 * length station.now.obs) }
+    ensures bound { result
+        ≤ adjustment.now.denominator * (LARGEST * LARGEST * length station.now.obs) }
 {
     let denominator = adjustment.denominator();
     let obs = station.obs();
@@ -106,7 +107,7 @@ fn lifted_residual(adjustment: &Adjustment, obs: &Obs, turn: i8) -> Wide
         (residual (choice_by adjustment.now) (turned_by obs.now turn)) }
     ensures value { pos result ≡ residual (choice_by adjustment.now) (turned_by obs.now turn)
         +ℤ pos (LARGEST * adjustment.now.denominator) }
-    ensures bound { result ≤ adjustment.now.denominator * 4_000 }
+    ensures bound { result ≤ adjustment.now.denominator * (2 * LARGEST) }
 {
     let (mut first, second) = sides(adjustment, obs, turn);
     first.add_product(adjustment.denominator(), LARGEST);
@@ -133,7 +134,7 @@ fn lifted_factor(
         (slice_index_or adjustment.now.orientations obs.now.set 0) orientation }
     ensures value { pos result ≡ (pos direction -ℤ pos orientation
         -ℤ unrolled (turned_by obs.now turn)) +ℤ pos LARGEST }
-    ensures bound { result ≤ 4_000 }
+    ensures bound { result ≤ 2 * LARGEST }
 {
     (direction + LIFT + LARGEST) - (orientation + lifted(obs.value, turn))
 }
