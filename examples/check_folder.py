@@ -3,19 +3,19 @@
 
     python3 check_folder.py FOLDER [OPTION..]
 
-The sheet NAME.csv, or NAME.STATION.csv where a field file has more stations, is checked against the
+The sheet NAME.csv, or NAME.STATION.csv if a field file has more stations, is checked against the
 field file NAME.gsi. A table of directions, NAME.directions.csv or NAME.STATION.directions.csv, is
-compared with it; a file that holds a table may leave out '.directions'. Where more names fit, the
+compared with it; a file that holds a table may leave out '.directions'. If more names fit, the
 longest counts. Extensions may be in capitals too.
 
-A field file is done where `station_check list` names stations in it, and each of them has an
+A field file is done if `station_check list` names stations in it, and each of them has an
 accepted sheet or a table that agrees. The answer to each sheet and table is printed, and kept in
 NAME.answer beside NAME.csv. A table that belongs to no field file, or to one of its stations by no
 name, is said to be skipped, which is no mistake. So is a file of rows that station_check itself
 printed: by `list --csv`, `residuals`, `differences` or `report --csv`.
 
-Exit status: 0 where there are field files, each is done, and nothing was refused; 1 where not;
-2 where nothing could be checked: a mistake on the command line, no such folder, one that takes no
+Exit status: 0 if there are field files, each is done, and nothing was refused; 1 if not;
+2 if nothing could be checked: a mistake on the command line, no such folder, one that takes no
 answers, no station_check.
 
 Python 3.10 or later, and station_check on the path, are all it needs.
@@ -321,8 +321,8 @@ class Folder:
         line = f"{done} of {files} field files done; of the sheets {', '.join(each)}"
         if tables:
             others = tables[Result.NOT_CHECKED] + tables[Result.SKIPPED]
-            line += f"; of the tables {tables[Result.GOOD]} agreed, {tables[Result.REFUSED]} refused, "
-            line += f"{others} not compared"
+            line += f"; of the tables {tables[Result.GOOD]} agreed, "
+            line += f"{tables[Result.REFUSED]} refused, {others} not compared"
         print(line)
         bad = [counts[result] for counts in (sheets, tables) for result in list(Result)[1:3]]
         return 0 < done == files and not any(bad)

@@ -6,11 +6,11 @@
 The field file stays as it is. It is taken line by line, so that a file that station_check refuses
 can be copied too. These are left out: blocks by their numbers; a set by its station and number;
 with --closing the closing sights, which repeat at the end of a half set, in the same face, the
-target that began it, or after sets that were read target by target its pair; with --broken-off, in a
-job without codes, a last set that was not ended; with --without-codes the blocks of codes 10, 20 and
-30. --rename gives stated blocks another name: to a measurement its word 11, to a code block its word
-42. --plain writes plain ASCII letters for others, a blank for a tab, and drops a byte order mark and
-a final byte 1A.
+target that began it, or after sets that were read target by target its pair; with --broken-off, in
+a job without codes, a last set that was not ended; with --without-codes the blocks of codes 10, 20
+and 30. --rename gives stated blocks another name: to a measurement its word 11, to a code block its
+word 42. --plain writes plain ASCII letters for others, a blank for a tab, and drops a byte order
+mark and a final byte 1A.
 
 COPY.gsi.log has each line that was left out or changed. The script prints the command
 that shows that nothing else was changed.
@@ -283,8 +283,8 @@ def ends_of_sets(readings: list[Block]) -> Iterator[int]:
 
 
 def broken_set(readings: list[Block]) -> list[Block]:
-    """The readings of a last set that lacks a face of a target, or ends with another target than the
-    set before it; none where no set was broken off."""
+    """The readings of a last set that lacks a face of a target, or ends with another target than
+    the set before it; none where no set was broken off."""
     for before in range(MOST_BEFORE + 1):
         if ends := list(ends_of_sets(readings[before:])):
             begin = before + ends[-1]
@@ -354,7 +354,9 @@ def left_out(blocks: list[Block], asked: Namespace) -> tuple[set[int], list[str]
 # ---------------------------------------------------------------- what is changed
 
 
-def renamed(blocks: list[Block], out: set[int], asked: Namespace) -> tuple[dict[int, bytes], list[str]]:
+def renamed(
+    blocks: list[Block], out: set[int], asked: Namespace
+) -> tuple[dict[int, bytes], list[str]]:
     """The lines that get another name, by their places, and what was asked for."""
     lines: dict[int, bytes] = {}
     said: list[str] = []
@@ -558,7 +560,7 @@ def main() -> None:
     except (Refused, OSError) as why:
         sys.exit(f"prepare.py: {why}")
     before, after, log = map(shlex.quote, (asked.field, asked.copy, f"{asked.copy}.log"))
-    print(f"{counted(*done)}; nothing else is changed where this prints nothing:")
+    print(f"{counted(*done)}; nothing else is changed if this prints nothing:")
     print(f"  diff -a -d {before} {after} | grep -a '^[<>]' | diff -a - {log} | grep -a '^<'")
 
 

@@ -80,7 +80,7 @@ export const TEXTS = {
     fr: '2c {twoC}, 2i {twoI}, résidus {residual} mgon, tables à 0.01 mgon près ou selon leur arrondi',
   },
   residualStated: {
-    en: 'The page itself states 10 mgon for residuals where you state none.',
+    en: 'The page itself states 10 mgon for residuals if you state none.',
     de: 'Für Verbesserungen setzt die Seite selbst 10 mgon, wenn Sie nichts angeben.',
     fr: 'Pour les résidus, la page fixe elle-même 10 mgon si vous n’indiquez rien.',
   },

@@ -308,7 +308,7 @@ class CommandLineTest(ProgramTest):
             (["check", "--help"], [b"--residual <LIMIT>", b"0.3mgon", b"half units", b"[default: none]"]),
             (["check", "--help"], [b"With --residual", b"no other full turns give a\nsmaller sum"]),
             (["means", "--help"], [b"<STATION>", b"--two-c <LIMIT>", b"[default: 20mgon]"]),
-            (["means", "--help"], [b"where no residual\nlimit is stated"]),
+            (["means", "--help"], [b"if no residual\nlimit is stated"]),
             (["list", "--help"], [b"--csv", b"station,set,target,direction,2c,2i", b"in mgon with 2"]),
             (["list", "--help"], [b"0.01 mgon", b"--two-i <LIMIT>", b"[default: 20mgon]"]),
             (["compare", "--help"], [b"--within <LIMIT>", b"0.001 mgon", b"it is 0.01mgon;", b"<TABLE>"]),

@@ -8,7 +8,7 @@ Prints the least-squares directions of a GSI field file, and checks yours agains
 A total station writes the sets of directions that it measured to a field file, in Leica's GSI
 format. Your program adjusts them, and prints a table with one direction for each target: 'compare'
 says how far it is from the least-squares directions, 'differences' which target is off. Or your
-program states exact fractions in a sheet, which 'check' accepts only where they are exactly right.
+program states exact fractions in a sheet, which 'check' accepts only if they are exactly right.
 'directions', 'residuals' and 'report' print the adjustment itself. A refusal names the first fault,
 and 'explain' says what to do.
 
@@ -45,7 +45,7 @@ pub const COMPARE_LONG_ABOUT: &str = "\
 Compares the directions that any program printed, complete sets or not, with the least-squares
 directions of a station in a field file: least over all directions, orientations and full turns.
 
-The table agrees where one rotation brings each of its directions within N units of 0.000001 gon
+The table agrees if one rotation brings each of its directions within N units of 0.000001 gon
 (0.001 mgon) of the least-squares one. Else the first fault is named: of the field file, then of the
 table, then of the adjustment, in which no residual may be above 2000 half units (0.005 mgon); and
 at last how far they are apart.
@@ -53,8 +53,8 @@ at last how far they are apart.
 TABLE is text with a row for each target of the station, in any order: its name and its direction.
 Commas, semicolons, tabs or blanks separate the two, as the first row tells, which may be one of
 titles. A direction is in gon, from -400 to 400: a sign or none, at most 3 digits, and a decimal
-point or comma with decimals where it has any; those after the ninth are 0. Where commas separate,
-a decimal comma stands in quotes. The first direction need not be 0.
+point or comma with decimals if it has any; those after the ninth are 0. If commas separate, a
+decimal comma stands in quotes. The first direction need not be 0.
 
 With --degrees a direction is in degrees, from -360 to 360: with minutes and seconds, as
 59-04-09.18, or the same with the three signs in the place of the hyphens; or with decimals, as
@@ -83,11 +83,11 @@ target makes 'compare' refuse a table. It is no verdict: however far apart they 
 0.
 
 The rotation is the one that makes the largest of the differences smallest: half of the gap between
-the least and the greatest lies on each side of 0. Where one target is off by 1 mgon and all others
+the least and the greatest lies on each side of 0. If one target is off by 1 mgon and all others
 agree, the one has 0.500 and the others -0.500, or the other way round.
 
 The first row has the titles. Directions are in gon: the stated ones exact, with 6 decimals, or all
-with 9 where one needs more; the least-squares ones counted from the first target, with 6. What is
+with 9 if one needs more; the least-squares ones counted from the first target, with 6. What is
 stated in degrees is rounded to the ninth decimal of a gon.
 Differences are in mgon with 3 decimals. What is rounded is rounded from the exact fraction; the
 middle of two goes up.
@@ -166,10 +166,10 @@ directions; the residuals, targets as rows and sets as columns; the greatest of 
 standard deviation of one two-face direction with its degrees of freedom. They are those of the
 least-squares directions, orientations and full turns. A residual above 10 mgon is a fault.
 
-With --table each direction of a table stands there too, in gon also where --degrees reads degrees,
+With --table each direction of a table stands there too, in gon also if --degrees reads degrees,
 with its difference from the adjusted one as 'differences' prints it, the limit, and whether the
-table agrees, as 'compare' says it. Where their directions are apart the report is printed whole,
-and the status is 1.
+table agrees, as 'compare' says it. If their directions are apart the report is printed whole, and
+the status is 1.
 
 With --csv the observations are printed as rows for other programs: titles, and for each its
 station, set and target, the readings, the two-face direction, 2c, 2i, the adjusted direction and
@@ -187,7 +187,7 @@ are no part. A name that begins with '-' follows after '--'.";
 
 pub const REPORT_EXAMPLE: &str = "\
 Exit status:
-  0  the whole report was written, and the table agrees where one is named
+  0  the whole report was written, and the table agrees if one is named
   1  refused: the first fault is named on standard error, and nothing was written, unless a write
      failed; or, with --table, the whole report was written and the directions are apart
   2  a mistake on the command line, or GSI or TABLE cannot be opened
@@ -203,7 +203,7 @@ Example:
 pub const CHECK_LONG_ABOUT: &str = "\
 Checks a sheet against the station of its name in a field file.
 
-The sheet is accepted where its observations are exactly the two-face directions of its station in
+The sheet is accepted if its observations are exactly the two-face directions of its station in
 the field file, every face difference is within its limit, and no other directions and orientations
 give with the sheet's full turns a smaller sum of squared residuals. Else the first fault is named:
 of the field file, then of the sheet, then of the comparison.
@@ -227,7 +227,7 @@ Example:
 
 pub const MEANS_LONG_ABOUT: &str = "\
 Prints the adjusted sheet of a station whose sets are complete: its directions and orientations are
-means. The sheet is one that 'check' accepts for the same field file and limits, where no residual
+means. The sheet is one that 'check' accepts for the same field file and limits, if no residual
 limit is stated.
 
 STATION is compared byte by byte with the names in the field file, of which the zeros on the left
@@ -374,7 +374,7 @@ How near the directions must be, as 0.05mgon [default: by the decimals]";
 
 pub const WITHIN_LONG_HELP: &str = "\
 How near the directions must be, as 0.05mgon: to 1000mgon, by 0.001; or in units of
-0.001 mgon: 0 to 1000000. Where none is stated it is 0.01mgon; of a table with fewer than
+0.001 mgon: 0 to 1000000. If none is stated it is 0.01mgon; of a table with fewer than
 5 decimals, what rounding to these may do and 1 unit more, as 0.051mgon for 4 decimals; of
 degrees alike, as 0.017mgon for seconds with 1 decimal. Its row with the coarsest rounding
 counts";
@@ -409,7 +409,7 @@ decimals, face differences in mgon with 2, residuals in mgon with 3";
 pub const SHA256_LONG_HELP: &str = "\
 Print the SHA-256 digest of each file after the answer. They are those of the bytes that
 were read and judged, each beside the path as it was given, as sha256sum prints them:
-'sha256sum -c' tells later whether a file is still the same. Where nothing is accepted,
+'sha256sum -c' tells later whether a file is still the same. If nothing is accepted,
 agrees or is reported, none is printed";
 
 pub const STATED_TABLE_LONG_HELP: &str = "\

@@ -157,11 +157,11 @@ const FILE_FAULTS: &[Explanation] = &[
 A read of the field file failed, and the block is the first line that had not ended then; or, as
 'sheet: Read' or 'table: Read', a read of the sheet or the table failed. A read that failed is not
 tried again. A folder can be opened and not read, so its name leads here. So does an input that
-would block: a pipe or a terminal that another program has set not to wait, where its bytes are not
+would block: a pipe or a terminal that another program has set not to wait, if its bytes are not
 there yet (EAGAIN).",
         example: "refused: block 1: Read",
         remedy: "\
-See that the path names a file and not a folder. Copy the file: where the copy fails
+See that the path names a file and not a folder. Copy the file: if the copy fails
 too, its medium is at fault. Read an input that would block by its path, as
 'station_check words /dev/stdin': opened anew, it is waited for.",
     },
@@ -194,9 +194,9 @@ with accents, the byte 1A that old programs write at the end of a file, the byte
 BF, that some editors write at its beginning, and the bytes 00 of a file in UTF-16.",
         example: "refused: block 1: Byte 16",
         remedy: "\
-Transfer the file again, with no conversion of characters. Where the byte is still
+Transfer the file again, with no conversion of characters. If the byte is still
 there, check a copy: with a blank in place of a tab, a plain letter in place of one with an accent,
-without a byte order mark or a final 1A, and in ASCII where the file was in UTF-16.",
+without a byte order mark or a final 1A, and in ASCII if the file was in UTF-16.",
     },
     Said {
         names: &["Word"],
@@ -210,7 +210,7 @@ sheet in the place of the field file.",
         remedy: "\
 Look at that word. A cut word in the last line means that the transfer broke off:
 transfer the file again. Two blanks between words are one too many. The words of a line have 16
-bytes of content where it begins with '*', and else 8. For a line of titles, check a copy without
+bytes of content if it begins with '*', and else 8. For a line of titles, check a copy without
 it; for a sheet, name GSI first and SHEET second.",
     },
     Said {
@@ -236,8 +236,8 @@ At this block a set ends, by code 10, 20 or 30 or by the end of the file, in whi
 point number and a direction, word 21. The end of the file has the number after the last block.",
         example: "refused: block 3: EmptySet",
         remedy: "\
-Check a copy without the code 20 of a set that was not observed. Where its readings
-stand before the code, move the code before them in the copy.",
+Check a copy without the code 20 of a set that was not observed. If its readings come
+before the code, move the code before them in the copy.",
     },
     Said {
         names: &["OneFace"],
@@ -249,7 +249,7 @@ in one face and not in the other. The end of the file has the number after the l
         remedy: "\
 Look in 'station_check words GSI' for the target that stands once in the set. A name
 that is spelled in two ways is two targets: of the examples, prepare.py gives a block another name
-in a copy. Where a face is missing, or the set was broken off, check a copy without the other
+in a copy. If a face is missing, or the set was broken off, check a copy without the other
 reading or without the set: prepare.py has --blocks and --set for that. Detail points in one face
 come after a block of code 30.",
     },
@@ -307,7 +307,7 @@ file has one occupation of a station. As 'mark: StationTwice', a set-up line has
 earlier one after which sets were read.",
         example: "refused: block 14: StationTwice",
         remedy: "\
-Where the instrument was not moved, check a copy without the second code 10, or set-up
+If the instrument was not moved, check a copy without the second code 10, or set-up
 line, and the sets go on. Else give the second occupation a name of its own in a copy, with
 'prepare.py --rename BLOCK NAME' of the examples: BLOCK is that of its code 10 or its set-up line,
 before the one that is named.",
@@ -435,7 +435,7 @@ Look at the set in 'station_check words GSI', and check a copy without the readi
 does not count: for a repeated pointing the field book says which. Of the examples, prepare.py
 leaves out closing sights, or blocks by their numbers, and writes a log. An orientation sight before
 the code 20 of the first set is skipped, and so are closing sights and detail points after a code
-30. Where each target has this fault, set the instrument to zenith angles.",
+30. If each target has this fault, set the instrument to zenith angles.",
     },
     Said {
         names: &["TooManyTargets"],
@@ -457,9 +457,9 @@ With this reading its target has both faces in the set, and their directions dif
 more than the limit: 2000 units of 0.00001 gon, or what --two-c says.",
         example: "refused: block 4: TwoC",
         remedy: "\
-See the value by 'station_check list --two-c 1000000 GSI'. One that stands out comes of
-a wrong target or a wrong name in one face: where the field book says so, check a copy without it.
-Where all are alike, the instrument has that collimation error, and a wider limit may be stated.",
+See the value by 'station_check list --two-c 1000000 GSI'. One that stands out has a
+wrong target or a wrong name in one face: if the field book says so, check a copy without it. If
+all are alike, the instrument has that collimation error, and a wider limit may be stated.",
     },
     Said {
         names: &["TwoI"],
@@ -469,9 +469,9 @@ With this reading its target has both faces in the set, and the sum of their zen
 from 400 gon by more than the limit: 2000 units of 0.00001 gon, or what --two-i says.",
         example: "refused: block 4: TwoI",
         remedy: "\
-See the value by 'station_check list --two-i 1000000 GSI'. One that stands out comes of
-a wrong target or height in one face: where the field book says so, check a copy without it. Where
-all are alike, the instrument has that index error, and a wider limit may be stated.",
+See the value by 'station_check list --two-i 1000000 GSI'. One that stands out has a
+wrong target or height in one face: if the field book says so, check a copy without it. If all are
+alike, the instrument has that index error, and a wider limit may be stated.",
     },
 ];
 
@@ -534,7 +534,7 @@ the last block.",
         example: "refused: block 4: mark: NoSets",
         remedy: "\
 See 'station_check words GSI'. A detail survey, a traverse in one face or a levelling
-file has no two-face directions. Face II has zenith angles above 200 gon: where none is, the
+file has no two-face directions. Face II has zenith angles above 200 gon: if none is, the
 instrument recorded elevations, or means of both faces.",
     },
 ];
@@ -553,8 +553,8 @@ or another station whose set-up line is missing.",
         remedy: "\
 Leave out of a copy what belongs to no set, and mark that. Of the examples, prepare.py
 does, with a log: --closing for closing sights, --blocks for a pointing that the field book calls
-bad, or for detail points and orientation sights before the first set. Where a target has two
-names, --rename BLOCK NAME gives blocks the right one.",
+bad, or for detail points and orientation sights before the first set. If a target has two names,
+--rename BLOCK NAME gives blocks the right one.",
     },
     Said {
         names: &["FaceMissing"],
@@ -589,9 +589,9 @@ faces of each before the next; and all sets of a station are read in the same of
 set of this reading is not.",
         example: "refused: block 7: mark: Order",
         remedy: "\
-See in the field book where the sets begin. Where a reading was added later, leave both
-readings of that target in this set out of a copy. Where the sets are right as they are, put the
-codes into a copy by hand; FORMATS.md has the lines.",
+See in the field book where the sets begin. If a reading was added later, leave both
+readings of that target in this set out of a copy. If the sets are right as they are, put the codes
+into a copy by hand; FORMATS.md has the lines.",
     },
     Said {
         names: &["EndsElsewhere"],
@@ -603,8 +603,8 @@ seen, or the sets begin elsewhere.",
         example: "refused: block 16: mark: EndsElsewhere",
         remedy: "\
 Leave a last set that was broken off out of a copy, with 'prepare.py --broken-off' of
-the examples, and mark that. Where only the last target is missing, put the codes into a copy by
-hand, or leave that target out of all sets.",
+the examples, and mark that. If only the last target is missing, put the codes into a copy by hand,
+or leave that target out of all sets.",
     },
     Said {
         names: &["OneSet"],
@@ -623,7 +623,7 @@ Leave the orientation or check sights before the set out of a copy, with 'prepar
         when: "\
 The readings fit as sets only if the first set begins with this reading, in face II. Sets mostly
 begin in face I, so these may begin elsewhere: a reading is missing or too many before it or further
-on, as where the last set was broken off.",
+on, for example if the last set was broken off.",
         example: "refused: block 1: mark: FirstFace",
         remedy: "\
 See in the field book where the sets begin. Of the examples, prepare.py leaves out of a
@@ -637,7 +637,7 @@ by hand; FORMATS.md has the lines.",
         when: "\
 The readings fit as sets only if the first set begins with this reading, after up to three others.
 One of these is in face II without its reading in face I, or is of the target that ends the sets:
-then each set may be shifted by some readings, as where a check sight comes at the end.",
+then each set may be shifted by some readings, for example if a check sight comes at the end.",
         example: "refused: block 3: mark: MayBeShifted",
         remedy: "\
 See in the field book where the sets begin. If the readings before this one are an
@@ -688,17 +688,17 @@ See that the path names a sheet or a table: none that a station needs is so long
         names: &["Fields"],
         meaning: "this row has the wrong number of columns",
         when: "\
-A row of a sheet has five columns, separated by four commas, where columns may be empty; a row of a
-table has two, the name and the direction, and after them blank ones alone. The first row of a table
-tells what separates the columns of all: commas, semicolons, tabs or blanks. A column that begins
-with a quote goes on to the next quote, over separators and ends of lines.",
+A row of a sheet has five columns, separated by four commas; columns may be empty. A row of a table
+has two, the name and the direction, and after them blank ones alone. The first row of a table tells
+what separates the columns of all: commas, semicolons, tabs or blanks. A column that begins with a
+quote goes on to the next quote, over separators and ends of lines.",
         example: "refused: sheet row 3: Fields",
         remedy: "\
 Look at the separators and quotes of that row. A spreadsheet may have written the sheet
 with semicolons in place of commas. In quotes stands a name that has the separator, and a direction
-with a decimal comma where commas separate. Where row 1 has this fault, see that SHEET or TABLE
-names the right file; where row 2 of a table has it, titles may be separated in another way than the
-rows: leave them out. Of a table with more columns, keep the two of the name and the direction.",
+with a decimal comma if commas separate. If row 1 has this fault, see that SHEET or TABLE names the
+right file; if row 2 of a table has it, titles may be separated in another way than the rows: leave
+them out. Of a table with more columns, keep the two of the name and the direction.",
     },
     Said {
         names: &["Kind"],
@@ -709,7 +709,7 @@ The first column of a row is its kind. The first row is of kind 'sheet'; then co
         example: "refused: sheet row 5: Kind",
         remedy: "\
 Put the rows into this order. A line of titles is no row, and stands in no sheet.
-Where row 1 looks right, the sheet may be in UTF-16: save it as plain text, in ASCII or UTF-8.",
+If row 1 looks right, the sheet may be in UTF-16: save it as plain text, in ASCII or UTF-8.",
     },
     Said {
         names: &["Version"],
@@ -750,15 +750,15 @@ const VALUE_FAULTS: &[Explanation] = &[
         when: "\
 A number of a sheet is written as '0', or as a digit 1 to 9 with further digits, with a leading '-'
 if it is negative: with no point, blank, plus or zero before it. A direction of a table is written
-as at most 3 digits, and a decimal point or comma with decimals where it has any, after a '+' or '-'
-where it has a sign: with no exponent and no unit. Its decimals after the ninth are 0. With
+as at most 3 digits, and a decimal point or comma with decimals if it has any, after a '+' or '-'
+if it has a sign: with no exponent and no unit. Its decimals after the ninth are 0. With
 --degrees it may have minutes and seconds, as 59-04-09.18: of two digits each, below 60, and with
 decimals of the seconds, of which those after the sixth are 0.",
         example: "refused: sheet row 3: Number",
         remedy: "\
 Write the number so. Directions and orientations of a sheet are whole numbers too: they
 are in half units of 0.005 mgon, times the denominator of the sheet. Those of a table are in gon, or
-in degrees where --degrees is stated: state it for 59-04-09.18 and the like. Leave out the unit, and
+in degrees if --degrees is stated: state it for 59-04-09.18 and the like. Leave out the unit, and
 round to 9 decimals. Of titles a table has one row, the first, and it begins with no target's name:
 leave out others.",
     },
@@ -854,7 +854,7 @@ than in the station, or one of them has none. Observations stand by sets, and th
 the targets stand.",
         example: "refused: kernel: ObsRow 4",
         remedy: "\
-Compare the obs rows with 'station_check list GSI': set, target and p. Where p differs,
+Compare the obs rows with 'station_check list GSI': set, target and p. If p differs,
 the sheet was not made from this field file. A sheet may leave out no observation.",
     },
     Said {
@@ -881,7 +881,7 @@ orientations have a smaller sum of squares: the sheet is no least-squares adjust
         remedy: "\
 Ask for a sheet with exact numbers. One that was rounded has this fault: directions and
 orientations are stated times a denominator, so that none need be rounded. Of the examples,
-adjust.py writes such sheets. Where a program rounds, compare its directions by 'station_check
+adjust.py writes such sheets. If a program rounds, compare its directions by 'station_check
 compare'.",
     },
     Said {
@@ -894,7 +894,7 @@ orientations have a smaller sum of squares: the sheet is no least-squares adjust
         remedy: "\
 Ask for a sheet with exact numbers. One that was rounded has this fault: directions and
 orientations are stated times a denominator, so that none need be rounded. Of the examples,
-adjust.py writes such sheets. Where a program rounds, compare its directions by 'station_check
+adjust.py writes such sheets. If a program rounds, compare its directions by 'station_check
 compare'.",
     },
     Said {
@@ -913,16 +913,16 @@ its own.",
         meaning: "a residual is above its limit",
         when: "\
 As 'kernel: Residual', the residual of the obs row of this number, from 1, is above N half units of
-0.005 mgon, where '--residual N' was stated. As 'adjust: Residual', some least-squares residual is
+0.005 mgon, if '--residual N' was stated. As 'adjust: Residual', some least-squares residual is
 above 2000 half units in the adjustment of 'compare', 'differences', 'directions', 'report' or
 'residuals', and that of the observation of this number, from 1, is the greatest. The observations
 of a station are counted in the order in which 'station_check list GSI' has them.",
         example: "refused: kernel: Residual 1",
         remedy: "\
-Look at that observation: one that stands out comes of a wrong target or a wrong name in
-both faces, or of an instrument that was moved. In a sheet, look at the full turns of its row too: a
-wrong turn is 400 gon. For 'check' a wider limit may be stated, up to 2000: 'station_check report'
-then has the least-squares residuals of all sets beside each other, where none is above that.",
+Look at that observation: one that stands out has a wrong target or a wrong name in both
+faces, or the instrument was moved. In a sheet, look at the full turns of its row too: a wrong turn
+is 400 gon. For 'check' a wider limit may be stated, up to 2000: 'station_check report' then has the
+least-squares residuals of all sets beside each other, if none is above that.",
     },
 ];
 
@@ -948,7 +948,7 @@ A row before this one names the same target, be it with blanks around the name o
 has one direction for each target, that of the whole adjustment, and not one for each set.",
         example: "refused: table row 2: Twice",
         remedy: "\
-Leave out one of the two rows. Where they differ, see which of them is the adjusted
+Leave out one of the two rows. If they differ, see which of them is the adjusted
 direction.",
     },
     Said {
@@ -981,7 +981,7 @@ sheet with 'station_check check'.",
         meaning: "the table is further from the adjustment than its limit",
         when: "\
 After the best rotation some direction of the table is further from the least-squares one than N
-units of 0.000001 gon: what '--within N' states. Where it is not stated N is 10, or of a table with
+units of 0.000001 gon: what '--within N' states. If it is not stated N is 10, or of a table with
 fewer than 5 decimals what rounding to these may do and 1 more: 51 for 4 decimals, 501 for 3, 5001
 for 2, 50001 for 1; of seconds 156 without decimals and 17 with 1. The row with the coarsest
 rounding counts; rows of whole gon or degrees don't. The number in the line is how far, rounded up:
@@ -990,12 +990,11 @@ the least N with which the table agrees.",
         remedy: "\
 Print the difference of each target by 'station_check differences', or in the protocol
 of the sets by 'station_check report --table'. The best rotation halves the error of a single
-target, since all others take the other half: 1 mgon shows as 500, and as 0.500 beside -0.500. Where
+target, since all others take the other half: 1 mgon shows as 500, and as 0.500 beside -0.500. If
 one row stands out, see what the program did: plain means of incomplete sets, weights and
-observations that it left out give other directions. Where all rows differ by no more than the
-program rounds, state the number of the line by --within. The results of an instrument come from
-readings that it did not round: allow 4 units more. Where the program prints degrees, state
---degrees.",
+observations that it left out give other directions. If all rows differ by no more than the program
+rounds, state the number of the line by --within. The results of an instrument come from readings
+that it did not round: allow 4 units more. If the program prints degrees, state --degrees.",
     },
 ];
 
