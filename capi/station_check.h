@@ -52,9 +52,9 @@ uint8_t station_check_check(const void *gsi, size_t gsi_length,
                             uint32_t two_c, uint32_t two_i, bool is_stated, uint32_t residual,
                             char *text, size_t room, size_t *length);
 
-/* Compares a table of directions with the least-squares ones of a station. The text is the line of
- * the agreement or of the refusal. `within` is how far they may be apart, in units of 0.001 mgon,
- * at most 1,000,000; if none is stated, what is usual for the decimals of the table. */
+/* Compares a table of directions, in gon, with the least-squares ones of a station. The text is the
+ * line of the agreement or of the refusal. `within` is how far they may be apart, in units of 0.001
+ * mgon, at most 1,000,000; if none is stated, what is usual for the decimals of the table. */
 uint8_t station_check_compare(const void *gsi, size_t gsi_length,
                               const void *table, size_t table_length,
                               const char *station, size_t station_length,

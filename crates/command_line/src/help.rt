@@ -47,8 +47,8 @@ directions of a station in a field file: least over all directions, orientations
 
 The table agrees if one rotation brings each of its directions within N units of 0.000001 gon
 (0.001 mgon) of the least-squares one. Else the first fault is named: of the field file, then of the
-table, then of the adjustment, in which no residual may be above 2000 half units (0.005 mgon); and
-at last how far they are apart.
+table, then of the adjustment, in which no residual may be above 10 mgon; and at last how far they
+are apart.
 
 TABLE is text with a row for each target of the station, in any order: its name and its direction.
 Commas, semicolons, tabs or blanks separate the two, as the first row tells, which may be one of
@@ -111,7 +111,7 @@ Example:
 
 pub const DIRECTIONS_LONG_ABOUT: &str = "\
 Prints the least-squares directions of a station, complete sets or not, as a table: least over all
-directions, orientations and full turns. A residual above 2000 half units (0.005 mgon) is a fault.
+directions, orientations and full turns. A residual above 10 mgon is a fault.
 
 Each row is NAME,DIRECTION. The targets stand in the order in which the field file first observes
 them. Directions are in gon, from 0 up to 400; the first is 0. They are rounded to K decimals, and
@@ -249,10 +249,11 @@ have them: code 10 begins a station, 20 a set, 30 ends a set. Nothing else is ch
 commands read the copy.
 
 A station begins at each set-up line, as instruments record one: a block that begins with the point
-number and has the word 84, 85, 86 or 88, and no direction. A file without set-up lines is one
-station, which --station names. A set begins where the first target is read again. Readings before
-the first set and after the last stay outside of the sets. What could be read in two ways is refused
-at a block, and then nothing is printed.
+number and has the word 84, 85, 86 or 88, and no direction, no vertical angle and no distance. A
+file without set-up lines is one station, which --station names. A set begins at the 1st, 3rd, 5th
+.. reading of its first target, which is read once in each face. Readings before the first set and
+after the last stay outside of the sets. What could be read in two ways is refused at a block, and
+then nothing is printed.
 
 What was found is told on standard error, a line a station: compare it with the field book.";
 

@@ -247,11 +247,11 @@ At this block a set ends, by code 10, 20 or 30 or by the end of the file, in whi
 in one face and not in the other. The end of the file has the number after the last block.",
         example: "refused: block 4: OneFace",
         remedy: "\
-Look in 'station_check words GSI' for the target that stands once in the set. A name
-that is spelled in two ways is two targets: of the examples, prepare.py gives a block another name
-in a copy. If a face is missing, or the set was broken off, check a copy without the other
-reading or without the set: prepare.py has --blocks and --set for that. Detail points in one face
-come after a block of code 30.",
+Look in 'station_check words GSI' for the target that stands once in the set: its
+readings are the blocks before this one, back to its code 20. A name that is spelled in two ways is
+two targets: of the examples, prepare.py gives a block another name in a copy. If a face is missing,
+or the set was broken off, check a copy without the other reading or without the set: prepare.py has
+--blocks and --set for that. Detail points in one face come after a block of code 30.",
     },
     Said {
         names: &["WordTwice"],
@@ -292,7 +292,8 @@ A block of code 20 has the number of its set in word 42. This one has no word 42
 digits alone, or a number that is not 1 to 9999. Blanks are no digits.",
         example: "refused: block 2: SetNumber",
         remedy: "\
-Check a copy that has the number of the set as word 42 of that block.",
+Check a copy that has the number of the set as word 42 of that block: of the examples,
+prepare.py writes it, by --rename BLOCK NUMBER.",
     },
 ];
 
@@ -319,7 +320,8 @@ before the one that is named.",
 The block opens a set with a number that a set of this station has.",
         example: "refused: block 13: SetTwice",
         remedy: "\
-In a copy, give one of the two sets another number, in word 42 of its code 20.",
+In a copy, give one of the two sets another number, in word 42 of its code 20: of the
+examples, prepare.py writes it, by --rename BLOCK NUMBER.",
     },
     Said {
         names: &["TooManyStations"],
@@ -431,11 +433,12 @@ out so, a pointing that was repeated, and an elevation in place of a zenith angl
 of it read as one.",
         example: "refused: block 4: FaceTwice",
         remedy: "\
-Look at the set in 'station_check words GSI', and check a copy without the reading that
-does not count: for a repeated pointing the field book says which. Of the examples, prepare.py
-leaves out closing sights, or blocks by their numbers, and writes a log. An orientation sight before
-the code 20 of the first set is skipped, and so are closing sights and detail points after a code
-30. If each target has this fault, set the instrument to zenith angles.",
+In 'station_check words GSI' this block has the target, and a block before it, back to
+the code 20 of the set, has the other reading. Check a copy without the one that does not count: for
+a repeated pointing the field book says which. Of the examples, prepare.py leaves out closing
+sights, or blocks by their numbers, and writes a log. An orientation sight before the code 20 of the
+first set is skipped, and so are closing sights and detail points after a code 30. If each target
+has this fault, set the instrument to zenith angles.",
     },
     Said {
         names: &["TooManyTargets"],
@@ -454,22 +457,22 @@ examples.",
         meaning: "the face difference 2c of a pair is above its limit",
         when: "\
 With this reading its target has both faces in the set, and their directions differ from 200 gon by
-more than the limit: 2000 units of 0.00001 gon, or what --two-c says.",
+more than the limit: 20 mgon, or what --two-c says.",
         example: "refused: block 4: TwoC",
         remedy: "\
-See the value by 'station_check list --two-c 1000000 GSI'. One that stands out has a
-wrong target or a wrong name in one face: if the field book says so, check a copy without it. If
-all are alike, the instrument has that collimation error, and a wider limit may be stated.",
+See the value by 'station_check list --two-c 10000mgon GSI'. One that stands out has a
+wrong target or a wrong name in one face: if the field book says so, check a copy without it. If all
+are alike, the instrument has that collimation error, and a wider limit may be stated.",
     },
     Said {
         names: &["TwoI"],
         meaning: "the face difference 2i of a pair is above its limit",
         when: "\
 With this reading its target has both faces in the set, and the sum of their zenith angles differs
-from 400 gon by more than the limit: 2000 units of 0.00001 gon, or what --two-i says.",
+from 400 gon by more than the limit: 20 mgon, or what --two-i says.",
         example: "refused: block 4: TwoI",
         remedy: "\
-See the value by 'station_check list --two-i 1000000 GSI'. One that stands out has a
+See the value by 'station_check list --two-i 10000mgon GSI'. One that stands out has a
 wrong target or height in one face: if the field book says so, check a copy without it. If all are
 alike, the instrument has that index error, and a wider limit may be stated.",
     },
@@ -548,13 +551,15 @@ const SET_MARK_FAULTS: &[Explanation] = &[
 Sets begin at the 1st, 3rd, 5th .. reading of the first target, or of that after up to three
 readings outside. This reading repeats a target of its set in the same face: a repeated pointing, a
 closing sight, a name with other letters in face II, small ones too, detail points before the sets,
-or another station whose set-up line is missing.",
+another station whose set-up line is missing, or a set that begins with another target than the
+first set.",
         example: "refused: block 7: mark: ReadTwice",
         remedy: "\
 Leave out of a copy what belongs to no set, and mark that. Of the examples, prepare.py
 does, with a log: --closing for closing sights, --blocks for a pointing that the field book calls
 bad, or for detail points and orientation sights before the first set. If a target has two names,
---rename BLOCK NAME gives blocks the right one.",
+--rename BLOCK NAME gives blocks the right one. If the sets begin with different targets, put the
+codes into a copy by hand; FORMATS.md has the lines.",
     },
     Said {
         names: &["FaceMissing"],
@@ -695,10 +700,11 @@ quote goes on to the next quote, over separators and ends of lines.",
         example: "refused: sheet row 3: Fields",
         remedy: "\
 Look at the separators and quotes of that row. A spreadsheet may have written the sheet
-with semicolons in place of commas. In quotes stands a name that has the separator, and a direction
-with a decimal comma if commas separate. If row 1 has this fault, see that SHEET or TABLE names the
-right file; if row 2 of a table has it, titles may be separated in another way than the rows: leave
-them out. Of a table with more columns, keep the two of the name and the direction.",
+with semicolons in place of commas. A table in UTF-16 has this fault in row 2: save it as plain
+text, in ASCII or UTF-8. In quotes stands a name that has the separator, and a direction with a
+decimal comma if commas separate. If row 1 has this fault, see that SHEET or TABLE names the right
+file; if row 2 of a table has it, titles may be separated in another way than the rows: leave them
+out. Of a table with more columns, keep the two of the name and the direction.",
     },
     Said {
         names: &["Kind"],
@@ -758,9 +764,9 @@ decimals of the seconds, of which those after the sixth are 0.",
         remedy: "\
 Write the number so. Directions and orientations of a sheet are whole numbers too: they
 are in half units of 0.005 mgon, times the denominator of the sheet. Those of a table are in gon, or
-in degrees if --degrees is stated: state it for 59-04-09.18 and the like. Leave out the unit, and
-round to 9 decimals. Of titles a table has one row, the first, and it begins with no target's name:
-leave out others.",
+in degrees if --degrees is stated: state it for 59-04-09.18 and the like. In the place of the
+hyphens come the sign of degrees in UTF-8, ' and \". Leave out the unit, and round to 9 decimals. Of
+titles a table has one row, the first, and it begins with no target's name: leave out others.",
     },
     Said {
         names: &["Range"],
@@ -803,9 +809,9 @@ const MATCH_FAULTS: &[Explanation] = &[
         meaning: "the field file has no station of this name",
         when: "\
 No station of the field file that has sets has the name in the sheet or, for 'compare',
-'differences', 'directions', 'residuals' and 'means', the name STATION. Names are compared byte by
-byte. A job that was recorded without blocks of the codes 10 and 20, as most jobs are, has no
-station and an empty list.",
+'differences', 'directions', 'residuals', 'report' and 'means', the name STATION. Names are compared
+byte by byte. A job that was recorded without blocks of the codes 10 and 20, as most jobs are, has
+no station and an empty list.",
         example: "refused: no station",
         remedy: "\
 'station_check list GSI' lists the names. Blanks and small letters count; zeros at the
@@ -912,17 +918,17 @@ its own.",
         names: &["Residual"],
         meaning: "a residual is above its limit",
         when: "\
-As 'kernel: Residual', the residual of the obs row of this number, from 1, is above N half units of
-0.005 mgon, if '--residual N' was stated. As 'adjust: Residual', some least-squares residual is
-above 2000 half units in the adjustment of 'compare', 'differences', 'directions', 'report' or
-'residuals', and that of the observation of this number, from 1, is the greatest. The observations
-of a station are counted in the order in which 'station_check list GSI' has them.",
+As 'kernel: Residual', the residual of the obs row of this number, from 1, is above the limit that
+'--residual' stated. As 'adjust: Residual', some least-squares residual is above 10 mgon in the
+adjustment of 'compare', 'differences', 'directions', 'report' or 'residuals', and that of the
+observation of this number, from 1, is the greatest. The observations of a station are counted in
+the order in which 'station_check list GSI' has them.",
         example: "refused: kernel: Residual 1",
         remedy: "\
 Look at that observation: one that stands out has a wrong target or a wrong name in both
 faces, or the instrument was moved. In a sheet, look at the full turns of its row too: a wrong turn
-is 400 gon. For 'check' a wider limit may be stated, up to 2000: 'station_check report' then has the
-least-squares residuals of all sets beside each other, if none is above that.",
+is 400 gon. For 'check' a wider limit may be stated, up to 10mgon: 'station_check report' then has
+the least-squares residuals of all sets beside each other, if none is above that.",
     },
 ];
 
@@ -968,9 +974,9 @@ check a copy of the field file without the others.",
         names: &["NotFound"],
         meaning: "no exact adjustment was found",
         when: "\
-'compare', 'differences', 'directions' and 'residuals' look for the exact adjustment of the station,
-and test it. Here none was found, though the observations hold all sets and targets together. No
-station is known of which this is so.",
+'compare', 'differences', 'directions', 'residuals' and 'report' look for the exact adjustment of
+the station, and test it. Here none was found, though the observations hold all sets and targets
+together. No station is known of which this is so.",
         example: "refused: adjust: NotFound",
         remedy: "\
 Have another program adjust the station, as adjust.py of the examples, and check its
@@ -980,10 +986,10 @@ sheet with 'station_check check'.",
         names: &["Apart"],
         meaning: "the table is further from the adjustment than its limit",
         when: "\
-After the best rotation some direction of the table is further from the least-squares one than N
-units of 0.000001 gon: what '--within N' states. If it is not stated N is 10, or of a table with
-fewer than 5 decimals what rounding to these may do and 1 more: 51 for 4 decimals, 501 for 3, 5001
-for 2, 50001 for 1; of seconds 156 without decimals and 17 with 1. The row with the coarsest
+After the best rotation some direction of the table is further from the least-squares one than the
+limit that '--within' states. If none is stated it is 0.01 mgon, or of a table with fewer than 5
+decimals what rounding to these may do and 0.001 mgon more: 0.051 mgon for 4 decimals, 0.501 for 3,
+5.001 for 2, 50.001 for 1; of seconds 156 without decimals and 17 with 1. The row with the coarsest
 rounding counts; rows of whole gon or degrees don't. The number in the line is how far, rounded up:
 the least N with which the table agrees.",
         example: "refused: compare: Apart 15",

@@ -106,8 +106,8 @@ ReportsFiles files out err gsi station table unit limits within digests.Printed 
 
 -- A request whose files are open was answered with this exit status: by a run of its own kind, over
 -- its own files, or over standard input where it names none, with its limits, its residual limit,
--- its station, its unit, its decimals, its nearness or its fault; and this is what the run made of
--- the two sinks.
+-- its station, its unit, its decimals, its limit of differences or its fault; and this is what the
+-- run made of the two sinks.
 abbrev pub IsRun : {F I : Type 0} → Readers F → Readers I → I → List (Bor (List Explanation))
     → WriterChange → WriterChange → Request (NamedReader F) → ℕ → Type 0
 IsRun files inputs input faults out err (request.Check gsi sheet limits residual digests) status =
