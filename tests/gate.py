@@ -53,7 +53,9 @@ PROVED = re.compile(r"^rt: (\w+) (?:proved$|is kept: )")
 TESTED = re.compile(r"^rt: (\w+): its tests are proved$")
 TRIED = re.compile(r"^rt: (\w+): trying its must-fail edits \((\d+)\)$")
 NOTE = re.compile(r"^rt: note: ")
-FAILED = re.compile(r"^rt: (FAILED: |\w+ NOT PROVED|.*(NOT REFUSED|BAD EDIT): )")
+FAILED = re.compile(
+    r"^rt: (FAILED: |\w+(: its tests are)? NOT PROVED|.*(NOT REFUSED|BAD EDIT): )"
+)
 
 # How often it is said how far the gate is, in seconds.
 SAY = 60
