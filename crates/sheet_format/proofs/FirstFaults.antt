@@ -1,6 +1,6 @@
 -- The rows that were read: none of them has a fault, and what the next row or the end says of the
 -- whole.
-use Rattle.std.specs.Prelude.{if◌then◌else◌, ◌⊎◌}
+use Rattle.std.specs.Prelude.{◌⊎◌}
 use Rattle.std.proofs.Common.{◌≡◌, ℕ, ◌<◌, ◌≤◌, Bool, true, false, List, [], ◌∷◌, ◌++◌, length}
 use Rattle.std.proofs.Common.{Option, Some, None, All, get_or, refl, ap, sym, subst, ◌∙◌, arith}
 use Rattle.std.proofs.Common.{inl, inr, ◌==◌, length-append, append_assoc}
@@ -11,17 +11,15 @@ use Rattle.adjust_kernel.specs.declared.row.Direction.{Direction}
 use Rattle.adjust_kernel.specs.declared.row.Orientation.{Orientation}
 use Rattle.adjust_kernel.specs.Sheets.{IsDirection, IsOrientation, IsSheet, SheetValue}
 use Rattle.sheet_format.specs.Drafts.{DraftValue, IsOfDraft, HasParts, blank, header_rows}
-use Rattle.sheet_format.specs.Drafts.{last_of_draft, last_of_header, rows_of_draft, said_by_draft}
-use Rattle.sheet_format.specs.Drafts.{sheet_of_draft, version_of_header, with_row}
+use Rattle.sheet_format.specs.Drafts.{last_of_draft, rows_of_draft, said_by_draft, sheet_of_draft}
+use Rattle.sheet_format.specs.Drafts.{version_of_header, with_row}
 use Rattle.sheet_format.specs.Faults.{Before, IsFirstFaultOfRows, NoFaultBefore, fault_at}
-use Rattle.sheet_format.specs.Faults.{fault_between}
-use Rattle.sheet_format.specs.Faults.{last_row_type, row_fault, said_by}
+use Rattle.sheet_format.specs.Faults.{fault_between, last_row_type, row_fault, said_by}
 use Rattle.sheet_format.specs.RowTypes.{may_end}
 use Rattle.sheet_format.specs.Rows.{IsOfVersion, IsSheetText, body_rows, records_of, rows_of}
 use Rattle.sheet_format.specs.declared.entry.Header.{Header}
 use Rattle.sheet_format.specs.declared.fault.RowKind.{RowKind}
 use Rattle.sheet_format.specs.declared.fault.RowKind.TheVariants.{Unfinished}
-use Rattle.sheet_format.specs.declared.row_type.RowType.TheVariants as row_type
 use Rattle.sheet_format.specs.declared.reading.TheConstants.{LONGEST_SHEET}
 use Rattle.sheet_format.specs.declared.version.Version.{Version}
 use Rattle.sheet_format.proofs.DraftRows.{IsDirectionOf, IsDraft, IsVersionedHeader}
@@ -116,15 +114,6 @@ orientations-below : (v : Version) (os : List Orientation) → All (IsOrientatio
 orientations-below v os h k x below = let o = h k x below in
     record { set = o.0; value = angle-below v (get_or os k x).value o.1 }
 
-some-rows : (a b c : Bool) (h : Option Header)
-    → may_end (if a then (if b then (if c then last_of_header h else Some row_type.Target)
-    else Some row_type.Set) else Some row_type.Obs) ≡ true → a ≡ true → ⊥
-some-rows true true true None e z = cc e
-some-rows true true true (Some h) e z = cc e
-some-rows true true false h e z = cc e
-some-rows true false c h e z = cc e
-some-rows false b c h e z = cc z
-
 -- A draft that has a row of an observation has all parts of a sheet.
 finished-sheet : (d : DraftValue) → IsDraft d → 0 < length d.rows → (s : SheetValue) × IsOfDraft d s
     × IsSheet s
@@ -196,8 +185,7 @@ read-end all d read no_sheet =
     by : (b : Bool) → may_end (last_of_draft d) ≡ b → may_end (last_of_draft d) ≡ false
     by false e = e
     by true e = elim (none-or-some d.rows) [
-      | inl none ↦ absurd (some-rows (length d.rows == 0) (length d.orientations == 0)
-          (length d.directions == 0) d.header e none)
+      | inl none ↦ grind arith
       | inr some ↦ let (s, parts, whole) = finished-sheet d read.draft some in
           absurd (no_sheet s parts whole)
     ]
