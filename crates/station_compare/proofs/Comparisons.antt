@@ -1,5 +1,5 @@
 -- From the parts of a comparison to what it answers.
-use Rattle.std.proofs.Common.{◌≡◌, ℕ, List, Result, Ok, Err, refl, sym, subst, inl, inr, Option}
+use Rattle.std.proofs.Common.{◌≡◌, ℕ, List, Result, Ok, Err, refl, subst, inl, inr, Option}
 use Rattle.std.proofs.Common.{Some}
 use Rattle.std.specs.Prelude.{MatchResult}
 use Rattle.adjust_kernel.specs.Stations.{StationValue}
@@ -39,46 +39,6 @@ ended_by unit station within a (Ended bytes) h = (bytes, refl, h)
 ended_by unit station within a (BrokeOff bytes) h = elim h [ inl e ↦ cc | inr e ↦ cc ]
 ended_by unit station within a RanPast h = elim h [ inl e ↦ cc | inr e ↦ cc ]
 
-agrees_of : (unit : AngleUnit) (limits : FaceLimits) (lines : FileAnswers) (stated : Told)
-    (name : List ℕ)
-    (within : Option ℕ) (its : SurveyedStation) (a : Agreement)
-    → IsStationOfFile limits lines name its
-    → (bytes : List ℕ) × (input_within LONGEST_TABLE stated ≡ Ended bytes)
-    × IsAgreement unit its.station bytes within a
-    → Agrees unit limits lines stated name within a
-agrees_of unit limits lines stated name within its a station ended = record {
-  its = its;
-  station = station;
-  bytes = ended.0;
-  whole = ended.1;
-  directions = ended.2.compared.directions;
-  states = ended.2.compared.states;
-  adjustable = ended.2.compared.are_apart.adjustable;
-  brought = λ c turns least. (ended.2.compared.are_apart.from_each c turns least).brought;
-  no_nearer = λ n fewer c turns least.
-      (ended.2.compared.are_apart.from_each c turns least).no_nearer n fewer;
-  agrees = ended.2.agrees;
-  named = ended.2.named;
-  counted = ended.2.counted;
-}
-
--- A table that agrees is compared.
-pub compared_of : (unit : AngleUnit) (limits : FaceLimits) (lines : FileAnswers) (stated : Told)
-    (name : List ℕ) (within : Option ℕ) (a : Agreement)
-    → (h : Agrees unit limits lines stated name within a)
-    → IsComparedWith unit h.its.station h.bytes a.apart
-compared_of unit limits lines stated name within a h = record {
-  directions = h.directions;
-  states = h.states;
-  are_apart = record {
-    adjustable = h.adjustable;
-    from_each = λ c turns least. record {
-      brought = h.brought c turns least;
-      no_nearer = λ n fewer. h.no_nearer n fewer c turns least;
-    };
-  };
-}
-
 -- A station that can be adjusted has no fault of its own.
 pub no_adjust_fault : (station : StationValue) (fault : AdjustFault) → IsAdjustable station
     → IsOfStation fault → IsAdjustFault station fault → ⊥
@@ -93,30 +53,58 @@ no_file_fault unit its within fault (Ended bytes) h = h
 no_file_fault unit its within fault (BrokeOff bytes) h = elim h [ inl e ↦ cc | inr e ↦ cc ]
 no_file_fault unit its within fault RanPast h = elim h [ inl e ↦ cc | inr e ↦ cc ]
 
--- What is answered, where the station was found.
-pub compares_by_table : (unit : AngleUnit) (limits : FaceLimits) (lines : FileAnswers)
-    (stated : Told) (name : List ℕ)
-    (within : Option ℕ) (its : SurveyedStation) (r : Result Agreement CompareFault)
-    → IsStationOfFile limits lines name its
-    → ByInput unit its.station within (input_within LONGEST_TABLE stated) r
-    → Compares unit limits lines stated name within r
-compares_by_table unit limits lines stated name within its (Ok a) station h =
-    agrees_of unit limits lines stated name within its a station
-    (ended_by unit its.station within a (input_within LONGEST_TABLE stated) h)
-compares_by_table unit limits lines stated name within its (Err (File fault)) station h =
-    absurd (no_file_fault unit its within fault (input_within LONGEST_TABLE stated) h)
-compares_by_table unit limits lines stated name within its (Err Memory) station h = tt
-compares_by_table unit limits lines stated name within its (Err fault) station h =
-    record { its = its; station = station; by_input = h }
+module _ (unit : AngleUnit) (limits : FaceLimits) (lines : FileAnswers) (stated : Told)
+    (name : List ℕ) (within : Option ℕ) where
+  -- A table that agrees is compared.
+  pub compared_of : (a : Agreement) (h : Agrees unit limits lines stated name within a)
+      → IsComparedWith unit h.its.station h.bytes a.apart
+  compared_of a h = record {
+    directions = h.directions;
+    states = h.states;
+    are_apart = record {
+      adjustable = h.adjustable;
+      from_each = λ c turns least. record {
+        brought = h.brought c turns least;
+        no_nearer = λ n fewer. h.no_nearer n fewer c turns least;
+      };
+    };
+  }
 
--- What is answered of a fault of the field file.
-pub compares_by_file : (unit : AngleUnit) (limits : FaceLimits) (lines : FileAnswers)
-    (stated : Told) (name : List ℕ)
-    (within : Option ℕ) (fault : Fault) → IsOfFile fault → Surveys limits lines (Err fault)
-    → Compares unit limits lines stated name within (Err (of_file fault))
-compares_by_file unit limits lines stated name within file.NoStation o h = absurd o
-compares_by_file unit limits lines stated name within file.Memory o h = tt
-compares_by_file unit limits lines stated name within fault o h = h
+  -- What is answered, where the station was found.
+  pub compares_by_table : (its : SurveyedStation) (r : Result Agreement CompareFault)
+      → IsStationOfFile limits lines name its
+      → ByInput unit its.station within (input_within LONGEST_TABLE stated) r
+      → Compares unit limits lines stated name within r
+  compares_by_table its (Ok a) station h =
+      let (bytes, whole, is) =
+      ended_by unit its.station within a (input_within LONGEST_TABLE stated) h in
+      record {
+        its = its;
+        station = station;
+        bytes = bytes;
+        whole = whole;
+        directions = is.compared.directions;
+        states = is.compared.states;
+        adjustable = is.compared.are_apart.adjustable;
+        brought = λ c turns least. (is.compared.are_apart.from_each c turns least).brought;
+        no_nearer = λ n fewer c turns least.
+            (is.compared.are_apart.from_each c turns least).no_nearer n fewer;
+        agrees = is.agrees;
+        named = is.named;
+        counted = is.counted;
+      }
+  compares_by_table its (Err (File fault)) station h =
+      absurd (no_file_fault unit its within fault (input_within LONGEST_TABLE stated) h)
+  compares_by_table its (Err Memory) station h = tt
+  compares_by_table its (Err fault) station h =
+      record { its = its; station = station; by_input = h }
+
+  -- What is answered of a fault of the field file.
+  pub compares_by_file : (fault : Fault) → IsOfFile fault → Surveys limits lines (Err fault)
+      → Compares unit limits lines stated name within (Err (of_file fault))
+  compares_by_file file.NoStation o h = absurd o
+  compares_by_file file.Memory o h = tt
+  compares_by_file fault o h = h
 
 -- An answer from the table on leaves the field file's reader read to its end.
 pub left_by_table : (unit : AngleUnit) (its : SurveyedStation) (within : Option ℕ)
@@ -143,9 +131,7 @@ left_with fault gsi h = h
 pub left_by_file : {A B : Type 0} (s : Result A Fault) (fault : Fault) (r : Result B CompareFault)
     (gsi : ReaderChange) → s ≡ Err fault → r ≡ Err (of_file fault) → Leaves file_left s gsi
     → Leaves field_file_left r gsi
-left_by_file {A} {B} s fault r gsi e f h =
-    subst (λ (x : Result B CompareFault). Leaves field_file_left x gsi) (sym f)
-    (left_with fault gsi (subst (λ (x : Result A Fault). Leaves file_left x gsi) e h))
+left_by_file s fault r gsi e f h = rw f (left_with fault gsi (rw e at h))
 
 -- So does a station that has no table.
 pub left_by_no_table : {T : Type 0} (items : T → List ℕ) (its : SurveyedStation) (count : ℕ)
