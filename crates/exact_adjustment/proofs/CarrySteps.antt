@@ -81,9 +81,6 @@ module _ (station : StationValue) (is_station : IsStation station) (turns : List
       λ t h. sym (to.marked.of_targets t h) ∙ all (length station.sets + t) (omega (arith, h)),
     )
 
-    pub all_reached : AreReached station
-    all_reached = record { steps = step; sets = here.0; targets = here.1 }
-
     -- And stay so.
     stay : (n : ℕ) → step ≤ n → AllReached n
     stay zero h = let e : step ≡ 0 = omega arith in subst AllReached e here

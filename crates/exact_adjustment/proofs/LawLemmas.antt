@@ -1,5 +1,5 @@
 -- The lemmas of the laws, by the names of the laws: what proofs of other crates cite.
-use Rattle.std.proofs.Common.{◌≡◌, ℕ, ◌+◌, ap, refl, sym, ◌∙◌}
+use Rattle.std.proofs.Common.{◌≡◌, ap, arith, refl}
 use Rattle.adjust_kernel.specs.Stations.{StationValue}
 use Rattle.adjust_kernel.specs.Verdict.{AtNth}
 use Rattle.adjust_kernel.specs.declared.bounds.TheConstants.{LARGEST_RESIDUAL_LIMIT}
@@ -12,16 +12,6 @@ use Rattle.exact_adjustment.specs.declared.fault.AdjustFault.TheVariants.{NotCon
 use Rattle.exact_adjustment.specs.declared.fault.AdjustFault.TheVariants.{NotFound}
 use Rattle.exact_adjustment.proofs.OneLaws.{one_greatest}
 
--- The number of the greatest residual is one.
-one_number : (station : StationValue) (limit number other : ℕ) → AreTied station
-    → AtNth (IsFar station limit) number → AtNth (IsFar station limit) other → number ≡ other
-one_number station limit number other tied first second =
-    let f = first.2 in
-    let g = second.2 in
-    let e = one_greatest station f.rules tied limit limit first.0 second.0 f.adjustment
-    g.adjustment f.exact g.exact f.nearest g.nearest f.greatest g.greatest in
-    first.1 ∙ ap (λ (n : ℕ). n + 1) e ∙ sym second.1
-
 -- A station has one fault of its own at most.
 pub one_fault : (station : StationValue) (fault other : AdjustFault)
     → IsOfStation fault → IsOfStation other
@@ -31,7 +21,11 @@ one_fault station NotConnected (Residual m) own also stands too = absurd (stands
 one_fault station NotConnected NotFound own also stands too = absurd also
 one_fault station (Residual n) NotConnected own also stands too = absurd (too stands.0)
 one_fault station (Residual n) (Residual m) own also stands too =
-    ap Residual (one_number station LARGEST_RESIDUAL_LIMIT n m stands.0 stands.2 too.2)
+    let (place, at, f) = stands.2 in
+    let (other, too_at, g) = too.2 in
+    let e = one_greatest station f.rules stands.0 LARGEST_RESIDUAL_LIMIT LARGEST_RESIDUAL_LIMIT place
+    other f.adjustment g.adjustment f.exact g.exact f.nearest g.nearest f.greatest g.greatest in
+    ap Residual (omega (arith, at, too_at, e))
 one_fault station (Residual n) NotFound own also stands too = absurd also
 one_fault station NotFound other own also stands too = absurd own
 

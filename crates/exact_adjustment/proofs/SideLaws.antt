@@ -1,6 +1,6 @@
 -- The two sides of a sum of residuals, one observation more.
-use Rattle.std.proofs.Common.{◌≡◌, ℕ, zero, suc, ◌+◌, ◌*◌, ◌<◌, List, [], ◌∷◌, map, length, get_or}
-use Rattle.std.proofs.Common.{Bool, cond, take, ℤ, pos, arith, ap, refl, ◌∙◌}
+use Rattle.std.proofs.Common.{◌↔◌, ◌≤◌, take_all, ◌≡◌, ℕ, zero, suc, ◌+◌, ◌*◌, ◌<◌, List, [], ◌∷◌}
+use Rattle.std.proofs.Common.{map, length, get_or, Bool, cond, take, ℤ, pos, arith, ap, refl, ◌∙◌}
 use Rattle.std.proofs.Math.IntN.{◌*ℤ◌, ◌-ℤ◌, ◌+ℤ◌}
 use Rattle.std.proofs.lemmas.Int.{ints}
 use Rattle.adjust_kernel.specs.declared.bounds.TheConstants.{TURN}
@@ -61,9 +61,15 @@ pub sides_step : (left right a o d v lifted lift left2 right2 : ℕ) (k : ℤ)
 sides_step left right a o d v lifted lift left2 right2 k e f g =
     let h = simp products at (ap (λ x. pos d *ℤ x) g) in simp products (omega (arith, ints))
 
--- Sides with no difference are equal.
-pub equal_sides : (m n : ℕ) → (pos m -ℤ pos n) ≡ pos 0 → m ≡ n
-equal_sides m n e = omega (arith, ints, e)
+-- The two sides of all of them are equal where the sum is 0.
+pub even_is : (p : TurnedObservation → Bool) (f : TurnedObservation → ℤ) (obs : List Obs)
+    (ks : List ℤ) (n left right : ℕ) → length ks ≡ length obs → length obs ≤ n
+    → (pos left -ℤ pos right) ≡ int_sum_where p f (take n (turned obs ks))
+    → (left ≡ right) ↔ (int_sum_where p f (turned obs ks) ≡ pos 0)
+even_is p f obs ks n left right each all sum =
+    let many : length (turned obs ks) ≤ n = omega (arith, length-turned obs ks each) in
+    let e = rw (take_all n (turned obs ks) many) at sum in
+    (λ same. omega (arith, ints), λ none. omega (arith, ints))
 
 -- A residual by the parts of an adjustment.
 pub residual_is : (a : AdjustmentValue) (o : Obs) (k : ℤ)

@@ -7,7 +7,7 @@ use Rattle.adjust_kernel.specs.Residuals.{residual}
 use Rattle.adjust_kernel.specs.TurnedObservations.{TurnedObservation}
 use Rattle.exact_adjustment.specs.Adjustments.{choice_in}
 use Rattle.exact_adjustment.specs.Sides.{turned}
-use Rattle.exact_adjustment.proofs.SideLaws.{equal_sides, length-turned, sum_more}
+use Rattle.exact_adjustment.proofs.SideLaws.{even_is, sum_more}
 use Rattle.exact_adjustment.proofs.certificate.is_target_even.Goals as goal
 use Rattle.exact_adjustment.proofs.certificate.is_target_even.Goals.{then-one-target}
 use Rattle.exact_adjustment.proofs.certificate.is_target_even.Goals.{else-one-target}
@@ -33,13 +33,8 @@ loop-place-preserved c =
 pub returns : goal.returns
 returns c =
     let l = c.loop-place in
-    let all = turned c.args.obs.now c.args.turns.now in
-    let whole : take l.place all ≡ all = take_all l.place all (omega (
-      arith,
-      length-turned c.args.obs.now c.args.turns.now c.requires.each,
-      c.loop-place-test.false,
-    )) in
-    let sum = rw whole at l.invariant.sum in (
-      λ t. sym sum ∙ (let e = c.is_same.ensures.0 t in omega (arith, ints, e)),
-      λ z. c.is_same.ensures.1 (equal_sides l.left l.right (sum ∙ z)),
-    )
+    let e = even_is (λ (r : TurnedObservation). eqb r.target c.args.target)
+    (residual (choice_in c.args.denominator.now c.args.directions.now c.args.orientations.now))
+    c.args.obs.now c.args.turns.now l.place l.left l.right c.requires.each
+    c.loop-place-test.false l.invariant.sum in
+    (λ t. e.0 (c.is_same.ensures.0 t), λ z. c.is_same.ensures.1 (e.1 z))
