@@ -1,17 +1,23 @@
-//! The worked station S1 with its sheet and a table of its directions, given in pieces: the lines
-//! of digests, and refusals, which have none. The digests are those that `sha256sum` prints.
+//! The worked station S1 with its sheet and tables of its directions, given in pieces: the lines of
+//! digests, and refusals, which have none. The digests are those that `sha256sum` prints. What
+//! reports have above them is that of plain runs, which `tests_station_report` tests.
 
 use adjust_kernel::ResidualLimit;
 use byte_ends::{Held, Script};
 use direction_table::AngleUnit;
 use station_book::Limits;
-use station_record::{NamedReader, run_check_recorded, run_compare_recorded};
+use station_record::{
+    NamedReader, run_check_recorded, run_compare_recorded, run_report_recorded,
+    run_table_report_recorded,
+};
+use station_report::run_report;
 use std::alloc::Global;
 use std::process::Abort;
 use std::test::Fail;
+use table_report::{Asked, run_table_report};
 
 /// Bytes that a sink has room for where no test wants less.
-const AMPLE: usize = 1_000;
+const AMPLE: usize = 3_000;
 
 /// How many bytes the readers give at a time.
 const STEPS: [usize; 5] = [1, 7, 64, 4_096, usize::MAX];
@@ -54,6 +60,48 @@ const AGREES: &[u8] = b"agrees S1: 2 targets, within 0\n\
 2f4ee076b5c212dab3274b4ac86ac3e8ed63b631b5c22f66f8f7e428f77bd167  job.gsi\n\
 f5da1d3d1ff629ae485cd880ec2cf3c8bf17d9e17aa2aff7b23099abe37dc41e  S1.csv\n";
 
+/// A report of S1, and what is printed of it.
+#[derive(Clone, Copy)]
+struct Report {
+    /// Its table with the unit of that, where it has one, and within how many units it is to agree.
+    table: Option<(&'static [u8], AngleUnit, u32)>,
+    /// What stands after the text.
+    digests: &'static [u8],
+    /// The line of a refusal.
+    refused: &'static [u8],
+}
+
+/// A report without a table, with one that agrees, with one in degrees, and with one that is apart.
+const REPORTS: [Report; 4] = [
+    Report {
+        table: None,
+        digests: b"\nSHA-256 digests of what was read, as sha256sum prints them\n\n\
+2f4ee076b5c212dab3274b4ac86ac3e8ed63b631b5c22f66f8f7e428f77bd167  job.gsi\n",
+        refused: b"",
+    },
+    Report {
+        table: Some((TABLE, AngleUnit::Gon, 0)),
+        digests: b"\nSHA-256 digests of what was read, as sha256sum prints them\n\n\
+2f4ee076b5c212dab3274b4ac86ac3e8ed63b631b5c22f66f8f7e428f77bd167  job.gsi\n\
+f5da1d3d1ff629ae485cd880ec2cf3c8bf17d9e17aa2aff7b23099abe37dc41e  S1.csv\n",
+        refused: b"",
+    },
+    Report {
+        table: Some((b"A,0-00-00\nB,45-00-00.0972\n", AngleUnit::Degrees, 0)),
+        digests: b"\nSHA-256 digests of what was read, as sha256sum prints them\n\n\
+2f4ee076b5c212dab3274b4ac86ac3e8ed63b631b5c22f66f8f7e428f77bd167  job.gsi\n\
+5be4d15c0fd92ed0448f1822c8d329d63e572851d6d3c3a5f7fdfd9746e6f992  S1.csv\n",
+        refused: b"",
+    },
+    Report {
+        table: Some((b"A,0\nB,50.00005\n", AngleUnit::Gon, 9)),
+        digests: b"\nSHA-256 digests of what was read, as sha256sum prints them\n\n\
+2f4ee076b5c212dab3274b4ac86ac3e8ed63b631b5c22f66f8f7e428f77bd167  job.gsi\n\
+209dd27d75818856866121c8deaff72691406d7deb455bcc46b1123e36847798  S1.csv\n",
+        refused: b"refused: compare: Apart 10\n",
+    },
+];
+
 /// A file as it is handed down: its bytes, how many are given at a time, whether a read fails after
 /// the last, and its name.
 #[derive(Clone, Copy)]
@@ -82,10 +130,14 @@ impl<'a> File<'a> {
         }
     }
 
+    fn bytes(self) -> Script<'a> {
+        Script::new(self.bytes, self.step.max(1), self.fails)
+    }
+
     fn reader(self) -> NamedReader<'a, Script<'a>> {
         NamedReader {
             name: self.name,
-            reader: Script::new(self.bytes, self.step.max(1), self.fails),
+            reader: self.bytes(),
         }
     }
 }
@@ -148,6 +200,83 @@ fn compared(
     Ok(Printed { status, out, err })
 }
 
+impl Report {
+    /// What is asked of it, if it has a table.
+    fn asked<'a>(
+        self,
+        rt: &impl Abort,
+        gsi: File<'a>,
+        table: File<'a>,
+        station: &'a [u8],
+    ) -> Option<Asked<'a>> {
+        let (_, unit, within) = self.table?;
+        Some(Asked {
+            path: gsi.name,
+            table_path: table.name,
+            unit,
+            station,
+            limits: limits(rt),
+            within: Some(within),
+        })
+    }
+
+    /// The report with the digests of its files.
+    fn recorded(
+        self,
+        rt: &impl Abort,
+        alloc: Global,
+        gsi: File<'_>,
+        table: File<'_>,
+        station: &[u8],
+        room: usize,
+    ) -> Result<Printed, Fail> {
+        let (mut out, mut err) = (held(alloc, room)?, held(alloc, AMPLE)?);
+        let status = match self.asked(rt, gsi, table, station) {
+            None => {
+                let (gsi, limits) = (gsi.reader(), limits(rt));
+                run_report_recorded(alloc, gsi, station, limits, &mut out, &mut err)
+            }
+            Some(asked) => {
+                let (gsi, table) = (gsi.bytes(), table.bytes());
+                run_table_report_recorded(alloc, gsi, table, &asked, &mut out, &mut err)
+            }
+        };
+        Ok(Printed { status, out, err })
+    }
+
+    /// All that is printed of the report of S1: the text of a plain run, and these digests.
+    fn text(
+        self,
+        rt: &impl Abort,
+        alloc: Global,
+        gsi: File<'_>,
+        table: File<'_>,
+        digests: &[u8],
+    ) -> Result<Vec<u8>, Fail> {
+        let (mut out, mut err) = (held(alloc, AMPLE)?, held(alloc, AMPLE)?);
+        match self.asked(rt, gsi, table, b"S1") {
+            None => {
+                let (path, gsi, limits) = (gsi.name, gsi.bytes(), limits(rt));
+                run_report(alloc, gsi, path, b"S1", limits, &mut out, &mut err)
+            }
+            Some(asked) => {
+                let (gsi, mut table) = (gsi.bytes(), table.bytes());
+                run_table_report(alloc, gsi, &mut table, &asked, &mut out, &mut err)
+            }
+        };
+        assert_eq!(rt; err.bytes(), self.refused);
+        let mut text = Vec::new(alloc);
+        text.extend_from_slice(out.bytes())?;
+        text.extend_from_slice(digests)?;
+        Ok(text)
+    }
+
+    /// Its files, given so many bytes at a time.
+    fn files(self, step: usize) -> (File<'static>, File<'static>) {
+        files(self.table.map_or(b"", |table| table.0), step)
+    }
+}
+
 /// The field file and the other file, given so many bytes at a time.
 fn files(other: &'static [u8], step: usize) -> (File<'static>, File<'static>) {
     (
@@ -199,6 +328,31 @@ fn a_name_is_escaped_as_sha256sum_does(rt: HostRuntime) -> Result<(), Fail> {
 \\aa3a8284e08fbd449811233917dcb0758ce46bee9eac082e94f1f864251ebb9d  a\\\\b\\nc\\rd\n";
     let printed = checked(&rt, rt.alloc(), gsi, sheet, None, AMPLE)?;
     expect_text(&rt, &printed, text);
+    let (gsi, table) = (File::new(S1, 64, b"\\"), File::new(TABLE, 64, b"\n"));
+    let digests: &[u8] = b"\nSHA-256 digests of what was read, as sha256sum prints them\n\n\
+\\2f4ee076b5c212dab3274b4ac86ac3e8ed63b631b5c22f66f8f7e428f77bd167  \\\\\n\
+\\f5da1d3d1ff629ae485cd880ec2cf3c8bf17d9e17aa2aff7b23099abe37dc41e  \\n\n";
+    let report = REPORTS[1];
+    let text = report.text(&rt, rt.alloc(), gsi, table, digests)?;
+    let printed = report.recorded(&rt, rt.alloc(), gsi, table, b"S1", AMPLE)?;
+    expect_text(&rt, &printed, text.as_slice());
+    Ok(())
+}
+
+/// After a table that is apart too.
+#[test]
+fn a_report_prints_the_digests_of_files_in_pieces(rt: HostRuntime) -> Result<(), Fail> {
+    for report in REPORTS {
+        let (gsi, table) = report.files(usize::MAX);
+        let text = report.text(&rt, rt.alloc(), gsi, table, report.digests)?;
+        for step in STEPS {
+            let (gsi, table) = report.files(step);
+            let printed = report.recorded(&rt, rt.alloc(), gsi, table, b"S1", AMPLE)?;
+            assert_eq!(rt; printed.out.bytes(), text.as_slice());
+            assert_eq!(rt; printed.err.bytes(), report.refused);
+            assert_eq!(rt; printed.status, u8::from(!report.refused.is_empty()));
+        }
+    }
     Ok(())
 }
 
@@ -246,6 +400,46 @@ fn a_refused_comparison_prints_no_digest(rt: HostRuntime) -> Result<(), Fail> {
 }
 
 #[test]
+fn a_refused_report_prints_no_digest(rt: HostRuntime) -> Result<(), Fail> {
+    for step in STEPS {
+        let (gsi, table) = files(TABLE, step);
+        let cut = gsi.that_fails();
+        let (one, with_table) = (REPORTS[0], REPORTS[1]);
+        let cases: [(Report, File<'_>, File<'_>, &[u8], &[u8]); 6] = [
+            (one, gsi, table, b"S2", b"refused: no station\n"),
+            (one, cut, table, b"S1", b"refused: block 13: Read\n"),
+            (
+                with_table,
+                gsi,
+                table.that_fails(),
+                b"S2",
+                b"refused: no station\n",
+            ),
+            (with_table, cut, table, b"S1", b"refused: block 13: Read\n"),
+            (
+                with_table,
+                gsi,
+                table.that_fails(),
+                b"S1",
+                b"refused: table: Read\n",
+            ),
+            (
+                with_table,
+                gsi,
+                gsi,
+                b"S1",
+                b"refused: table row 2: Number\n",
+            ),
+        ];
+        for (report, gsi, table, station, line) in cases {
+            let printed = report.recorded(&rt, rt.alloc(), gsi, table, station, AMPLE)?;
+            expect_refusal(&rt, &printed, line);
+        }
+    }
+    Ok(())
+}
+
+#[test]
 fn an_output_that_is_full_is_a_refusal(rt: HostRuntime) -> Result<(), Fail> {
     let alloc = rt.alloc();
     let line: &[u8] = b"refused: write failed\n";
@@ -260,6 +454,16 @@ fn an_output_that_is_full_is_a_refusal(rt: HostRuntime) -> Result<(), Fail> {
         let printed = compared(&rt, alloc, gsi, table, 0, room)?;
         assert_eq!(rt; printed.err.bytes(), line);
         assert_eq!(rt; printed.status, 1);
+    }
+    for report in REPORTS {
+        let (gsi, table) = report.files(usize::MAX);
+        let text = report.text(&rt, alloc, gsi, table, report.digests)?;
+        for room in text.len().saturating_sub(report.digests.len())..text.len() {
+            let printed = report.recorded(&rt, alloc, gsi, table, b"S1", room)?;
+            assert_eq!(rt; printed.out.bytes(), &text[..room]);
+            assert_eq!(rt; printed.err.bytes(), line);
+            assert_eq!(rt; printed.status, 1);
+        }
     }
     Ok(())
 }

@@ -1,0 +1,84 @@
+//! The rows of stations worked by hand.
+
+use super::worked::{AMPLE, STEPS, given, limits, refused, room_for, s1, s4};
+use byte_ends::{OfRead, OfWrite};
+use report_rows::{report_rows_text, run_report_rows, write_report_rows};
+use station_compare::CompareFault;
+use std::test::Fail;
+use test_support::{Recovers, Resumes};
+
+#[test]
+fn rows_are_printed_of_a_file_in_pieces(rt: HostRuntime) -> Result<(), Fail> {
+    for worked in [s1(), s4()] {
+        let name = worked.name;
+        for step in STEPS {
+            let gsi = given(worked.gsi, step, false);
+            match report_rows_text(rt.alloc(), gsi, name, limits(&rt)) {
+                Ok(text) => assert_eq!(rt; text.as_slice(), worked.rows),
+                Err(fault) => assert!(rt; false, "{fault:?}"),
+            }
+            let gsi = given(worked.gsi, step, false);
+            let mut out = room_for(rt.alloc(), AMPLE, false)?;
+            let mut err = room_for(rt.alloc(), AMPLE, false)?;
+            let limits = limits(&rt);
+            let status = run_report_rows(rt.alloc(), gsi, name, limits, &mut out, &mut err);
+            assert_eq!(rt; err.bytes(), b"".as_slice());
+            assert_eq!(rt; out.bytes(), worked.rows);
+            assert_eq!(rt; status, 0);
+        }
+    }
+    Ok(())
+}
+
+#[test]
+fn a_station_without_rows_is_refused(rt: HostRuntime) -> Result<(), Fail> {
+    for (gsi, fails, name, line) in refused() {
+        let gsi = given(gsi, 7, fails);
+        let mut out = room_for(rt.alloc(), AMPLE, false)?;
+        let mut err = room_for(rt.alloc(), AMPLE, false)?;
+        let status = run_report_rows(rt.alloc(), gsi, name, limits(&rt), &mut out, &mut err);
+        assert_eq!(rt; err.bytes(), line);
+        assert_eq!(rt; out.bytes(), b"".as_slice());
+        assert_eq!(rt; status, 1);
+    }
+    Ok(())
+}
+
+#[test]
+fn a_writer_of_rows_without_room_or_whose_flush_fails_is_told(rt: HostRuntime) -> Result<(), Fail> {
+    let worked = s4();
+    for room in 0..=worked.rows.len() {
+        let gsi = given(worked.gsi, usize::MAX, false);
+        let mut out = room_for(rt.alloc(), room, room == worked.rows.len())?;
+        let answer = write_report_rows(rt.alloc(), gsi, worked.name, limits(&rt), &mut out);
+        assert_eq!(rt; answer, Err(CompareFault::Write));
+        assert_eq!(rt; out.bytes(), &worked.rows[..room]);
+    }
+    Ok(())
+}
+
+#[test]
+fn ends_of_rows_that_fail_once_are_not_asked_again(rt: HostRuntime) -> Result<(), Fail> {
+    let worked = s1();
+    for fails in [false, true] {
+        let mut gsi = Recovers::new(worked.gsi, fails);
+        let answer = report_rows_text(rt.alloc(), OfRead::new(&mut gsi), worked.name, limits(&rt));
+        assert_eq!(rt; answer.is_err(), fails);
+        assert_eq!(rt; gsi.asked_on, 0);
+    }
+    let writes = worked.rows.len().div_ceil(50);
+    for calls in 0..=writes {
+        let gsi = given(worked.gsi, usize::MAX, false);
+        let mut writer = Resumes::new(calls, 50);
+        let mut out = OfWrite::new(&mut writer);
+        let answer = write_report_rows(rt.alloc(), gsi, worked.name, limits(&rt), &mut out);
+        drop(out);
+        assert_eq!(rt; answer, Err(CompareFault::Write));
+        assert_eq!(rt;
+            writer.bytes,
+            worked.rows.len().min(calls.saturating_mul(50))
+        );
+        assert_eq!(rt; writer.asked_on, 0);
+    }
+    Ok(())
+}

@@ -1,0 +1,180 @@
+//! Stations worked in exact fractions: what a report computes of them, and its text.
+
+use super::worked::{
+    AMPLE, PATH, STEPS, given, limits, parts, refused, report_of, room_for, s1, s4, tie,
+};
+use adjust_kernel::{Name, Obs, Station};
+use exact_adjustment::{AdjustError, AdjustFault};
+use station_check::Fault;
+use station_compare::CompareFault;
+use station_report::{computed_of, degrees_of, report_text, run_report, write_report};
+use std::alloc::Global;
+use std::process::Abort;
+use std::test::Fail;
+
+/// An observation: the places of its set and its target, and its two-face direction in half units.
+type Observed = (u32, u32, u32);
+
+/// A station of targets A, B and so on, and of this many sets, with these observations.
+fn station_of(
+    rt: &impl Abort,
+    alloc: Global,
+    sets: u16,
+    letters: &[u8],
+    observed: &[Observed],
+) -> Result<Station, Fail> {
+    let name = |letter: u8| Name::new(&[letter]).expect(rt, "a name");
+    let mut names = Vec::new(alloc);
+    for letter in letters {
+        names.push(name(*letter))?;
+    }
+    let mut numbers = Vec::new(alloc);
+    for number in 1..=sets {
+        numbers.push(number)?;
+    }
+    let mut obs = Vec::new(alloc);
+    for (set, target, value) in observed {
+        obs.push(Obs {
+            set: *set,
+            target: *target,
+            value: *value,
+        })?;
+    }
+    let station = Station::new(name(b'S'), names, numbers, obs);
+    Ok(station.expect(rt, "a station"))
+}
+
+/// The last reading is 30 mgon off: two residuals are 10 mgon, no more than there may be.
+const LARGEST: [Observed; 6] = [
+    (0, 0, 0),
+    (0, 1, 0),
+    (1, 0, 0),
+    (1, 1, 0),
+    (2, 0, 0),
+    (2, 1, 6_000),
+];
+
+/// The second set is without A and the third without B.
+const GAPS: [Observed; 7] = [
+    (0, 0, 0),
+    (0, 1, 10_000_000),
+    (0, 2, 30_000_007),
+    (1, 1, 50_000_010),
+    (1, 2, 70_000_000),
+    (2, 0, 20_000_002),
+    (2, 2, 50_000_020),
+];
+
+/// One set, which nothing stands against.
+const ONE_SET: [Observed; 3] = [(0, 0, 0), (0, 1, 10_000_000), (0, 2, 79_999_999)];
+
+/// The angles differ by a half unit: residuals are quarters of it, and the root of the sum of their
+/// squares is half of it, which is 2.5 units.
+const MIDDLE: [Observed; 4] = [(0, 0, 0), (0, 1, 0), (1, 0, 0), (1, 1, 1)];
+
+/// Variances are 25 / 4, 150,000,000 and 5,035 / 3, in squares of 0.001 mgon.
+#[test]
+fn the_standard_deviation_is_rounded_once(rt: HostRuntime) -> Result<(), Fail> {
+    let cases: [(u16, &[u8], &[Observed], u64, Option<u32>, usize); 5] = [
+        (2, b"AB", &MIDDLE, 1, Some(3), 0),
+        (3, b"AB", &LARGEST, 2, Some(12_247), 4),
+        (3, b"ABC", &GAPS, 2, Some(41), 1),
+        (1, b"ABC", &ONE_SET, 0, None, 0),
+        (2, b"A", &[(0, 0, 7), (1, 0, 79_999_999)], 0, None, 0),
+    ];
+    for (sets, letters, observed, degrees, deviation, greatest) in cases {
+        let station = station_of(&rt, rt.alloc(), sets, letters, observed)?;
+        let computed = computed_of(rt.alloc(), &station).map_err(|_| "no adjustment")?;
+        assert_eq!(rt; degrees_of(&station), degrees);
+        assert_eq!(rt; computed.deviation, deviation);
+        assert_eq!(rt; computed.greatest, greatest);
+    }
+    Ok(())
+}
+
+/// 40 sets of 2 targets, of which the second goes through the squares modulo 7: the variance is
+/// 405 / 16.
+#[test]
+fn the_most_sets_have_a_standard_deviation(rt: HostRuntime) -> Result<(), Fail> {
+    let mut observed = Vec::new(rt.alloc());
+    for set in 0..40u32 {
+        observed.push((set, 0, set * 1_000))?;
+        observed.push((set, 1, set * 1_000 + 5_000_000 + set * set % 7))?;
+    }
+    let station = station_of(&rt, rt.alloc(), 40, b"AB", &observed)?;
+    let computed = computed_of(rt.alloc(), &station).map_err(|_| "no adjustment")?;
+    assert_eq!(rt; degrees_of(&station), 39);
+    assert_eq!(rt; computed.deviation, Some(5));
+    Ok(())
+}
+
+#[test]
+fn a_residual_above_10_mgon_is_refused(rt: HostRuntime) -> Result<(), Fail> {
+    let mut above = LARGEST;
+    above[5].2 += 1;
+    let station = station_of(&rt, rt.alloc(), 3, b"AB", &above)?;
+    let answer = computed_of(rt.alloc(), &station);
+    assert!(rt; matches!(answer, Err(AdjustError::Fault(AdjustFault::Residual(5)))));
+    Ok(())
+}
+
+#[test]
+fn a_report_is_printed_of_a_file_in_pieces(rt: HostRuntime) -> Result<(), Fail> {
+    for worked in [s1(), s4()] {
+        let report = report_of(rt.alloc(), worked)?;
+        for step in STEPS {
+            let gsi = given(worked.gsi, step, false);
+            let mut out = room_for(rt.alloc(), AMPLE, false)?;
+            let mut err = room_for(rt.alloc(), AMPLE, false)?;
+            let limits = limits(&rt);
+            let name = worked.name;
+            let status = run_report(rt.alloc(), gsi, PATH, name, limits, &mut out, &mut err);
+            assert_eq!(rt; err.bytes(), b"".as_slice());
+            assert_eq!(rt; out.bytes(), report.as_slice());
+            assert_eq!(rt; status, 0);
+        }
+    }
+    Ok(())
+}
+
+#[test]
+fn a_field_file_without_a_report_has_its_first_fault(rt: HostRuntime) -> Result<(), Fail> {
+    let faults: [(&[u8], &[u8], CompareFault); 3] = [
+        (s1().gsi, b"S2", CompareFault::File(Fault::NoStation)),
+        (
+            parts(),
+            b"S2",
+            CompareFault::Adjust(AdjustFault::NotConnected),
+        ),
+        (tie(), b"S3", CompareFault::Adjust(AdjustFault::Residual(1))),
+    ];
+    for (gsi, name, fault) in faults {
+        let gsi = given(gsi, usize::MAX, false);
+        let answer = report_text(rt.alloc(), gsi, PATH, name, limits(&rt));
+        assert_eq!(rt; answer.err(), Some(fault));
+    }
+    for (gsi, fails, name, line) in refused() {
+        let gsi = given(gsi, 7, fails);
+        let mut out = room_for(rt.alloc(), AMPLE, false)?;
+        let mut err = room_for(rt.alloc(), AMPLE, false)?;
+        let status = run_report(rt.alloc(), gsi, PATH, name, limits(&rt), &mut out, &mut err);
+        assert_eq!(rt; err.bytes(), line);
+        assert_eq!(rt; out.bytes(), b"".as_slice());
+        assert_eq!(rt; status, 1);
+    }
+    Ok(())
+}
+
+#[test]
+fn a_writer_without_room_or_whose_flush_fails_is_told(rt: HostRuntime) -> Result<(), Fail> {
+    let worked = s1();
+    let report = report_of(rt.alloc(), worked)?;
+    for room in 0..=report.len() {
+        let gsi = given(worked.gsi, usize::MAX, false);
+        let mut out = room_for(rt.alloc(), room, room == report.len())?;
+        let answer = write_report(rt.alloc(), gsi, PATH, worked.name, limits(&rt), &mut out);
+        assert_eq!(rt; answer, Err(CompareFault::Write));
+        assert_eq!(rt; out.bytes(), &report[..room]);
+    }
+    Ok(())
+}

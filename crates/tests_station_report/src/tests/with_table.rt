@@ -1,0 +1,381 @@
+//! Reports of stations worked by hand, with tables beside their directions.
+
+use super::worked::{AMPLE, PATH, STEPS, Worked, given, joined, limits, refused, room_for, s1, s4};
+use byte_ends::{OfRead, OfWrite};
+use direction_table::AngleUnit;
+use station_compare::CompareFault;
+use std::alloc::Global;
+use std::process::Abort;
+use std::test::Fail;
+use table_report::{Asked, run_table_report, table_report_of_sources, verdict, write_table_report};
+use test_support::{Recovers, Resumes};
+
+/// Whose directions a table states.
+#[derive(Clone, Copy)]
+enum Of {
+    S1,
+    S4,
+}
+
+/// A table beside a station, and what the report says of it.
+#[derive(Clone, Copy)]
+struct Beside {
+    of: Of,
+    table: &'static [u8],
+    unit: AngleUnit,
+    /// The limit that is stated, in units of 0.000001 gon.
+    within: Option<u32>,
+    /// The lines of its targets.
+    lines: &'static [u8],
+    /// The limit in force, in mgon.
+    limit: &'static [u8],
+    verdict: &'static [u8],
+    /// How far it is apart, where that is beyond the limit, and the line of the refusal then.
+    beyond: Option<u32>,
+    refused: &'static [u8],
+}
+
+/// A table whose row B is first, and that is turned by 100 gon.
+const TURNED: Beside = Beside {
+    of: Of::S1,
+    table: b"B;150,0001\nA;100,0001\n",
+    unit: AngleUnit::Gon,
+    within: None,
+    lines: b"  A                       100.000100         0.015\n\
+\x20 B                       150.000100        -0.015\n",
+    limit: b"0.051",
+    verdict: b"agrees S1: 2 targets, within 15",
+    beyond: None,
+    refused: b"",
+};
+
+/// The same, further apart than is stated.
+const APART: Beside = Beside {
+    within: Some(14),
+    limit: b"0.014",
+    verdict: b"apart S1: 2 targets, by 15",
+    beyond: Some(15),
+    refused: b"refused: compare: Apart 15\n",
+    ..TURNED
+};
+
+/// Tables by their limits and units.
+fn tables() -> [Beside; 10] {
+    [
+        TURNED,
+        Beside {
+            within: Some(15),
+            limit: b"0.015",
+            ..TURNED
+        },
+        APART,
+        // Half a unit on both sides: the middle of two goes up.
+        Beside {
+            table: b"A,0\nB,50.000031\n",
+            within: Some(0),
+            lines: b"  A                         0.000000         0.000\n\
+\x20 B                        50.000031         0.001\n",
+            limit: b"0.000",
+            verdict: b"apart S1: 2 targets, by 1",
+            beyond: Some(1),
+            refused: b"refused: compare: Apart 1\n",
+            ..TURNED
+        },
+        // Half a circle apart: of the two arcs the one that begins at the first target.
+        Beside {
+            table: b"A 0\nB 250.00003\n",
+            within: Some(1_000_000),
+            lines: b"  A                         0.000000   -100000.000\n\
+\x20 B                       250.000030    100000.000\n",
+            limit: b"1000.000",
+            verdict: b"apart S1: 2 targets, by 100000000",
+            beyond: Some(100_000_000),
+            refused: b"refused: compare: Apart 100000000\n",
+            ..TURNED
+        },
+        // 45 degrees and 0.0972 seconds are 50.00003 gon; the row of A is rounded to a second.
+        Beside {
+            table: b"A,0-00-00\nB,45-00-00.0972\n",
+            unit: AngleUnit::Degrees,
+            lines: b"  A                         0.000000         0.000\n\
+\x20 B                        50.000030         0.000\n",
+            limit: b"0.156",
+            verdict: b"agrees S1: 2 targets, within 0",
+            ..TURNED
+        },
+        // 0.2 seconds are 0.00006172839.. gon.
+        Beside {
+            table: b"B;45\xc2\xb000'00,20\"\nA;360\xc2\xb000'00,00\"\n",
+            unit: AngleUnit::Degrees,
+            lines: b"  A                      0.000000000        -0.016\n\
+\x20 B                     50.000061728         0.016\n",
+            limit: b"0.010",
+            verdict: b"apart S1: 2 targets, by 16",
+            beyond: Some(16),
+            refused: b"refused: compare: Apart 16\n",
+            ..TURNED
+        },
+        // 4 decimals of a degree.
+        Beside {
+            table: b"A,90.0000\nB,135.0000\n",
+            unit: AngleUnit::Degrees,
+            lines: b"  A                       100.000000         0.015\n\
+\x20 B                       150.000000        -0.015\n",
+            limit: b"0.057",
+            ..TURNED
+        },
+        // Differences of 0, -62/3 and -61/3 units: half of the spread is 31/3, and rounded up 11.
+        Beside {
+            of: Of::S4,
+            table: b"A,0.000000\n\"B,\"\"1\",50.000026\nC,150.000029\n",
+            lines: b"  A                         0.000000         0.010\n\
+\x20 B,\"1                     50.000026        -0.010\n\
+\x20 C                       150.000029        -0.010\n",
+            limit: b"0.010",
+            verdict: b"apart S4: 3 targets, by 11",
+            beyond: Some(11),
+            refused: b"refused: compare: Apart 11\n",
+            ..TURNED
+        },
+        Beside {
+            of: Of::S4,
+            table: b"C\t150.000029\nB,\"1\t50.000026\nA\t0.000000\n",
+            within: Some(11),
+            lines: b"  A                         0.000000         0.010\n\
+\x20 B,\"1                     50.000026        -0.010\n\
+\x20 C                       150.000029        -0.010\n",
+            limit: b"0.011",
+            verdict: b"agrees S4: 3 targets, within 11",
+            ..TURNED
+        },
+    ]
+}
+
+impl Beside {
+    /// Its station.
+    fn worked(self) -> Worked {
+        match self.of {
+            Of::S1 => s1(),
+            Of::S4 => s4(),
+        }
+    }
+
+    /// What is asked, of a table of this path.
+    fn asked<'a>(self, rt: &impl Abort, table_path: &'a [u8]) -> Asked<'a> {
+        Asked {
+            path: PATH,
+            table_path,
+            unit: self.unit,
+            station: self.worked().name,
+            limits: limits(rt),
+            within: self.within,
+        }
+    }
+
+    /// The whole report, where the path of the table stands in it so.
+    fn report(self, alloc: Global, shown_path: &'static [u8]) -> Result<Vec<u8>, Fail> {
+        let worked = self.worked();
+        joined(
+            alloc,
+            &[
+                worked.before,
+                b"\nStated directions in gon, differences in mgon: stated less adjusted, \
+after the best rotation\n\n\
+\x20 Target                      Stated    Difference\n\n",
+                self.lines,
+                b"\nTable                 ",
+                shown_path,
+                b"\nLimit of differences  ",
+                self.limit,
+                b" mgon\nComparison            ",
+                self.verdict,
+                b"\n",
+                worked.after,
+            ],
+        )
+    }
+}
+
+#[test]
+fn a_table_stands_beside_the_adjusted_directions(rt: HostRuntime) -> Result<(), Fail> {
+    // The second path is shown as sha256sum prints it.
+    let paths: [(&[u8], &'static [u8]); 2] = [
+        (b"table.csv", b"table.csv"),
+        (b"a\\b\nc", b"\\a\\\\b\\nc"),
+    ];
+    for beside in tables() {
+        for (path, shown_path) in paths {
+            let want = beside.report(rt.alloc(), shown_path)?;
+            let asked = beside.asked(&rt, path);
+            let gsi = given(beside.worked().gsi, usize::MAX, false);
+            let mut table = given(beside.table, usize::MAX, false);
+            let (answer, _gsi) = table_report_of_sources(rt.alloc(), gsi, &mut table, &asked);
+            match answer {
+                Ok(report) => {
+                    assert_eq!(rt; report.text.as_slice(), want.as_slice());
+                    assert_eq!(rt; report.beyond, beside.beyond);
+                    let apart = beside.beyond.map(CompareFault::Apart);
+                    assert_eq!(rt; verdict(report.beyond).err(), apart);
+                }
+                Err(fault) => assert!(rt; false, "{fault:?}"),
+            }
+        }
+    }
+    Ok(())
+}
+
+/// Where the line of a refusal is cut short, the status stays.
+#[test]
+fn a_table_that_is_apart_is_printed_and_then_refused(rt: HostRuntime) -> Result<(), Fail> {
+    for beside in tables() {
+        let want = beside.report(rt.alloc(), b"table.csv")?;
+        let asked = beside.asked(&rt, b"table.csv");
+        for (step, room) in STEPS.into_iter().zip([AMPLE, 0, 5, AMPLE]) {
+            let gsi = given(beside.worked().gsi, step, false);
+            let mut table = given(beside.table, step, false);
+            let mut out = room_for(rt.alloc(), AMPLE, false)?;
+            let mut err = room_for(rt.alloc(), room, false)?;
+            let status = run_table_report(rt.alloc(), gsi, &mut table, &asked, &mut out, &mut err);
+            let line = beside.refused;
+            assert_eq!(rt; out.bytes(), want.as_slice());
+            assert_eq!(rt; err.bytes(), &line[..line.len().min(room)]);
+            assert_eq!(rt; status, u8::from(beside.beyond.is_some()));
+        }
+    }
+    Ok(())
+}
+
+/// The first fault is answered, and nothing printed. A table is read after its station is found,
+/// and before that is adjusted.
+#[test]
+fn a_table_without_a_report_has_the_first_fault(rt: HostRuntime) -> Result<(), Fail> {
+    let of_station = [true, true, false, false];
+    let mut cases = Vec::new(rt.alloc());
+    for ((gsi, gsi_fails, name, line), fails) in refused().into_iter().zip(of_station) {
+        let table: &[u8] = b"A,0\nB,0\n";
+        cases.push((gsi, gsi_fails, name, table, AngleUnit::Gon, fails, line))?;
+    }
+    let of_table: [(&[u8], AngleUnit, bool, &[u8]); 8] = [
+        (
+            TURNED.table,
+            AngleUnit::Gon,
+            true,
+            b"refused: table: Read\n",
+        ),
+        (
+            b"A,0\nC,1\n",
+            AngleUnit::Gon,
+            false,
+            b"refused: table row 2: Unknown\n",
+        ),
+        (
+            b"A,0\nA,1\n",
+            AngleUnit::Gon,
+            false,
+            b"refused: table row 2: Twice\n",
+        ),
+        (
+            b"B,50\n",
+            AngleUnit::Gon,
+            false,
+            b"refused: table: Missing 1\n",
+        ),
+        (
+            b"",
+            AngleUnit::Degrees,
+            false,
+            b"refused: table: Missing 1\n",
+        ),
+        (
+            b"A,0-00-00\nB,45-00-00\n",
+            AngleUnit::Gon,
+            false,
+            b"refused: table row 1: Number\n",
+        ),
+        (
+            b"A,0\nB,45-60-00\n",
+            AngleUnit::Degrees,
+            false,
+            b"refused: table row 2: Number\n",
+        ),
+        (
+            b"A,0\nB,360.1\n",
+            AngleUnit::Degrees,
+            false,
+            b"refused: table row 2: Range\n",
+        ),
+    ];
+    for (table, unit, fails, line) in of_table {
+        let gsi: &[u8] = s1().gsi;
+        let name: &[u8] = s1().name;
+        cases.push((gsi, false, name, table, unit, fails, line))?;
+    }
+    for (gsi, gsi_fails, station, table, unit, fails, line) in cases {
+        let asked = Asked {
+            unit,
+            station,
+            ..TURNED.asked(&rt, b"table.csv")
+        };
+        let gsi = given(gsi, 7, gsi_fails);
+        let mut table = given(table, 1, fails);
+        let mut out = room_for(rt.alloc(), AMPLE, false)?;
+        let mut err = room_for(rt.alloc(), AMPLE, false)?;
+        let status = run_table_report(rt.alloc(), gsi, &mut table, &asked, &mut out, &mut err);
+        assert_eq!(rt; err.bytes(), line);
+        assert_eq!(rt; out.bytes(), b"".as_slice());
+        assert_eq!(rt; status, 1);
+    }
+    Ok(())
+}
+
+/// Also where the table is apart: what was not printed whole has no verdict.
+#[test]
+fn a_writer_without_room_for_a_table_or_whose_flush_fails_is_told(
+    rt: HostRuntime,
+) -> Result<(), Fail> {
+    for beside in [TURNED, APART] {
+        let report = beside.report(rt.alloc(), b"table.csv")?;
+        let asked = beside.asked(&rt, b"table.csv");
+        for room in 0..=report.len() {
+            let gsi = given(beside.worked().gsi, usize::MAX, false);
+            let mut table = given(beside.table, usize::MAX, false);
+            let mut out = room_for(rt.alloc(), room, room == report.len())?;
+            let answer = write_table_report(rt.alloc(), gsi, &mut table, &asked, &mut out);
+            assert_eq!(rt; answer, Err(CompareFault::Write));
+            assert_eq!(rt; out.bytes(), &report[..room]);
+        }
+    }
+    Ok(())
+}
+
+#[test]
+fn ends_of_a_table_report_that_fail_once_are_not_asked_again(rt: HostRuntime) -> Result<(), Fail> {
+    let asked = APART.asked(&rt, b"table.csv");
+    for (gsi_fails, table_fails) in [(false, false), (true, false), (false, true)] {
+        let mut gsi = Recovers::new(s1().gsi, gsi_fails);
+        let mut table = Recovers::new(APART.table, table_fails);
+        let (answer, of_gsi) = table_report_of_sources(
+            rt.alloc(),
+            OfRead::new(&mut gsi),
+            &mut OfRead::new(&mut table),
+            &asked,
+        );
+        drop(of_gsi);
+        assert_eq!(rt; answer.is_err(), gsi_fails || table_fails);
+        assert_eq!(rt; (gsi.asked_on, table.asked_on), (0, 0));
+    }
+    let report = APART.report(rt.alloc(), b"table.csv")?;
+    let writes = report.len().div_ceil(200);
+    for calls in 0..=writes {
+        let gsi = given(s1().gsi, usize::MAX, false);
+        let mut table = given(APART.table, usize::MAX, false);
+        let mut writer = Resumes::new(calls, 200);
+        let mut out = OfWrite::new(&mut writer);
+        let answer = write_table_report(rt.alloc(), gsi, &mut table, &asked, &mut out);
+        drop(out);
+        assert_eq!(rt; answer, Err(CompareFault::Write));
+        assert_eq!(rt; writer.bytes, report.len().min(calls.saturating_mul(200)));
+        assert_eq!(rt; writer.asked_on, 0);
+    }
+    Ok(())
+}
