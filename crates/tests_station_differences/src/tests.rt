@@ -123,7 +123,7 @@ const TWO: [Observed; 4] = [
 ];
 
 /// The second set is without A and the third without B: the directions of B and C are 10000009 1/3
-/// and 30000009 2/3 half units.
+/// and 30000009 13/15 half units.
 const GAPS: [Observed; 7] = [
     (0, 0, 0),
     (0, 1, 10_000_000),
