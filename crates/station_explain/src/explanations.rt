@@ -989,9 +989,10 @@ sheet with 'station_check check'.",
 After the best rotation some direction of the table is further from the least-squares one than the
 limit that '--within' states. If none is stated it is 0.01 mgon, or of a table with fewer than 5
 decimals what rounding to these may do and 0.001 mgon more: 0.051 mgon for 4 decimals, 0.501 for 3,
-5.001 for 2, 50.001 for 1; of seconds 156 without decimals and 17 with 1. The row with the coarsest
-rounding counts; rows of whole gon or degrees don't. The number in the line is how far, rounded up:
-the least N with which the table agrees.",
+5.001 for 2, 50.001 for 1; of degrees 0.057, 0.557, 5.557 and 55.557; of seconds 0.156 without
+decimals and 0.017 with 1. The row with the coarsest rounding counts; rows of whole gon or degrees
+don't. The number in the line is how far, in units of 0.001 mgon, rounded up: the least N with which
+the table agrees.",
         example: "refused: compare: Apart 15",
         remedy: "\
 Print the difference of each target by 'station_check differences', or in the protocol
