@@ -135,7 +135,7 @@ class CommandLineTest(ProgramTest):
         missing, unsound = self.folder / "missing", self.folder / "unsound.gsi"
         unsound.write_bytes(b"5")
         for command in COMMANDS:
-            for path in [missing, "", "-", f"{EXAMPLE}/"]:
+            for path in [missing, "-", f"{EXAMPLE}/"]:
                 self.assert_answer(cannot_open(path), of_file(command, path))
         for gsi in [EXAMPLE, unsound, self.folder]:
             self.assert_answer(cannot_open(missing), ["check", str(gsi), str(missing)])
@@ -144,6 +144,19 @@ class CommandLineTest(ProgramTest):
         other = self.folder / "other"
         self.assert_answer(cannot_open(missing), ["check", str(missing), str(other)])
         self.assert_answer(cannot_open(missing), ["compare", str(missing), "S1", str(other)])
+
+    def test_an_empty_path_is_a_mistake(self):
+        for args, named in [
+            *((of_file(command, ""), "<GSI>") for command in COMMANDS),
+            (["mark", ""], "<GSI>"),
+            (["check", EXAMPLE, ""], "<SHEET>"),
+            (["compare", EXAMPLE, "S1", ""], "<TABLE>"),
+            (["differences", EXAMPLE, "S1", ""], "<TABLE>"),
+            (["report", "--table=", EXAMPLE, "S1"], "--table <TABLE>"),
+            (["report", "--table", "", EXAMPLE, "S1"], "--table <TABLE>"),
+        ]:
+            said = f"error: a value is required for '{named}' but none was supplied\n"
+            self.assert_answer((2, b"", said.encode() + MORE), args)
 
     def test_a_path_is_shown_on_one_line(self):
         for path, shown in [("a\nb", "a?b"), ("\x1b[31m", "?[31m"), ("\x7f\x85\u00e9", "??\u00e9")]:
@@ -280,6 +293,30 @@ class CommandLineTest(ProgramTest):
                 self.assertEqual((2, b""), (status, stdout))
                 self.assertTrue(stderr.startswith(message), stderr)
                 self.assertTrue(stderr.endswith(MORE), stderr)
+
+    def test_a_mistake_shows_the_usage_of_its_command(self):
+        """As its help shows it, by whatever name the program is called."""
+        other = self.folder / "other"
+        other.symlink_to(PROGRAM)
+        for args in [
+            *([command, "--two-c=", *COMMANDS[command][1:]] for command in LIMITED),
+            ["check", "--residual=0.3", "a", "b"],
+            ["compare", "--within=0.3", "a", "b", "c"],
+            ["report", "--csv", "--sha256", "a", "b"],
+            ["report", "--within=1", "a", "b"],
+            ["report", "--degrees", "a", "b"],
+            ["mark", "--station=", "a"],
+            ["explain", "nonsense"],
+            ["explain", "FaceTwise"],
+        ]:
+            for program in [PROGRAM, other]:
+                shown = answer_to([program, args[0], "-h"])[1].splitlines(keepends=True)
+                usage = [line for line in shown if line.startswith(b"Usage: ")]
+                with self.subTest(args=args, program=program.name):
+                    status, stdout, stderr = answer_to([program, *args])
+                    self.assertEqual((2, b"", 1), (status, stdout, len(usage)))
+                    self.assertIn(f" {program.name} {args[0]} ".encode(), usage[0])
+                    self.assertTrue(stderr.endswith(b"\n\n" + usage[0] + MORE), stderr)
 
     def test_an_argument_that_is_no_text_is_a_mistake(self):
         for args in [

@@ -5,11 +5,15 @@ use Rattle.clap.specs.Lexer.{usize_max}
 use Rattle.clap.specs.Simple.{new_shape}
 use Rattle.clap.specs.Words.{App, Rule, Shape, Text, new_rule, with_rule}
 use Rattle.clap.specs.declared.builder.action.ArgAction.TheVariants.{Set, SetTrue, Append}
-use Rattle.clap.specs.declared.builder.value_parser.ValueParser.TheVariants.{Signed}
+use Rattle.clap.specs.declared.builder.value_parser.ValueParser.TheVariants.{NonEmptyString, Signed}
 
 -- An argument that must be given: one word.
 abbrev pub given_rule : Text → Rule
 given_rule id = record (new_rule id) { required = true; action = Some Set }
+
+-- A path that must be given: one word, and not the empty one.
+abbrev pub path_rule : Text → Rule
+path_rule id = record (given_rule id) { parser = Some NonEmptyString }
 
 -- An option `--id N`, which may be left out, of a whole number from a smallest up to a largest.
 abbrev pub number_rule : Text → ℕ → ℕ → Rule
@@ -73,13 +77,13 @@ csv_rule = flag_rule (codes "csv")
 abbrev pub stated_name_rule : Rule
 stated_name_rule = text_rule (codes "station")
 
--- The option `--table TABLE`, which may be left out: the path of a table.
+-- The option `--table TABLE`, which may be left out: the path of a table, which is not empty.
 abbrev pub stated_table_rule : Rule
-stated_table_rule = text_rule (codes "table")
+stated_table_rule = record (text_rule (codes "table")) { parser = Some NonEmptyString }
 
 -- The path of the field file.
 abbrev pub field_file_rule : Rule
-field_file_rule = given_rule (codes "GSI")
+field_file_rule = path_rule (codes "GSI")
 
 -- The name of the station.
 abbrev pub station_rule : Rule
@@ -87,11 +91,11 @@ station_rule = given_rule (codes "STATION")
 
 -- The path of the sheet.
 abbrev pub sheet_rule : Rule
-sheet_rule = given_rule (codes "SHEET")
+sheet_rule = path_rule (codes "SHEET")
 
 -- The path of the table.
 abbrev pub table_rule : Rule
-table_rule = given_rule (codes "TABLE")
+table_rule = path_rule (codes "TABLE")
 
 -- The flag `--degrees`: the table states degrees.
 abbrev pub degrees_rule : Rule

@@ -5,12 +5,14 @@ ghost use Rattle.clap.specs.Words.{app_of, kind_of, rule_of};
 ghost use Rattle.command_line.specs.Commands.{csv_rule, decimals_rule, degrees_rule, digests_rule};
 ghost use Rattle.command_line.specs.Commands.{face_limit_rule, fault_rule, field_file_rule};
 ghost use Rattle.command_line.specs.Commands.{flag_rule, given_rule, limited, number_rule};
-ghost use Rattle.command_line.specs.Commands.{of_station, of_table, residual_rule, sheet_rule};
+ghost use Rattle.command_line.specs.Commands.{of_station, of_table, path_rule, residual_rule};
+ghost use Rattle.command_line.specs.Commands.{sheet_rule};
 ghost use Rattle.command_line.specs.Commands.{stated_name_rule, stated_table_rule, station_rule};
 ghost use Rattle.command_line.specs.Commands.{table_rule};
 ghost use Rattle.command_line.specs.Commands.{text_rule, two_c_rule, two_i_rule, within_rule};
 
 use crate::help;
+use clap::builder::ValueParser;
 use clap::error::ErrorKind;
 use clap::{Arg, ArgAction, Command, Error, value_parser};
 use direction_table::MOST_WRITTEN;
@@ -71,7 +73,7 @@ const USUAL_DECIMALS: &str = "6";
 pub(crate) fn field_file<'a>(alloc: Global) -> Arg<'a>
     ensures { rule_of result ≡ field_file_rule }
 {
-    given(alloc, GSI).help("The field file, in GSI-8, GSI-16 or both")
+    path(alloc, GSI).help("The field file, in GSI-8, GSI-16 or both")
 }
 
 /// The argument of the words of a fault.
@@ -95,14 +97,14 @@ fn station_name<'a>(alloc: Global) -> Arg<'a>
 pub(crate) fn sheet_file<'a>(alloc: Global) -> Arg<'a>
     ensures { rule_of result ≡ sheet_rule }
 {
-    given(alloc, SHEET).help("The sheet, comma-separated text")
+    path(alloc, SHEET).help("The sheet, comma-separated text")
 }
 
 /// The argument of the path of the table.
 fn table_file<'a>(alloc: Global) -> Arg<'a>
     ensures { rule_of result ≡ table_rule }
 {
-    given(alloc, TABLE).help(help::TABLE_HELP)
+    path(alloc, TABLE).help(help::TABLE_HELP)
 }
 
 /// The option of the path of a table.
@@ -110,6 +112,7 @@ pub(crate) fn stated_table<'a>(alloc: Global) -> Arg<'a>
     ensures { rule_of result ≡ stated_table_rule }
 {
     text_option(alloc, STATED_TABLE, "TABLE")
+        .value_parser(ValueParser::NonEmptyString)
         .help("A table of directions, which stands beside the adjusted ones")
         .long_help(help::STATED_TABLE_LONG_HELP)
 }
@@ -139,6 +142,13 @@ pub(crate) fn stated_name<'a>(alloc: Global) -> Arg<'a>
     text_option(alloc, STATED_NAME, "NAME")
         .help("The name of the station, of a file without set-up lines")
         .long_help(help::STATION_LONG_HELP)
+}
+
+/// A path that must be given, and is not empty.
+fn path<'a>(alloc: Global, name: &'a str) -> Arg<'a>
+    ensures { rule_of result ≡ path_rule name.entry.now }
+{
+    given(alloc, name).value_parser(ValueParser::NonEmptyString)
 }
 
 /// An argument that must be given.

@@ -11,9 +11,12 @@ use crate::mistakes::{mistake_in, no_such_fault};
 use crate::request::Request;
 use crate::subcommands::request_after;
 use clap::error::ErrorKind;
-use clap::{ArgMatches, Command, Error};
+use clap::{ArgMatches, Error};
 use station_explain::{Explanation, explanation_meant, fault_named_in};
 use std::alloc::Global;
+
+/// What the program is called where its words don't have its name.
+const USUAL_NAME: &str = "station_check";
 
 /// What the words of a command line, of which the first is the program's name, ask for. A fault is
 /// looked for in the table of explanations.
@@ -31,14 +34,27 @@ pub fn asked_for<'a>(
 {
     let mut program = program(alloc)?;
     let matches = program.try_get_matches_from_mut(words)?;
-    request_named(alloc, table, &mut program, &matches)
+    request_named(alloc, table, name_called(words), &matches)
 }
 
-/// The request of the subcommand that a parse met, or of none.
+/// The name by which the program was called, where the words have it: what follows the last slash
+/// of the first.
+fn name_called(words: &[String]) -> &str {
+    let Some(word) = words.first() else {
+        return USUAL_NAME;
+    };
+    match word.as_str().rsplit_once('/') {
+        Some((_, name)) => name,
+        None => word.as_str(),
+    }
+}
+
+/// The request of the subcommand that a parse met, or of none. The usage of a mistake calls the
+/// program by this name.
 fn request_named<'a>(
     alloc: Global,
     table: &[&'static [Explanation]],
-    program: &mut Command<'a>,
+    called: &str,
     matches: &ArgMatches<'a>,
 ) -> Result<Request<'a, &'a str>, Error>
     ensures asked { IfOk result (IsAskedFor (subcommand_rows_of matches.now) table.now) }
@@ -47,10 +63,10 @@ fn request_named<'a>(
 {
     match matches.subcommand() {
         None => Ok(Request::WordsOfInput),
-        Some(("explain", found)) => explanation_asked_for(alloc, table, program, found),
+        Some(("explain", found)) => explanation_asked_for(alloc, table, called, found),
         Some((name, found)) => match request_after(name, found) {
             Some(request) => Ok(request),
-            None => Err(mistake_in(alloc, program, found)?),
+            None => Err(mistake_in(alloc, called, name, found)?),
         },
     }
 }
@@ -59,7 +75,7 @@ fn request_named<'a>(
 fn explanation_asked_for<'a>(
     alloc: Global,
     table: &[&'static [Explanation]],
-    program: &mut Command<'a>,
+    called: &str,
     found: &ArgMatches<'a>,
 ) -> Result<Request<'a, &'a str>, Error>
     ensures asked { IfOk result (AsksToExplain (found_of found.now) table.now) }
@@ -72,6 +88,6 @@ fn explanation_asked_for<'a>(
     let name = fault_named_in(line.as_str());
     match explanation_meant(table, name) {
         Some(fault) => Ok(Request::Explain { fault: Some(fault) }),
-        None => Err(no_such_fault(alloc, table, program, line.as_str(), name)?),
+        None => Err(no_such_fault(alloc, table, called, line.as_str(), name)?),
     }
 }

@@ -43,6 +43,27 @@ pub(crate) fn program<'a>(alloc: Global) -> Result<Command<'a>, Error>
     with_command(program, explain_command(alloc))
 }
 
+/// The command of this name, alone.
+pub(crate) fn command_named<'a>(alloc: Global, name: &'a str) -> Result<Command<'a>, Error>
+    ensures name { IfOk result (λ command. (app_of command).top.name ≡ name.entry.now) }
+    ensures memory { IfErr result (λ error. kind_of error ≡ ErrorKind.OutOfMemory) }
+{
+    match name {
+        "compare" => compare_command(alloc),
+        "differences" => differences_command(alloc),
+        "directions" => directions_command(alloc),
+        "residuals" => residuals_command(alloc),
+        "report" => report_command(alloc),
+        "check" => check_command(alloc),
+        "means" => means_command(alloc),
+        "mark" => mark_command(alloc),
+        "list" => list_command(alloc),
+        "words" => words_command(alloc),
+        "explain" => explain_command(alloc),
+        _ => Ok(Command::new(alloc, name)),
+    }
+}
+
 /// A program with a command more, unless there was no memory for that.
 fn with_command<'a>(
     program: Command<'a>,

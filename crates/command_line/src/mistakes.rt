@@ -1,20 +1,21 @@
 //! The mistakes of a command line that the grammar takes.
 
-ghost use Rattle.std.specs.Prelude.{◌≡◌, IfOk};
+ghost use Rattle.std.specs.Prelude.{◌≡◌, IfErr, IfOk};
 ghost use Rattle.clap.specs.Words.{kind_of};
 
 use crate::arguments::{RESIDUAL, TWO_C, TWO_I, WITHIN};
+use crate::commands::command_named;
 use crate::found::{form_of, unit_of};
 use crate::help;
 use crate::request::ListForm;
 use adjust_kernel::LARGEST_RESIDUAL_LIMIT;
 use clap::error::ErrorKind;
-use clap::{ArgMatches, Command, Error};
+use clap::{ArgMatches, Error};
 use direction_table::{AngleUnit, LARGEST_WITHIN};
 use limit_texts::{LimitUnit, limit_stated};
 use station_book::LARGEST_LIMIT;
 use station_explain::{Explanation, list_of_near_names};
-use std::alloc::{AllocError, Global};
+use std::alloc::Global;
 
 /// An option that states a limit.
 struct LimitOption {
@@ -54,23 +55,43 @@ const LIMIT_OPTIONS: [LimitOption; 4] = [
     },
 ];
 
+/// A mistake in the words after a subcommand's name, with the usage of that in a program that was
+/// called so.
+fn mistake_of(
+    alloc: Global,
+    called: &str,
+    name: &str,
+    kind: ErrorKind,
+    message: &str,
+) -> Result<Error, Error>
+    ensures kind { IfOk result (λ error. kind_of error ≡ kind) }
+    ensures memory { IfErr result (λ error. kind_of error ≡ ErrorKind.OutOfMemory) }
+{
+    let both = format!(in alloc; "{called} {name}")?;
+    let mut command = command_named(alloc, name)?.bin_name(both.as_str())?;
+    Ok(command.error(kind, message)?)
+}
+
 /// The mistake of words that lack what their subcommand needs: a limit that may not be stated, rows
 /// beside something else, the limit of a comparison or the unit of a table without a table, or a
 /// name that no station can have. The parse has tested all else.
-pub(crate) fn mistake_in<'a>(
+pub(crate) fn mistake_in(
     alloc: Global,
-    program: &mut Command<'a>,
-    found: &ArgMatches<'a>,
-) -> Result<Error, AllocError>
-    ensures { IfOk result (λ error. kind_of error ≡ ErrorKind.ValueValidation) }
+    called: &str,
+    name: &str,
+    found: &ArgMatches<'_>,
+) -> Result<Error, Error>
+    ensures kind { IfOk result (λ error. kind_of error ≡ ErrorKind.ValueValidation) }
+    ensures memory { IfErr result (λ error. kind_of error ≡ ErrorKind.OutOfMemory) }
 {
+    let kind = ErrorKind::ValueValidation;
     for option in &LIMIT_OPTIONS {
         if let Some(text) = text_of_no_limit(found, option) {
             let message = format!(in alloc;
                 "invalid value '{text}' for '--{} <LIMIT>': {}",
                 option.name, option.stated_as
             )?;
-            return program.error(ErrorKind::ValueValidation, message.as_str());
+            return mistake_of(alloc, called, name, kind, message.as_str());
         }
     }
     let message = match form_of(found) {
@@ -79,7 +100,7 @@ pub(crate) fn mistake_in<'a>(
         ListForm::Lines if unit_of(found) == AngleUnit::Degrees => help::DEGREES_ALONE,
         ListForm::Lines => help::NO_NAME,
     };
-    program.error(ErrorKind::ValueValidation, message)
+    mistake_of(alloc, called, name, kind, message)
 }
 
 /// What stands after an option where it is no limit that may be stated.
@@ -92,14 +113,15 @@ fn text_of_no_limit<'a>(found: &ArgMatches<'a>, option: &LimitOption) -> Option<
 }
 
 /// The mistake of a line with a name that no fault of the table has: names near it are in its text.
-pub(crate) fn no_such_fault<'a>(
+pub(crate) fn no_such_fault(
     alloc: Global,
     table: &[&'static [Explanation]],
-    program: &mut Command<'a>,
+    called: &str,
     line: &str,
     name: &str,
-) -> Result<Error, AllocError>
-    ensures { IfOk result (λ error. kind_of error ≡ ErrorKind.InvalidValue) }
+) -> Result<Error, Error>
+    ensures kind { IfOk result (λ error. kind_of error ≡ ErrorKind.InvalidValue) }
+    ensures memory { IfErr result (λ error. kind_of error ≡ ErrorKind.OutOfMemory) }
 {
     let near = list_of_near_names(alloc, table, name)?;
     let near = near.as_str().trim_end();
@@ -110,5 +132,6 @@ pub(crate) fn no_such_fault<'a>(
     } else {
         format!(in alloc; "no fault has the name '{line}'; these are near:\n\n{near}")?
     };
-    program.error(ErrorKind::InvalidValue, message.as_str())
+    let kind = ErrorKind::InvalidValue;
+    mistake_of(alloc, called, "explain", kind, message.as_str())
 }
