@@ -2,3 +2,5 @@
 pub mod Commands
 pub mod Stated
 pub mod CommandLine
+-- The inside.
+pub mod Mistakes

@@ -40,7 +40,7 @@ pub(crate) fn limits_of(found: &ArgMatches<'_>) -> Option<Limits>
 }
 
 /// The limit that an option states, counted in this unit.
-fn limit_of(found: &ArgMatches<'_>, option: &str, unit: LimitUnit) -> Option<u32>
+pub(crate) fn limit_of(found: &ArgMatches<'_>, option: &str, unit: LimitUnit) -> Option<u32>
     ensures stated { IfSome result (LimitIsStated (found_of found.now) option.now unit) }
     ensures none { IfNone result ((limit : ℕ)
         → LimitIsStated (found_of found.now) option.now unit limit → 2 ^ 32 ≤ limit) }

@@ -1,28 +1,30 @@
 //! The mistakes of a command line that the grammar takes.
 
-ghost use Rattle.std.specs.Prelude.{◌≡◌, IfErr, IfOk};
-ghost use Rattle.clap.specs.Words.{kind_of};
+ghost use Rattle.std.specs.Prelude.{◌≡◌, IfErr, IfOk, IfSome};
+ghost use Rattle.clap.specs.Words.{found_of, kind_of};
+ghost use Rattle.command_line.specs.Mistakes.{IsMistakeAmong, IsNoLimit};
 
 use crate::arguments::{RESIDUAL, TWO_C, TWO_I, WITHIN};
 use crate::commands::command_named;
-use crate::found::{form_of, unit_of};
+use crate::found::{form_of, limit_of, unit_of};
 use crate::help;
 use crate::request::ListForm;
 use adjust_kernel::LARGEST_RESIDUAL_LIMIT;
 use clap::error::ErrorKind;
 use clap::{ArgMatches, Error};
 use direction_table::{AngleUnit, LARGEST_WITHIN};
-use limit_texts::{LimitUnit, limit_stated};
+use limit_texts::LimitUnit;
 use station_book::LARGEST_LIMIT;
 use station_explain::{Explanation, list_of_near_names};
 use std::alloc::Global;
 
 /// An option that states a limit.
-struct LimitOption {
-    name: &'static str,
-    unit: LimitUnit,
+#[derive(Clone, Copy)]
+pub(crate) struct LimitOption {
+    pub(crate) name: &'static str,
+    pub(crate) unit: LimitUnit,
     /// The largest limit, in its unit.
-    largest: u32,
+    pub(crate) largest: u32,
     /// What may be stated.
     stated_as: &'static str,
 }
@@ -72,9 +74,26 @@ fn mistake_of(
     Ok(command.error(kind, message)?)
 }
 
-/// The mistake of words that lack what their subcommand needs: a limit that may not be stated, rows
-/// beside something else, the limit of a comparison or the unit of a table without a table, or a
-/// name that no station can have. The parse has tested all else.
+/// What is mistaken in words that lack what their subcommand needs. The parse has tested all else.
+#[derive(Clone, Copy)]
+pub(crate) enum Mistake<'a> {
+    /// The text of an option is no limit that may be stated.
+    Limit(LimitOption, &'a str),
+
+    /// Rows are asked for, and something beside them.
+    Rows,
+
+    /// The limit of a comparison is stated without a table.
+    Within,
+
+    /// The unit of a table is stated without a table.
+    Degrees,
+
+    /// No station can have the name.
+    Name,
+}
+
+/// The mistake of words that lack what their subcommand needs.
 pub(crate) fn mistake_in(
     alloc: Global,
     called: &str,
@@ -85,30 +104,49 @@ pub(crate) fn mistake_in(
     ensures memory { IfErr result (λ error. kind_of error ≡ ErrorKind.OutOfMemory) }
 {
     let kind = ErrorKind::ValueValidation;
-    for option in &LIMIT_OPTIONS {
-        if let Some(text) = text_of_no_limit(found, option) {
+    let message = match mistake_among(found) {
+        Mistake::Limit(option, text) => {
             let message = format!(in alloc;
                 "invalid value '{text}' for '--{} <LIMIT>': {}",
                 option.name, option.stated_as
             )?;
             return mistake_of(alloc, called, name, kind, message.as_str());
         }
-    }
-    let message = match form_of(found) {
-        ListForm::Rows => help::ROWS_ALONE,
-        ListForm::Lines if found.contains_id(WITHIN) => help::WITHIN_ALONE,
-        ListForm::Lines if unit_of(found) == AngleUnit::Degrees => help::DEGREES_ALONE,
-        ListForm::Lines => help::NO_NAME,
+        Mistake::Rows => help::ROWS_ALONE,
+        Mistake::Within => help::WITHIN_ALONE,
+        Mistake::Degrees => help::DEGREES_ALONE,
+        Mistake::Name => help::NO_NAME,
     };
     mistake_of(alloc, called, name, kind, message)
 }
 
+/// The mistake that is told of what is found: the first option whose limit may not be stated, else
+/// rows beside something else, else what is said of no table.
+fn mistake_among<'a>(found: &ArgMatches<'a>) -> Mistake<'a>
+    ensures { IsMistakeAmong (found_of found.now) result }
+{
+    for option in LIMIT_OPTIONS {
+        if let Some(text) = text_of_no_limit(found, option) {
+            return Mistake::Limit(option, text);
+        }
+    }
+    match form_of(found) {
+        ListForm::Rows => Mistake::Rows,
+        ListForm::Lines if found.contains_id(WITHIN) => Mistake::Within,
+        ListForm::Lines if unit_of(found) == AngleUnit::Degrees => Mistake::Degrees,
+        ListForm::Lines => Mistake::Name,
+    }
+}
+
 /// What stands after an option where it is no limit that may be stated.
-fn text_of_no_limit<'a>(found: &ArgMatches<'a>, option: &LimitOption) -> Option<&'a str> {
+fn text_of_no_limit<'a>(found: &ArgMatches<'a>, option: LimitOption) -> Option<&'a str>
+    ensures { IfSome result (λ text. IsNoLimit (found_of found.now) option text.now) }
+{
     let text = found.get_str(option.name)?;
-    match limit_stated(text, option.unit) {
+    match limit_of(found, option.name, option.unit) {
         Some(limit) if limit <= option.largest => None,
-        _ => Some(text),
+        Some(_) => Some(text),
+        None => Some(text),
     }
 }
 
