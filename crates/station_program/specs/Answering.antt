@@ -210,26 +210,37 @@ IsOpened files known request.WordsOfInput request.WordsOfInput = ⊤
 IsOpened files known (request.Explain fault) (request.Explain fault') = fault' ≡ fault
 IsOpened files known asked other = ⊥
 
--- A request names a file by this path.
-abbrev pub NamesFile : Asked → List ℕ → Type 0
-NamesFile (request.Check gsi sheet limits residual digests) path = (path ≡ gsi.now)
-    ⊎ (path ≡ sheet.now)
-NamesFile (request.Means gsi station limits) path = path ≡ gsi.now
-NamesFile (request.Directions gsi station limits decimals) path = path ≡ gsi.now
-NamesFile (request.Residuals gsi station limits) path = path ≡ gsi.now
-NamesFile (request.Report gsi station limits digests) path = path ≡ gsi.now
-NamesFile (request.ReportRows gsi station limits) path = path ≡ gsi.now
-NamesFile (request.TableReport gsi station table unit limits within digests) path =
-    (path ≡ gsi.now) ⊎ (path ≡ table.now)
-NamesFile (request.Compare gsi station table unit limits within digests) path =
-    (path ≡ gsi.now) ⊎ (path ≡ table.now)
-NamesFile (request.Differences gsi station table unit limits) path =
-    (path ≡ gsi.now) ⊎ (path ≡ table.now)
-NamesFile (request.Mark gsi station) path = path ≡ gsi.now
-NamesFile (request.List gsi limits form) path = path ≡ gsi.now
-NamesFile (request.Words gsi) path = path ≡ gsi.now
-NamesFile request.WordsOfInput path = ⊥
-NamesFile (request.Explain fault) path = ⊥
+-- The file of this path was opened.
+abbrev pub WasOpened : {F : Type 0} → Readers F → (List ℕ → Option Told) → List ℕ → Type 0
+WasOpened {F} files known path = (file : NamedReader F) × IsUnread files known path file
+
+-- Of two files that are opened, the first of these paths first, this is the path of the first that
+-- isn't: the first path, or the second where the file of the first was opened.
+abbrev pub IsFirstOfTwo : {F : Type 0} → Readers F → (List ℕ → Option Told) → List ℕ → List ℕ
+    → List ℕ → Type 0
+IsFirstOfTwo files known first second path =
+    (path ≡ first) ⊎ ((path ≡ second) × WasOpened files known first)
+
+-- A request names a file by this path, and each file that it names before this one was opened.
+abbrev pub NamesFirst : {F : Type 0} → Readers F → (List ℕ → Option Told) → Asked → List ℕ → Type 0
+NamesFirst files known (request.Check gsi sheet limits residual digests) path =
+    IsFirstOfTwo files known gsi.now sheet.now path
+NamesFirst files known (request.Means gsi station limits) path = path ≡ gsi.now
+NamesFirst files known (request.Directions gsi station limits decimals) path = path ≡ gsi.now
+NamesFirst files known (request.Residuals gsi station limits) path = path ≡ gsi.now
+NamesFirst files known (request.Report gsi station limits digests) path = path ≡ gsi.now
+NamesFirst files known (request.ReportRows gsi station limits) path = path ≡ gsi.now
+NamesFirst files known (request.TableReport gsi station table unit limits within digests) path =
+    IsFirstOfTwo files known gsi.now table.now path
+NamesFirst files known (request.Compare gsi station table unit limits within digests) path =
+    IsFirstOfTwo files known gsi.now table.now path
+NamesFirst files known (request.Differences gsi station table unit limits) path =
+    IsFirstOfTwo files known gsi.now table.now path
+NamesFirst files known (request.Mark gsi station) path = path ≡ gsi.now
+NamesFirst files known (request.List gsi limits form) path = path ≡ gsi.now
+NamesFirst files known (request.Words gsi) path = path ≡ gsi.now
+NamesFirst files known request.WordsOfInput path = ⊥
+NamesFirst files known (request.Explain fault) path = ⊥
 
 -- A request was answered with this exit status: its files were opened, each the one of its path,
 -- and its run was made over them, or over standard input.
@@ -249,12 +260,12 @@ abbrev pub NamesUnopened : List ℕ → ℕ → WriterChange → Type 0
 NamesUnopened path status err =
     ((status ≡ 2) × WritesOrFails (unopened_line path) err) ⊎ IsOutOfMemory status err
 
--- One of the paths that a request names can't be opened. It is named on `err`, and nothing is asked
--- of `out`.
+-- One of the paths that a request names can't be opened, and the file of the path before it was
+-- opened, where there is one. It is named on `err`, and nothing is asked of `out`.
 pub record IsUnopened {F I : Type 0} (host : Known F I) (out err : WriterChange)
     (asked : Asked) (status : ℕ) : Type 0 where
   pub path : List ℕ
-  pub names : NamesFile asked path
+  pub names : NamesFirst host.files host.file asked path
   pub fails : host.may_not_open path ≡ true
   pub named : NamesUnopened path status err
   pub unwritten : out.is_unasked

@@ -1,10 +1,10 @@
 //! How a request is answered: its files are opened, and its run is made over them.
 
-ghost use Rattle.std.specs.Prelude.{◌≡◌, ◌⊎◌, ◌≤◌, IfOk, IfErr, OnErr, true, false};
+ghost use Rattle.std.specs.Prelude.{◌≡◌, ◌≤◌, IfOk, IfErr, OnErr, true, false};
 ghost use Rattle.byte_ends.specs.Writers.{writer_change};
-ghost use Rattle.station_program.specs.Answering.{IsAnswered, IsOpened, IsRun, NamesFile};
+ghost use Rattle.station_program.specs.Answering.{IsAnswered, IsFirstOfTwo, IsOpened, IsRun};
 ghost use Rattle.station_program.specs.Answering.{ChecksFiles, ComparesFiles, ReportsFile};
-ghost use Rattle.station_program.specs.Answering.{ReportsFiles};
+ghost use Rattle.station_program.specs.Answering.{NamesFirst, ReportsFiles};
 ghost use Rattle.station_program.specs.Hosts.{IsUnread, known_of, readers};
 
 use crate::host::Host;
@@ -48,7 +48,9 @@ pub fn answer<'a, H: Host, W: Sink, E: Sink>(
         (readers H.Input.told H.Input.failed H.Input.gave) input) faults.now
         (writer_change W.Sink out.old out.new)
         (writer_change E.Sink err.old err.new) request.now) }
-    ensures unopened { IfErr result (λ unopened. NamesFile request.now unopened.path.now) }
+    ensures unopened { IfErr result (λ unopened.
+        NamesFirst (readers H.File.told H.File.failed H.File.gave) (H.known_file host.now)
+        request.now unopened.path.now) }
     ensures fails { IfErr result (λ unopened. H.may_not_open host.now unopened.path.now ≡ true) }
     ensures unchanged { OnErr result ((out.new ≡ out.old) × (err.new ≡ err.old)) }
 {
@@ -64,7 +66,9 @@ fn open_files<'a, H: Host>(
     ensures opened { IfOk result
         (IsOpened (readers H.File.told H.File.failed H.File.gave) (H.known_file host.now)
         request.now) }
-    ensures unopened { IfErr result (λ unopened. NamesFile request.now unopened.path.now) }
+    ensures unopened { IfErr result (λ unopened.
+        NamesFirst (readers H.File.told H.File.failed H.File.gave) (H.known_file host.now)
+        request.now unopened.path.now) }
     ensures fails { IfErr result (λ unopened. H.may_not_open host.now unopened.path.now ≡ true) }
 {
     Ok(match *request {
@@ -222,7 +226,8 @@ fn open_two<'a, H: Host>(
         (readers H.File.told H.File.failed H.File.gave) (H.known_file host.now)
         second.now files.1) }
     ensures unopened { IfErr result (λ unopened.
-        (unopened.path.now ≡ first.now) ⊎ (unopened.path.now ≡ second.now)) }
+        IsFirstOfTwo (readers H.File.told H.File.failed H.File.gave) (H.known_file host.now)
+        first.now second.now unopened.path.now) }
     ensures fails { IfErr result (λ unopened. H.may_not_open host.now unopened.path.now ≡ true) }
 {
     let first = open(host, first)?;
