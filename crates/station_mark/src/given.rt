@@ -1,6 +1,6 @@
 //! All bytes of a reader, kept also where a read fails after them.
 
-ghost use Rattle.std.specs.Prelude.{IfOk, IfErr, List, ℕ};
+ghost use Rattle.std.specs.Prelude.{◌≡◌, IfOk, IfErr, OnErr, List, ℕ};
 ghost use Rattle.byte_ends.specs.Source.{HasGiven, reader_change};
 ghost use Rattle.station_mark.specs.Giving.{IsAllGiven};
 
@@ -31,6 +31,7 @@ pub(crate) fn all_given<S: Source>(
         given.bytes.items given.fails) }
     ensures some { IfErr result (λ _. (bytes : List ℕ) × HasGiven
         (reader_change S.told S.failed S.gave source.old source.new) bytes) }
+    ensures unfailed { OnErr result (S.failed source.new ≡ S.failed source.old) }
 {
     let mut bytes = Vec::new(alloc);
     let mut piece = [0; PIECE];
