@@ -15,26 +15,13 @@ use std::alloc::Global;
 use std::process::Abort;
 use std::test::Fail;
 use table_report::{Asked, run_table_report};
+use test_support::S1;
 
 /// Bytes that a sink has room for where no test wants less.
 const AMPLE: usize = 3_000;
 
 /// How many bytes the readers give at a time.
 const STEPS: [usize; 5] = [1, 7, 64, 4_096, usize::MAX];
-
-/// Two sets of targets A and B, each in both faces: B is 50.00003 gon from A.
-const S1: &[u8] = b"410001+00000010 42....+000000S1\n\
-410002+00000020 42....+00000001\n\
-110003+0000000A 21.102+00000000 22.102+10000000\n\
-110004+0000000B 21.102+05000000 22.102+10000000\n\
-110005+0000000B 21.102+25000010 22.102+30000000\n\
-110006+0000000A 21.102+20000006 22.102+29999998\n\
-410007+00000020 42....+00000002\n\
-110008+0000000A 21.102+10000000 22.102+10000000\n\
-110009+0000000B 21.102+15000004 22.102+10000000\n\
-110010+0000000B 21.102+35000008 22.102+30000000\n\
-110011+0000000A 21.102+30000004 22.102+30000000\n\
-410012+00000030\n";
 
 /// Its adjusted sheet, whose largest residual is one half unit.
 const SHEET: &[u8] = b"sheet,1,S1,4,\n\

@@ -1,8 +1,6 @@
 //! Stations worked in exact fractions: what a report computes of them, and its text.
 
-use super::worked::{
-    AMPLE, PATH, STEPS, given, limits, parts, refused, report_of, room_for, s1, s4, tie,
-};
+use super::worked::{AMPLE, PATH, STEPS, given, limits, refused, report_of, room_for, s1, s4};
 use adjust_kernel::{Name, Obs, Station};
 use exact_adjustment::{AdjustError, AdjustFault};
 use station_check::Fault;
@@ -11,6 +9,7 @@ use station_report::{computed_of, degrees_of, report_text, run_report, write_rep
 use std::alloc::Global;
 use std::process::Abort;
 use std::test::Fail;
+use test_support::{PARTS, TIE};
 
 /// An observation: the places of its set and its target, and its two-face direction in half units.
 type Observed = (u32, u32, u32);
@@ -142,11 +141,11 @@ fn a_field_file_without_a_report_has_its_first_fault(rt: HostRuntime) -> Result<
     let faults: [(&[u8], &[u8], CompareFault); 3] = [
         (s1().gsi, b"S2", CompareFault::File(Fault::NoStation)),
         (
-            parts(),
+            PARTS,
             b"S2",
             CompareFault::Adjust(AdjustFault::NotConnected),
         ),
-        (tie(), b"S3", CompareFault::Adjust(AdjustFault::Residual(1))),
+        (TIE, b"S3", CompareFault::Adjust(AdjustFault::Residual(1))),
     ];
     for (gsi, name, fault) in faults {
         let gsi = given(gsi, usize::MAX, false);

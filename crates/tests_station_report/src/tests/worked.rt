@@ -5,6 +5,7 @@ use station_book::Limits;
 use std::alloc::Global;
 use std::process::Abort;
 use std::test::Fail;
+use test_support::{PARTS, S1, TIE};
 
 /// Bytes that a sink has room for where no test wants less.
 pub const AMPLE: usize = 4_000;
@@ -30,18 +31,7 @@ pub struct Worked {
 /// Two sets of targets A and B, each in both faces: B is 50.00003 gon from A.
 pub fn s1() -> Worked {
     Worked {
-        gsi: b"410001+00000010 42....+000000S1\n\
-410002+00000020 42....+00000001\n\
-110003+0000000A 21.102+00000000 22.102+10000000\n\
-110004+0000000B 21.102+05000000 22.102+10000000\n\
-110005+0000000B 21.102+25000010 22.102+30000000\n\
-110006+0000000A 21.102+20000006 22.102+29999998\n\
-410007+00000020 42....+00000002\n\
-110008+0000000A 21.102+10000000 22.102+10000000\n\
-110009+0000000B 21.102+15000004 22.102+10000000\n\
-110010+0000000B 21.102+35000008 22.102+30000000\n\
-110011+0000000A 21.102+30000004 22.102+30000000\n\
-410012+00000030\n",
+        gsi: S1,
         name: b"S1",
         before: b"station_check 1.0.0: report of the sets of a station\n\
 \n\
@@ -167,42 +157,14 @@ S4,12,C,250.000050,50.000150,250.000100,0.10,0.00,250.000080,-0.020\n",
     }
 }
 
-/// Two sets that have no target in common.
-pub fn parts() -> &'static [u8] {
-    b"410001+00000010 42....+000000S2\n\
-410002+00000020 42....+00000001\n\
-110003+0000000A 21.102+00000000 22.102+10000000\n\
-110004+0000000A 21.102+20000000 22.102+30000000\n\
-410005+00000020 42....+00000002\n\
-110006+0000000B 21.102+10000000 22.102+10000000\n\
-110007+0000000B 21.102+30000000 22.102+30000000\n\
-410008+00000030\n"
-}
-
-/// Two sets, whose two-face directions of B are half a circle apart.
-pub fn tie() -> &'static [u8] {
-    b"410001+00000010 42....+000000S3\n\
-410002+00000020 42....+00000001\n\
-110003+0000000A 21.102+00000000 22.102+10000000\n\
-110004+0000000B 21.102+00000000 22.102+10000000\n\
-110005+0000000B 21.102+20000000 22.102+30000000\n\
-110006+0000000A 21.102+20000000 22.102+30000000\n\
-410007+00000020 42....+00000002\n\
-110008+0000000A 21.102+00000000 22.102+10000000\n\
-110009+0000000B 21.102+20000000 22.102+10000000\n\
-110010+0000000B 21.102+00000000 22.102+30000000\n\
-110011+0000000A 21.102+20000000 22.102+30000000\n\
-410012+00000030\n"
-}
-
 /// Why a station has neither a report nor rows: its field file, whether a read fails after the last
 /// byte of that, the station's name, and the line of the refusal.
 pub fn refused() -> [(&'static [u8], bool, &'static [u8], &'static [u8]); 4] {
     [
         (s1().gsi, false, b"S2", b"refused: no station\n"),
         (s1().gsi, true, b"S1", b"refused: block 13: Read\n"),
-        (parts(), false, b"S2", b"refused: adjust: NotConnected\n"),
-        (tie(), false, b"S3", b"refused: adjust: Residual 1\n"),
+        (PARTS, false, b"S2", b"refused: adjust: NotConnected\n"),
+        (TIE, false, b"S3", b"refused: adjust: Residual 1\n"),
     ]
 }
 
