@@ -8,7 +8,7 @@ use native.Mathlib.Decide.{dec_lt, ℕ_discrete}
 use Rattle.adjust_kernel.specs.Firsts.{IsFirstDifference, IsFirstWhere}
 
 -- Two places of which neither is below the other are one.
-same_place : (m n : ℕ) → (m < n → ⊥) → (n < m → ⊥) → m ≡ n
+pub same_place : (m n : ℕ) → (m < n → ⊥) → (n < m → ⊥) → m ≡ n
 same_place m n h k = by (dec_lt m n) (dec_lt n m) where
   by : Dec (m < n) → Dec (n < m) → m ≡ n
   by (yes e) f = absurd (h e)
