@@ -1,3 +1,2 @@
 -- The public definitions, which public contracts cite.
-pub mod Beginnings
 pub mod MgonTexts

@@ -1,6 +1,6 @@
 //! Directions in gon.
 ghost use Rattle.std.specs.Prelude.{◌≡◌, ◌++◌, OnOk, OnErr};
-ghost use Rattle.angle_texts.specs.Beginnings.{IsBegun};
+ghost use Rattle.direction_table.specs.Beginnings.{IsBegun};
 ghost use Rattle.direction_table.specs.Texts.{direction_text};
 
 use crate::digits::digit;
@@ -13,7 +13,7 @@ use std::alloc::AllocError;
 ///
 /// The only error is that memory was refused; then a beginning of it may have been added.
 // Results have many rows, and digits at stated places take a third of the time of `push_direction`.
-#[tactic(auto, using(crate::proofs::Begun::first_part))]
+#[tactic(auto, using(direction_table::proofs::Begun::first_part))]
 pub fn push_short_gon(text: &mut Vec<u8>, direction: u64) -> Result<(), AllocError>
     ensures added { OnOk result
         (text.new.items ≡ text.old.items ++ direction_text 5 direction) }
@@ -37,7 +37,7 @@ pub fn push_short_gon(text: &mut Vec<u8>, direction: u64) -> Result<(), AllocErr
 /// six decimals. What lies below the sixth decimal is left out.
 ///
 /// The only error is that memory was refused; then a beginning of it may have been added.
-#[tactic(auto, using(crate::proofs::Begun::of_five, crate::proofs::Begun::all_five))]
+#[tactic(auto, using(direction_table::proofs::Begun::of_five, direction_table::proofs::Begun::all_five))]
 pub fn push_gon(text: &mut Vec<u8>, direction: u64) -> Result<(), AllocError>
     ensures added { OnOk result
         (text.new.items ≡ text.old.items ++ direction_text 6 direction) }

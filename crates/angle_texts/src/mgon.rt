@@ -1,6 +1,6 @@
 //! A small angle in mgon.
 ghost use Rattle.std.specs.Prelude.{◌≡◌, ◌++◌, OnOk, OnErr};
-ghost use Rattle.angle_texts.specs.Beginnings.{IsBegun};
+ghost use Rattle.direction_table.specs.Beginnings.{IsBegun};
 ghost use Rattle.angle_texts.specs.MgonTexts as spec;
 
 use crate::digits::digit;
@@ -11,7 +11,7 @@ use std::alloc::AllocError;
 /// the whole, a point and three decimals.
 ///
 /// The only error is that memory was refused; then a beginning of it may have been added.
-#[tactic(auto, using(crate::proofs::Begun::of_first, crate::proofs::Begun::of_second))]
+#[tactic(auto, using(direction_table::proofs::Begun::of_first, direction_table::proofs::Begun::of_second))]
 pub fn push_mgon(text: &mut Vec<u8>, units: i32) -> Result<(), AllocError>
     ensures added { OnOk result (text.new.items ≡ text.old.items ++ spec.mgon_text units) }
     ensures begun { OnErr result (IsBegun (spec.mgon_text units) text.old.items text.new.items) }
@@ -24,7 +24,7 @@ pub fn push_mgon(text: &mut Vec<u8>, units: i32) -> Result<(), AllocError>
 /// the whole, a point and two decimals.
 ///
 /// The only error is that memory was refused; then a beginning of it may have been added.
-#[tactic(auto, using(crate::proofs::Begun::of_first, crate::proofs::Begun::of_second))]
+#[tactic(auto, using(direction_table::proofs::Begun::of_first, direction_table::proofs::Begun::of_second))]
 pub fn push_short_mgon(text: &mut Vec<u8>, units: i32) -> Result<(), AllocError>
     ensures added { OnOk result (text.new.items ≡ text.old.items ++ spec.short_mgon_text units) }
     ensures begun { OnErr result
@@ -49,7 +49,7 @@ fn push_sign(text: &mut Vec<u8>, number: i32) -> Result<(), AllocError>
 /// whole, a point and three decimals.
 ///
 /// The only error is that memory was refused; then a beginning of it may have been added.
-#[tactic(auto, using(crate::proofs::Begun::first_part))]
+#[tactic(auto, using(direction_table::proofs::Begun::first_part))]
 pub fn push_thousandths(text: &mut Vec<u8>, number: u32) -> Result<(), AllocError>
     ensures added { OnOk result (text.new.items ≡ text.old.items ++ spec.thousandths_text number) }
     ensures begun { OnErr result
@@ -63,7 +63,7 @@ pub fn push_thousandths(text: &mut Vec<u8>, number: u32) -> Result<(), AllocErro
 }
 
 /// Adds a number of hundredths: the whole, a point and two decimals.
-#[tactic(auto, using(crate::proofs::Begun::first_part))]
+#[tactic(auto, using(direction_table::proofs::Begun::first_part))]
 fn push_hundredths(text: &mut Vec<u8>, number: u32) -> Result<(), AllocError>
     ensures added { OnOk result (text.new.items ≡ text.old.items ++ spec.hundredths_text number) }
     ensures begun { OnErr result

@@ -1,3 +1,5 @@
+pub mod Begun
+pub mod FirstDecimals
 pub mod Digits
 pub mod Sizes
 pub mod FieldsAt

@@ -12,6 +12,7 @@ pub mod Tables
 pub mod PlainTables
 pub mod UsualLimits
 pub mod Texts
+pub mod Beginnings
 pub mod TableTexts
 -- The inside: what each byte does while rows are read, and what is known of the rows so far.
 pub mod ByteSteps

@@ -1,6 +1,7 @@
 //! A direction as text.
 
-ghost use Rattle.std.specs.Prelude.{◌≡◌, ◌++◌, OnOk};
+ghost use Rattle.std.specs.Prelude.{◌≡◌, ◌++◌, OnOk, OnErr};
+ghost use Rattle.direction_table.specs.Beginnings.{IsBegun};
 ghost use Rattle.direction_table.specs.Texts as spec;
 
 use crate::decimals::{Decimals, MOST_WRITTEN};
@@ -12,13 +13,16 @@ use std::alloc::AllocError;
 /// direction is in units of the ninth decimal of a gon; decimals after the last are left out.
 ///
 /// Where memory is refused, a beginning of it may have been added.
+#[tactic(auto, using(crate::proofs::Begun::first_part, crate::proofs::Begun::of_second))]
 pub fn push_direction(
     text: &mut Vec<u8>,
     direction: u64,
     decimals: Decimals,
 ) -> Result<(), AllocError>
-    ensures { OnOk result
+    ensures added { OnOk result
         (text.new.items ≡ text.old.items ++ spec.direction_text decimals direction) }
+    ensures begun { OnErr result
+        (IsBegun (spec.direction_text decimals direction) text.old.items text.new.items) }
 {
     let mut gons = Buffer::new();
     text.extend_from_slice(gons.format(direction / GON).as_bytes())?;
@@ -28,8 +32,10 @@ pub fn push_direction(
 
 /// Adds the decimals of a direction.
 fn push_decimals(text: &mut Vec<u8>, direction: u64, decimals: Decimals) -> Result<(), AllocError>
-    ensures { OnOk result
+    ensures added { OnOk result
         (text.new.items ≡ text.old.items ++ spec.decimals_of decimals direction) }
+    ensures begun { OnErr result
+        (IsBegun (spec.decimals_of decimals direction) text.old.items text.new.items) }
 {
     for place in 0..decimals.count() {
         let digit = direction / 10u64.pow(MOST_WRITTEN - place) % 10;

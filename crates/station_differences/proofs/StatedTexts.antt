@@ -2,8 +2,8 @@
 use Rattle.std.proofs.Common.{◌≡◌, ◌+◌, ◌^◌, ◌/◌, ◌%◌, ◌++◌, ℕ, List, [], ◌∷◌, Bool, true, false}
 use Rattle.std.proofs.Common.{append_assoc, subst, sym}
 use Rattle.std.specs.Fmt.{decimal}
-use Rattle.angle_texts.proofs.Begun.{first_part, of_first}
-use Rattle.angle_texts.specs.Beginnings.{IsBegun}
+use Rattle.direction_table.proofs.Begun.{first_part, of_first}
+use Rattle.direction_table.specs.Beginnings.{IsBegun}
 use Rattle.direction_table.specs.Texts.{decimals_of, direction_text}
 use Rattle.station_differences.specs.DifferenceTexts.{gon_text}
 

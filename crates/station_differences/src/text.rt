@@ -2,7 +2,7 @@
 //!
 //! The rows go through `csv`'s writer, which puts quotes where a name asks for them.
 ghost use Rattle.std.specs.Prelude.{◌≡◌, ◌++◌, map, IfOk, OnOk, OnErr};
-ghost use Rattle.angle_texts.specs.Beginnings.{IsBegun};
+ghost use Rattle.direction_table.specs.Beginnings.{IsBegun};
 ghost use Rattle.csv.specs.Writing.{default_writer, row_text};
 ghost use Rattle.sheet_format.specs.Texts.{Writes, rows_text};
 ghost use Rattle.station_differences.specs.DifferenceTexts as spec;

@@ -9,7 +9,7 @@ use Rattle.direction_table.proofs.table.push_rows.Goals as goal
 pub loop-row-preserved : goal.loop-row-preserved
 loop-row-preserved g c text h =
     let before = text ++ table_text c.args.decimals (take c.loop-row.row-index c.args.stated.now) in
-    let field = c.as_slice.ensures.value ∙ c.in_ok-push_direction.ensures
+    let field = c.as_slice.ensures.value ∙ c.in_ok-push_direction.ensures.added
     ∙ ap (λ (t : List ℕ). t ++ direction_text c.args.decimals c.row-item.result.direction)
     c.clear.ensures.items in
     let row = rw field at c.in_ok-push_row.ensures in

@@ -3,7 +3,7 @@ use Rattle.std.proofs.Common.{◌≡◌, ◌∙◌, ◌++◌, ◌∷◌, ◌+◌
 use Rattle.std.proofs.Common.{take, drop, decimal, ap, sym, refl, subst}
 use Rattle.std.proofs.Common.{append_assoc}
 use Rattle.std.proofs.lemmas.List.{take-append-drop, take_at}
-use Rattle.angle_texts.specs.Beginnings.{IsBegun}
+use Rattle.direction_table.specs.Beginnings.{IsBegun}
 use Rattle.direction_table.specs.Texts.{decimals_of, direction_text}
 
 -- The first part is a beginning.
