@@ -1,28 +1,14 @@
 -- Half the spread of the differences is how near a rotation brings stated directions, and what one
 -- brings near a choice is brought as near to each that is the same but for turns and a rotation.
-use Rattle.std.proofs.Common.{◌≡◌, ℕ, ◌+◌, ◌*◌, ◌≤◌, ◌<◌, ◌≤ℤ◌, ◌+ℤ◌, ℤ, pos, arith, ap}
+use Rattle.std.proofs.Common.{◌≡◌, ℕ, ◌+◌, ◌*◌, ◌≤◌, ◌<◌, ◌+ℤ◌, ℤ, pos, arith, ap}
 use Rattle.std.proofs.Math.IntN.{◌*ℤ◌, ◌-ℤ◌}
 use Rattle.std.proofs.Math.Nat.{le_of_mul-le-mul_left, mul-le-mul, mul-le-mul_left}
 use Rattle.std.proofs.lemmas.Int.{ints}
 use Rattle.adjust_kernel.specs.Residuals.{Choice}
-use Rattle.adjust_kernel.specs.Within.{IsWithin}
 use Rattle.exact_adjustment.proofs.Products.{products, times_within}
 use Rattle.directions_apart.specs.Apart.{AreBroughtNear, AreBroughtWithin, IsApart, IsHalfSpread}
 use Rattle.directions_apart.specs.Apart.{circle_of, difference}
 use Rattle.directions_apart.specs.Arcs.{IsArc}
-
--- An angle in an arc is within half its width of the middle.
-in_middle : (w d spread : ℕ) (x start : ℤ) → spread ≤ w * (162_000 * d)
-    → start ≤ℤ (pos 1 *ℤ x) → (pos 1 *ℤ x) ≤ℤ (start +ℤ pos spread)
-    → IsWithin (pos (162_000 * w * (d * 2))) (pos 2 *ℤ
-    (pos 2 *ℤ x -ℤ (pos 2 *ℤ start +ℤ pos spread)))
-in_middle w d spread x start wide low high = omega (arith, ints)
-
--- What is so near a rotation lies in an arc about it.
-around : (m q : ℕ) (x p : ℤ) → IsWithin (pos m) (pos 2 *ℤ (pos q *ℤ x -ℤ p))
-    → ((pos 2 *ℤ p -ℤ pos m) ≤ℤ (pos (2 * q) *ℤ x))
-    × ((pos (2 * q) *ℤ x) ≤ℤ ((pos 2 *ℤ p -ℤ pos m) +ℤ pos (2 * m)))
-around m q x p h = let w = simp products at h in (omega (arith, ints), omega (arith, ints))
 
 -- Half a spread that is so narrow is not rounded up beyond it.
 no_more : (d q n w spread : ℕ) → 1 ≤ q → 2 * q * spread ≤ 2 * (162_000 * n * (d * q))
@@ -45,9 +31,8 @@ module _ (targets : ℕ) (c : Choice) (stated : ℕ → ℤ) (apart : ℕ)
         positive = omega arith;
         rotation = pos 2 *ℤ arc.start +ℤ pos is.spread;
         circles = arc.circles;
-        each = λ t h. in_middle apart c.denominator is.spread
-            (difference c stated t +ℤ pos (circle_of c) *ℤ arc.circles t) arc.start
-            is.rounded_up.not_below (arc.low t h) (arc.high t h);
+        each = λ t h. let low = arc.low t h in let high = arc.high t h in
+            simp products (omega (arith, ints, is.rounded_up.not_below));
       }
 
   module _ (most : ℕ) (b : AreBroughtNear targets c stated most) where
@@ -58,8 +43,8 @@ module _ (targets : ℕ) (c : Choice) (stated : ℕ → ℤ) (apart : ℕ)
     reached = record {
       start = pos 2 *ℤ b.rotation -ℤ pos reach;
       circles = b.circles;
-      low = λ t h. (around reach b.parts _ b.rotation (b.each t h)).0;
-      high = λ t h. (around reach b.parts _ b.rotation (b.each t h)).1;
+      low = λ t h. let w = simp products at (b.each t h) in simp products (omega (arith, ints));
+      high = λ t h. let w = simp products at (b.each t h) in simp products (omega (arith, ints));
     }
 
   -- Half the spread is how far they are apart.
@@ -88,30 +73,14 @@ pub record AreTurned (targets : ℕ) (c other : Choice) : Type 0 where
       -ℤ pos c.denominator
       *ℤ (other.direction t -ℤ pos (other.denominator * 80_000_000) *ℤ turns t) ≡ rotation
 
-turned_round : (d e : ℕ) (a b t r : ℤ)
-    → pos e *ℤ a -ℤ pos d *ℤ (b -ℤ pos (e * 80_000_000) *ℤ t) ≡ r
-    → pos d *ℤ b -ℤ pos e *ℤ (a -ℤ pos (d * 80_000_000) *ℤ (pos 0 -ℤ t)) ≡ pos 0 -ℤ r
-turned_round d e a b t r h = let f = simp products at h in simp products (omega (arith, ints))
-
 pub turned_back : (targets : ℕ) (c other : Choice) → AreTurned targets c other
     → AreTurned targets other c
 turned_back targets c other s = record {
   turns = λ t. pos 0 -ℤ s.turns t;
   rotation = pos 0 -ℤ s.rotation;
-  directions = λ t h. turned_round c.denominator other.denominator (c.direction t)
-      (other.direction t) (s.turns t) s.rotation (s.directions t h);
+  directions = λ t h.
+      let f = simp products at (s.directions t h) in simp products (omega (arith, ints));
 }
-
--- Twice what a rotated difference from the other choice is, by that from the one.
-from_other : (d e q : ℕ) (a b s k t p r : ℤ)
-    → pos e *ℤ a -ℤ pos d *ℤ (b -ℤ pos (e * 80_000_000) *ℤ t) ≡ r
-    → pos e *ℤ (pos 2 *ℤ (pos q *ℤ ((pos d *ℤ s -ℤ pos 405_000 *ℤ a)
-    +ℤ pos (d * 32_400_000_000_000) *ℤ k) -ℤ p))
-    ≡ pos 2 *ℤ (pos (q * d) *ℤ ((pos e *ℤ s -ℤ pos 405_000 *ℤ b)
-    +ℤ pos (e * 32_400_000_000_000) *ℤ (k +ℤ t)) -ℤ (pos e *ℤ p +ℤ pos (405_000 * q) *ℤ r))
-from_other d e q a b s k t p r h =
-    let f = simp products at (ap (λ z. pos (405_000 * q) *ℤ z) h) in
-    simp products (omega (arith, ints))
 
 -- What is brought near a choice is brought as near to the other.
 pub as_near : (targets : ℕ) (c other : Choice) (stated : ℕ → ℤ) (most : ℕ) → 1 ≤ c.denominator
@@ -127,13 +96,9 @@ as_near targets c other stated most some s b =
       rotation = pos e *ℤ b.rotation +ℤ pos (405_000 * q) *ℤ s.rotation;
       circles = λ t. b.circles t +ℤ s.turns t;
       each = λ t h.
-          (let bound : e * (most * (d * q)) ≡ most * (e * (q * d)) = omega arith in
-          rw (
-            ← bound,
-            ← from_other d e q (c.direction t) (other.direction t) (stated t)
-                (b.circles t) (s.turns t) b.rotation s.rotation (s.directions t h),
-          )
-          (times_within e (most * (d * q)) _ (b.each t h)));
+          let w = simp products at (times_within e (most * (d * q)) _ (b.each t h)) in
+          let f = simp products at (ap (λ z. pos (405_000 * q) *ℤ z) (s.directions t h)) in
+          simp products (omega (arith, ints));
     }
 
 -- They are as far apart from the other choice.

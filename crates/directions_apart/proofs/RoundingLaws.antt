@@ -82,14 +82,6 @@ rounded_of_0 c t step rounded positive some whole at_0 r =
       high = omega (arith, ints, here, large);
     })
 
--- What is within half a step, in parts.
-in_parts : (d s step : ℕ) (a k : ℤ) → IsWithin (pos (step * d))
-    (pos 2 *ℤ ((pos d *ℤ pos s -ℤ pos 5_000 *ℤ a) +ℤ pos (d * 400_000_000_000) *ℤ k))
-    → IsWithin (pos (81 * step * (d * 1))) (pos 2 *ℤ (pos 1 *ℤ ((pos d *ℤ pos (81 * s)
-    -ℤ pos 405_000 *ℤ a) +ℤ pos (d * 32_400_000_000_000) *ℤ k) -ℤ pos 0))
-in_parts d s step a k h =
-    let w = simp products at (times_within 81 _ _ h) in simp products (omega (arith, ints))
-
 -- Rounded directions are as near as half a step, with no rotation.
 pub rounded_near : (targets step : ℕ) (c : Choice) (stated : ℕ → ℕ)
     → ((t : ℕ) → t < targets → IsRounded c t step (stated t))
@@ -103,8 +95,8 @@ rounded_near targets step c stated each =
       positive = omega arith;
       rotation = pos 0;
       circles = known.0;
-      each = λ t h.
-          in_parts c.denominator (stated t) step (c.direction t) (known.0 t) (known.1 t h);
+      each = λ t h. let w = simp products at (times_within 81 _ _ (known.1 t h)) in
+          simp products (omega (arith, ints));
     }
 
 -- What is brought near is brought less near.
@@ -153,19 +145,6 @@ half_too d e step y z some others same low high =
     (simp products (omega (arith, ints))) (omega (arith, ints)) in
     (omega (arith, ints), omega (arith, ints))
 
--- Twice what a rounded direction is more than that of another choice, counted from its first.
-from_other : (d e : ℕ) (s a b k a0 b0 k0 c r : ℤ)
-    → pos e *ℤ a -ℤ pos d *ℤ (b -ℤ pos (e * 80_000_000) *ℤ k) ≡ r
-    → pos e *ℤ a0 -ℤ pos d *ℤ (b0 -ℤ pos (e * 80_000_000) *ℤ k0) ≡ r → a0 ≡ pos 0
-    → pos d *ℤ (pos 2 *ℤ ((pos e *ℤ s -ℤ pos 5_000 *ℤ (b -ℤ b0))
-    +ℤ pos (e * 400_000_000_000) *ℤ (c +ℤ (k -ℤ k0))))
-    ≡ pos e *ℤ (pos 2 *ℤ ((pos d *ℤ s -ℤ pos 5_000 *ℤ a) +ℤ pos (d * 400_000_000_000) *ℤ c))
-from_other d e s a b k a0 b0 k0 c r f g at_0 =
-    let f' = simp products at f in
-    let g' = simp products at g in
-    let z : pos e *ℤ a0 ≡ pos 0 = ap (λ y. pos e *ℤ y) at_0 ∙ omega (arith, ints) in
-    simp products (omega (arith, ints))
-
 -- A direction rounded, where the first is 0, is the other choice's from its first, rounded.
 pub as_rounded : (targets : ℕ) (c other : Choice) (t step rounded : ℕ) → 1 ≤ c.denominator
     → 1 ≤ other.denominator → 1 ≤ step → t < targets → AreTurned targets c other
@@ -177,10 +156,11 @@ as_rounded targets c other t step rounded some others steps inside s at_0 r =
     let circles = r.circles +ℤ (s.turns t -ℤ s.turns 0) in
     let y = twice_more (from_first other) t rounded circles in
     let z = twice_more c t rounded r.circles in
-    let same : pos d *ℤ y ≡ pos e *ℤ z =
-    from_other d e (pos rounded) (c.direction t) (other.direction t) (s.turns t) (c.direction 0)
-    (other.direction 0) (s.turns 0) r.circles s.rotation (s.directions t inside)
-    (s.directions 0 (omega (arith, inside))) at_0 in
+    let f = simp products at (s.directions t inside) in
+    let g = simp products at (s.directions 0 (omega (arith, inside))) in
+    let first : pos e *ℤ c.direction 0 ≡ pos 0 =
+    ap (λ x. pos e *ℤ x) at_0 ∙ omega (arith, ints) in
+    let same : pos d *ℤ y ≡ pos e *ℤ z = simp products (omega (arith, ints)) in
     let (low, high) = half_too d e step y z some others same r.low r.high in
     record {
       whole = r.whole;

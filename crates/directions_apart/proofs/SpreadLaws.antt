@@ -55,22 +55,6 @@ within_way circle parts width way (negsuc n) some below narrow low high =
     let f : parts * way < parts * circle = mul-lt-mul_of_pos_left below some in
     absurd (omega (arith, ints))
 
--- From the lowest angle of an arc that is less than a circle to another, the way round is no longer
--- than the arc.
-way_in_arc : (circle parts width way : ℕ) (a b j k turns start : ℤ) → 1 ≤ parts → way < circle
-    → width < parts * circle
-    → a +ℤ pos way ≡ b +ℤ pos circle *ℤ turns
-    → start ≤ℤ (pos parts *ℤ (a +ℤ pos circle *ℤ j))
-    → (pos parts *ℤ (a +ℤ pos circle *ℤ j)) ≤ℤ (pos parts *ℤ (b +ℤ pos circle *ℤ k))
-    → (pos parts *ℤ (b +ℤ pos circle *ℤ k)) ≤ℤ (start +ℤ pos width) → parts * way ≤ width
-way_in_arc circle parts width way a b j k turns start some below narrow there first low high =
-    let is = simp products at (ap (λ z. pos parts *ℤ z) there) in
-    let f = simp products at first in
-    let l = simp products at low in
-    let h = simp products at high in
-    within_way circle parts width way (k -ℤ turns -ℤ j) some below narrow
-    (simp products (omega (arith, ints))) (simp products (omega (arith, ints)))
-
 -- No arc from one of the angles is narrower.
 abbrev pub IsNoWider : (circle : ℕ) (angle : ℕ → ℤ) (count start narrowest : ℕ) → Type 0
 IsNoWider circle angle count start narrowest = (width : ℕ)
@@ -147,9 +131,13 @@ module _ (circle : ℕ) (angle : ℕ → ℤ) where
       narrow parts width each a (no h) =
           let (j, l) = lowest (λ i. pos parts *ℤ (angle i +ℤ pos circle *ℤ a.circles i)) count in
           let most = n.least j l.inside (width / parts) (λ i inside size w.
-          let within = way_in_arc circle parts width size (angle j) (angle i) (a.circles j)
-          (a.circles i) w.turns a.start each w.below (omega (arith, h)) w.there
-          (a.low j l.inside) (l.low i inside) (a.high i inside) in
+          let there = simp products at (ap (λ z. pos parts *ℤ z) w.there) in
+          let start = simp products at (a.low j l.inside) in
+          let low = simp products at (l.low i inside) in
+          let high = simp products at (a.high i inside) in
+          let within = within_way circle parts width size (a.circles i -ℤ w.turns -ℤ a.circles j)
+          each w.below (omega (arith, h)) (simp products (omega (arith, ints)))
+          (simp products (omega (arith, ints))) in
           (le-div_iff_mul-le each).1 (omega (arith, within))) in
           let e = (le-div_iff_mul-le each).0 most in
           omega (arith, e)

@@ -9,8 +9,7 @@ use Rattle.adjust_kernel.specs.Residuals.{Choice, residual}
 use Rattle.adjust_kernel.specs.Stations.{IsStation, StationValue}
 use Rattle.adjust_kernel.specs.declared.marks.TheConstants.{MOST_NODES}
 use Rattle.exact_adjustment.specs.Carrying.{AreMarked, GoesAlong}
-use Rattle.exact_adjustment.specs.Nearest.{AgreeWhereCarried, AreReached, Carries, obs_of, place_of}
-use Rattle.exact_adjustment.specs.Nearest.{reached}
+use Rattle.exact_adjustment.specs.Nearest.{AgreeWhereCarried, Carries, obs_of, place_of, reached}
 use Rattle.exact_adjustment.proofs.ObservedLaws.{nothing_seen, place_inside, seen_at, turned_at}
 use native.Mathlib.Decide.{dec_le, dec_lt}
 

@@ -1,11 +1,10 @@
 -- The lemmas of the laws, by the names of the laws: what proofs of other crates cite.
 use Rattle.std.proofs.Common.{◌≡◌, ap, arith, refl}
 use Rattle.adjust_kernel.specs.Stations.{StationValue}
-use Rattle.adjust_kernel.specs.Verdict.{AtNth}
 use Rattle.adjust_kernel.specs.declared.bounds.TheConstants.{LARGEST_RESIDUAL_LIMIT}
 use Rattle.exact_adjustment.specs.Adjustments.{AdjustmentValue, choice_by}
 use Rattle.exact_adjustment.specs.Exact.{IsExact, KeepsLimit}
-use Rattle.exact_adjustment.specs.Faults.{IsAdjustFault, IsFar, IsOfStation}
+use Rattle.exact_adjustment.specs.Faults.{IsAdjustFault, IsOfStation}
 use Rattle.exact_adjustment.specs.LeastOf.{AreTied}
 use Rattle.exact_adjustment.specs.declared.fault.AdjustFault.{AdjustFault}
 use Rattle.exact_adjustment.specs.declared.fault.AdjustFault.TheVariants.{NotConnected, Residual}
@@ -23,8 +22,9 @@ one_fault station (Residual n) NotConnected own also stands too = absurd (too st
 one_fault station (Residual n) (Residual m) own also stands too =
     let (place, at, f) = stands.2 in
     let (other, too_at, g) = too.2 in
-    let e = one_greatest station f.rules stands.0 LARGEST_RESIDUAL_LIMIT LARGEST_RESIDUAL_LIMIT place
-    other f.adjustment g.adjustment f.exact g.exact f.nearest g.nearest f.greatest g.greatest in
+    let e = one_greatest station f.rules stands.0 LARGEST_RESIDUAL_LIMIT LARGEST_RESIDUAL_LIMIT
+    place other f.adjustment g.adjustment f.exact g.exact f.nearest g.nearest f.greatest
+    g.greatest in
     ap Residual (omega (arith, at, too_at, e))
 one_fault station (Residual n) NotFound own also stands too = absurd also
 one_fault station NotFound other own also stands too = absurd own

@@ -97,10 +97,6 @@ module _ (station : StationValue) (is_station : IsStation station) (ks ls : List
   abbrev joint : ℕ → TurnedObservation
   joint n = record (turned_at station ls n) { turn = get_or ls n (pos 0) -ℤ get_or ks n (pos 0) }
 
-  abbrev Ends : ℕ → TurnedObservation → Type 0
-  Ends bound r = IsWithin (pos (bound * c.denominator))
-      (direction r.target -ℤ orientation r.set -ℤ pos (c.denominator * TURN) *ℤ r.turn)
-
   -- What a residual is more than by the angles: what its ends are, less what its turns are.
   change : (n : ℕ) → residual c (turned_at station ls n)
       -ℤ pos c.denominator *ℤ residual near.angles (turned_at station ks n)
@@ -110,7 +106,8 @@ module _ (station : StationValue) (is_station : IsStation station) (ks ls : List
 
   -- The ends of an observation that carries are within the limit of whole turns.
   abbrev IsGiven : TurnedObservation → Type 0
-  IsGiven r = IsPlaced sets targets r × Ends limit r
+  IsGiven r = IsPlaced sets targets r × IsWithin (pos (limit * c.denominator))
+      (direction r.target -ℤ orientation r.set -ℤ pos (c.denominator * TURN) *ℤ r.turn)
 
   given : (step : ℕ) → Carries station step → IsGiven (joint (place_of station step))
   given step h =

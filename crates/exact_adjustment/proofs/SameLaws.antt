@@ -17,7 +17,7 @@ use Rattle.adjust_kernel.specs.Turns.{with_turns}
 use Rattle.adjust_kernel.proofs.BalanceLaws.{IsBalanced, all_vanish}
 use Rattle.adjust_kernel.proofs.LeastLaws.{balanced_is_least}
 use Rattle.adjust_kernel.proofs.ObservationLaws.{IsPlaced}
-use Rattle.adjust_kernel.proofs.TurnLaws.{taken, taken_up}
+use Rattle.adjust_kernel.proofs.TurnLaws.{taken}
 use Rattle.exact_adjustment.specs.Adjustments.{AdjustmentValue, choice_by}
 use Rattle.exact_adjustment.specs.Exact.{AddsUp, IsExact, observed_by}
 use Rattle.exact_adjustment.specs.LeastOf.{AreTied, observed_with}
@@ -41,8 +41,7 @@ module _ (station : StationValue) (a : AdjustmentValue) (is_station : IsStation 
 
   residual_taken : (r : TurnedObservation)
       → residual other r ≡ residual c (record r { turn = with_whole r })
-  residual_taken r = taken_up c.denominator r.value (c.direction r.target) (c.orientation r.set)
-      r.turn (t.of_target r.target) (t.of_set r.set)
+  residual_taken r = simp products (omega (arith, ints))
 
   turns_are : ls ≡ map with_whole rs
   turns_are =

@@ -1,12 +1,10 @@
-use Rattle.std.proofs.Common.{◌≡◌, pos, arith, eqb, eq-eqb, sym, ◌∙◌, take, take_all, FitsSigned}
-use Rattle.std.proofs.Common.{get_or, rules}
+use Rattle.std.proofs.Common.{pos, arith, eqb, eq-eqb, FitsSigned, get_or, rules}
 use Rattle.std.proofs.lemmas.Bool.{ne_eqb}
 use Rattle.std.proofs.lemmas.Int.{ints, to_z-of_z}
 use mir.Syntax.{w8}
 use Rattle.adjust_kernel.specs.Residuals.{residual}
 use Rattle.adjust_kernel.specs.TurnedObservations.{TurnedObservation}
 use Rattle.exact_adjustment.specs.Adjustments.{choice_in}
-use Rattle.exact_adjustment.specs.Sides.{turned}
 use Rattle.exact_adjustment.proofs.SideLaws.{even_is, sum_more}
 use Rattle.exact_adjustment.proofs.certificate.is_set_even.Goals as goal
 use Rattle.exact_adjustment.proofs.certificate.is_set_even.Goals.{then-one-set, else-one-set}
