@@ -29,6 +29,7 @@ use Rattle.station_book.specs.Stations.{SurveyedStation, station_named}
 use Rattle.station_book.specs.declared.fault.BookKind.{BookKind}
 use Rattle.station_check.proofs.Acceptance.{came_well}
 use Rattle.station_check.proofs.LawLemmas.{some_outcome, station_of_file}
+use Rattle.station_check.specs.Means.{HasNoStation}
 use Rattle.station_check.specs.Outcomes.{ComesTo, FileComesTo, at_end}
 use Rattle.station_check.specs.StationOfFile.{IsStationOfFile}
 use Rattle.station_check.specs.Surveys.{IsSurvey}
@@ -37,7 +38,8 @@ use Rattle.station_check.specs.declared.fault.Fault.TheVariants.{NoStation}
 use Rattle.station_compare.proofs.Comparisons.{compares_by_table}
 use Rattle.station_compare.specs.Answers.{Compares}
 use Rattle.station_compare.specs.Comparing.{ByInput}
-use Rattle.station_compare.specs.OneAnswer.{IsNoMemory, IsUpToAdjustment}
+use Rattle.station_compare.specs.Directions.{TellsDirections}
+use Rattle.station_compare.specs.OneAnswer.{IsHeldTogether, IsNoMemory, IsUpToAdjustment}
 use Rattle.station_compare.specs.declared.agreement.Agreement.{Agreement}
 use Rattle.station_compare.specs.declared.fault.CompareFault.{CompareFault}
 use Rattle.station_compare.specs.declared.fault.CompareFault.TheVariants.{File, TableRead, Table}
@@ -94,6 +96,30 @@ tied_or_not station =
       | inr d ↦ inr (λ tied. tied none (length-map station.obs (λ (o : Obs). pos 0)) d)
     ]
 
+-- What comes of a file is a fault, no station of the name, or the station: where each of these has
+-- an answer, the file has one.
+module _ (limits : FaceLimits) (small : AreLimits limits) (file : FileAnswers) (name : List ℕ)
+    (Answer : Type 0) (refused : (fault : Fault) → FileComesTo limits file (Err fault) → Answer)
+    (missing : HasNoStation limits file name → Answer)
+    (found : (its : SurveyedStation) → IsStationOfFile limits file name its → Answer) where
+  by_name : (stations : List SurveyedStation) → IsSurvey limits file stations
+      → (its : Option SurveyedStation) → station_named name stations ≡ its → Answer
+  by_name stations survey None e =
+      missing (record { stations = stations; survey = survey; none = e })
+  by_name stations survey (Some its) e = found its ((station_of_file limits file name its small).0
+      (record { stations = stations; survey = survey; named = e }))
+
+  by_outcome : (came : Result History Fault) → FileComesTo limits file came → Answer
+  by_outcome (Err fault) h = refused fault h
+  by_outcome (Ok blocks) h =
+      let well = came_well limits [] file.lines file.last blocks tt h in
+      let survey = book.some_survey limits blocks small well.faultless in
+      by_name survey.0 (record { blocks = blocks; file = h; stations_are = survey.1 })
+      (station_named name survey.0) refl
+
+  of_file : Answer
+  of_file = let came = some_outcome limits file in by_outcome came.0 came.1
+
 module _ (unit : AngleUnit) (limits : FaceLimits) (small : AreLimits limits) (file : FileAnswers)
     (stated : Told) (name : List ℕ) (within : Option ℕ) where
   abbrev AnAnswer : Type 0
@@ -138,25 +164,32 @@ module _ (unit : AngleUnit) (limits : FaceLimits) (small : AreLimits limits) (fi
       ]
     ]
 
-  by_name : (stations : List SurveyedStation) → IsSurvey limits file stations
-      → (its : Option SurveyedStation) → station_named name stations ≡ its → AnAnswer
-  by_name stations survey None e = inl (
-    Err (File NoStation),
-    record { stations = stations; survey = survey; none = e },
-    tt,
-  )
-  by_name stations survey (Some its) e =
-      by_input its ((station_of_file limits file name its small).0
-      (record { stations = stations; survey = survey; named = e }))
-      (input_within LONGEST_TABLE stated) refl
-
-  by_outcome : (came : Result History Fault) → FileComesTo limits file came → AnAnswer
-  by_outcome (Err fault) h = by_fault fault h
-  by_outcome (Ok blocks) h =
-      let well = came_well limits [] file.lines file.last blocks tt h in
-      let survey = book.some_survey limits blocks small well.faultless in
-      by_name survey.0 (record { blocks = blocks; file = h; stations_are = survey.1 })
-      (station_named name survey.0) refl
-
   pub some_answer : AnAnswer
-  some_answer = let came = some_outcome limits file in by_outcome came.0 came.1
+  some_answer = of_file limits small file name AnAnswer by_fault
+      (λ h. inl (Err (File NoStation), h, tt))
+      (λ its of. by_input its of (input_within LONGEST_TABLE stated) refl)
+
+module _ (limits : FaceLimits) (small : AreLimits limits) (file : FileAnswers) (name : List ℕ)
+    (count : ℕ) where
+  abbrev AText : Type 0
+  AText =
+      ((r : Result (List ℕ) CompareFault) × TellsDirections limits file name count r × IsNoMemory r)
+      ⊎ IsHeldTogether limits file name
+
+  no_text : (fault : Fault) → FileComesTo limits file (Err fault) → AText
+  no_text NoStation h = absurd (never_no_station limits [] file.lines file.last h)
+  no_text fault h = inl (Err (File fault), h, tt)
+
+  by_station : (its : SurveyedStation) → IsStationOfFile limits file name its → AText
+  by_station its of = elim (tied_or_not its.station) [
+    | inl tied ↦ inr (record { its = its; station = of; tied = tied })
+    | inr loose ↦ inl (
+      Err (Adjust adjust.NotConnected),
+      record { its = its; station = of; none = loose },
+      tt,
+    )
+  ]
+
+  pub some_directions : AText
+  some_directions = of_file limits small file name AText no_text
+      (λ h. inl (Err (File NoStation), h, tt)) by_station

@@ -10,7 +10,7 @@ ghost use Rattle.station_book.specs.Limits.{FaceLimits, AreLimits};
 ghost use Rattle.station_compare.specs.Agreeing.{Agrees};
 ghost use Rattle.station_compare.specs.Answers.{Compares};
 ghost use Rattle.station_compare.specs.Directions.{StatesDirections, TellsDirections};
-ghost use Rattle.station_compare.specs.OneAnswer.{IsNoMemory, IsSettled};
+ghost use Rattle.station_compare.specs.OneAnswer.{IsHeldTogether, IsNoMemory, IsSettled};
 ghost use Rattle.station_compare.specs.OneAnswer.{IsUpToAdjustment};
 ghost use Rattle.station_compare.specs.OwnDirections.{MayRefuse};
 ghost use Rattle.station_compare.specs.declared.agreement.Agreement.{Agreement};
@@ -53,12 +53,17 @@ pub fn one_answer()
 {}
 
 /// What came of two readers has an answer of `compare` that is not that memory ran out, or it comes
-/// without fault to the adjustment of a station that is held together. What the solver gives for
-/// it, no contract says.
+/// without fault to the adjustment of a station that is held together; and so what came of one has
+/// an answer of `directions`. What the solver gives for it, no contract says.
 pub fn some_answer()
-    ensures { (unit : AngleUnit) (limits : FaceLimits) (file : FileAnswers) (stated : Told)
+    ensures compare { (unit : AngleUnit) (limits : FaceLimits) (file : FileAnswers) (stated : Told)
         (name : List ℕ) (within : Option ℕ) → AreLimits limits
         → ((r : Result Agreement CompareFault)
         × Compares unit limits file stated name within r × IsNoMemory r)
         ⊎ IsUpToAdjustment unit limits file stated name }
+    ensures directions { (limits : FaceLimits) (file : FileAnswers) (name : List ℕ) (count : ℕ)
+        → AreLimits limits
+        → ((r : Result (List ℕ) CompareFault)
+        × TellsDirections limits file name count r × IsNoMemory r)
+        ⊎ IsHeldTogether limits file name }
 {}
