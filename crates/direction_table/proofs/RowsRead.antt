@@ -100,7 +100,7 @@ module _ (unit : AngleUnit) where
           rw (whole, take-append_seam before rest, drop-append_seam before rest) refl
 
       -- Where no row before has a fault, and this one has none, none of that many has.
-      pub clean-more : (before rest : List (List (List ℕ))) (row : List (List ℕ))
+      clean-more : (before rest : List (List (List ℕ))) (row : List (List ℕ))
           → all ≡ before ++ (row ∷ rest) → NoFaultBefore unit targets all (length before)
           → row_fault unit targets before row ≡ None
           → NoFaultBefore unit targets all (length (before ++ (row ∷ [])))
@@ -114,7 +114,7 @@ module _ (unit : AngleUnit) where
           ]
 
       -- Where no row before has a fault, and this one has, it is the first of the table.
-      pub first-here : (before rest : List (List (List ℕ))) (row : List (List ℕ)) (k : RowKind)
+      first-here : (before rest : List (List (List ℕ))) (row : List (List ℕ)) (k : RowKind)
           → all ≡ before ++ (row ∷ rest) → NoFaultBefore unit targets all (length before)
           → row_fault unit targets before row ≡ Some k
           → IsFirstFaultOfTable unit targets all (length before) k

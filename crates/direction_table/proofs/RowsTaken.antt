@@ -2,7 +2,7 @@
 use Rattle.std.proofs.Common.{◌≡◌, ◌≢◌, ◌∙◌, ℕ, ◌<◌, Bool, false, List, [], ◌∷◌, ◌++◌, map}
 use Rattle.std.proofs.Common.{length, get_or, Option, None, Some, refl, sym, ap, arith, ℤ, inl, inr}
 use Rattle.std.proofs.Common.{length-set, get_or-set_other, get_or-set_same, Result, Ok, Err}
-use Rattle.std.specs.Prelude.{◌⊎◌, ◌≤◌, not, slice_set}
+use Rattle.std.specs.Prelude.{not, slice_set}
 use Rattle.std.specs.Option.{is_some, option_or}
 use Rattle.std.specs.Result.{IsErr, IsErrAnd, MatchResult}
 use Rattle.std.specs.Str.{bytes_eq}
@@ -46,7 +46,8 @@ or-none : (o : Option ℤ) → o ≡ option_or o None
 or-none None = refl
 or-none (Some v) = refl
 
--- A row that is about to be taken: its columns, and the place of its target.
+-- A row that is about to be taken: its columns, which have no fault, the place of its target, and
+-- what the rows before it state.
 pub record Taken (unit : AngleUnit) (targets : List (List ℕ)) (before : List (List (List ℕ)))
     (directions : List (Option ℤ)) (row : List (List ℕ)) (place : ℕ) (c : Fields) : Type 0 where
   pub columns : columns_of row ≡ Some c
@@ -76,13 +77,12 @@ module _ {unit : AngleUnit} {targets : List (List ℕ)} {before : List (List (Li
   other-name : (i : ℕ) → AreTargets targets → i < length targets → i ≢ place
       → bytes_eq c.name (get_or targets i []) ≡ false
   other-name i ok inside other =
-      false_from_ne_true _ (λ e. apart (cases_lt i place)
-      (t.name ∙ (bytes_eq-Decides c.name (get_or targets i [])).0 e))
-    where
-      apart : (i < place) ⊎ (place ≤ i) → get_or targets place [] ≡ get_or targets i [] → ⊥
-      apart (inl before) same = ok.different i place [] before t.inside (sym same)
-      apart (inr after) same =
-          ok.different place i [] (omega (arith, after, other)) inside same
+      false_from_ne_true _ (λ e.
+      let same = t.name ∙ (bytes_eq-Decides c.name (get_or targets i [])).0 e in
+      elim (cases_lt i place) [
+        | inl before ↦ ok.different i place [] before t.inside (sym same)
+        | inr after ↦ ok.different place i [] (omega (arith, after, other)) inside same
+      ])
 
   -- The row's direction, put at the place of its target, makes what the rows with that one state.
   pub taken : (v : ℤ) → AreTargets targets → is_some (get_or directions place None) ≡ false
