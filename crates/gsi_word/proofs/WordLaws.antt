@@ -1,17 +1,14 @@
 -- One word at the front of printable bytes: the test finds it exactly where it stands, and it is
 -- the only one.
 use Rattle.std.proofs.Common.{◌≡◌, ◌≢◌, ℕ, suc, ◌+◌, ◌-◌, ◌*◌, ◌/◌, ◌%◌, ◌<◌, ◌≤◌, Bool, true}
-use Rattle.std.proofs.Common.{false, ◌||◌, eqb, List, [], ◌∷◌, ◌++◌, length, get_or, take, drop}
-use Rattle.std.proofs.Common.{All, ◌⊎◌, inl, inr, refl, sym, ap, subst, ◌∙◌, arith}
-use Rattle.std.specs.Char.{is_ascii_digit}
-use Rattle.std.specs.List.{list_any}
-use Rattle.std.proofs.lemmas.Bool.{false≢true, not-true, leb-true, le-leb, eqb-true, eq-eqb, ne_eqb}
-use Rattle.std.proofs.lemmas.Bool.{and_parts, and_from, or_cases, or_left, or_right, not_from_false}
+use Rattle.std.proofs.Common.{false, eqb, List, [], ◌∷◌, ◌++◌, length, get_or, take, drop, All, ◌⊎◌}
+use Rattle.std.proofs.Common.{inl, inr, refl, sym, ap, ◌∙◌, arith}
+use Rattle.std.proofs.lemmas.Bool.Decides.{nat_tests}
+use Rattle.std.proofs.lemmas.Bool.{false≢true, leb-true, and_parts}
 use Rattle.std.proofs.lemmas.List.{length-append, length-take, length-drop, get_or-drop, get_or_at}
 use Rattle.std.proofs.lemmas.List.{take_at, drop_at}
 use Rattle.std.proofs.lemmas.List.Elements.{All-from_recursion, All-take, All-drop, All-cons}
 use Rattle.std.proofs.lemmas.List.Elements.{All-append, All-weaker}
-use Rattle.std.proofs.lemmas.List.Folds.{list_any_none, list_any_at}
 use Rattle.gsi_word.specs.Words.{GsiWord, IsLineByte, IsGraphic, IsWord, sign_byte, spelled}
 use Rattle.gsi_word.specs.LineFaults.{EndsWord, BeginsWord}
 use Rattle.gsi_word.specs.Layout.{word_of, begins_word, HasIndex, IsWordBytes}
@@ -20,23 +17,21 @@ use Rattle.gsi_word.specs.Layout.{word_of, begins_word, HasIndex, IsWordBytes}
 abbrev headed : ℕ → ℕ → ℕ → ℕ → ℕ → ℕ → ℕ → List ℕ → List ℕ
 headed a b i j k m s rest = a ∷ b ∷ i ∷ j ∷ k ∷ m ∷ s ∷ rest
 
+-- Seven places on, the bytes are those after the head.
+seven : (width : ℕ) → 7 + width ≡ suc (suc (suc (suc (suc (suc (suc width))))))
+seven width = omega arith
+
 take_head : (width a b i j k m s : ℕ) (rest : List ℕ)
     → take (7 + width) (headed a b i j k m s rest) ≡ headed a b i j k m s (take width rest)
-take_head width a b i j k m s rest =
-    let e : 7 + width ≡ suc (suc (suc (suc (suc (suc (suc width)))))) = omega arith in
-    ap (λ (n : ℕ). take n (headed a b i j k m s rest)) e
+take_head width a b i j k m s rest = rw (seven width) refl
 
 drop_head : (width a b i j k m s : ℕ) (rest : List ℕ)
     → drop (7 + width) (headed a b i j k m s rest) ≡ drop width rest
-drop_head width a b i j k m s rest =
-    let e : 7 + width ≡ suc (suc (suc (suc (suc (suc (suc width)))))) = omega arith in
-    ap (λ (n : ℕ). drop n (headed a b i j k m s rest)) e
+drop_head width a b i j k m s rest = rw (seven width) refl
 
 at_head : (width a b i j k m s : ℕ) (rest : List ℕ)
     → get_or (headed a b i j k m s rest) (7 + width) 0 ≡ get_or rest width 0
-at_head width a b i j k m s rest =
-    let e : 7 + width ≡ suc (suc (suc (suc (suc (suc (suc width)))))) = omega arith in
-    ap (λ (n : ℕ). get_or (headed a b i j k m s rest) n 0) e
+at_head width a b i j k m s rest = rw (seven width) refl
 
 -- What the test of a word says of its bytes.
 record Cells (width a b i j k m s : ℕ) (rest : List ℕ) : Type 0 where
@@ -47,74 +42,27 @@ record Cells (width a b i j k m s : ℕ) (rest : List ℕ) : Type 0 where
   pub sign : (s ≡ 43) ⊎ (s ≡ 45)
   pub ends : (length rest ≡ width) ⊎ (get_or rest width 0 ≡ 32)
 
-digit_bounds : (b : ℕ) → is_ascii_digit b ≡ true → (48 ≤ b) × (b ≤ 57)
-digit_bounds b h = let p = and_parts _ _ h in (leb-true _ _ p.0, leb-true _ _ p.1)
-
-none_blank : (xs : List ℕ) → list_any (λ b. eqb b 32) xs ≡ false → (n : ℕ) → n < length xs
-    → get_or xs n 0 ≢ 32
-none_blank xs h n lt e = false≢true (sym h ∙ list_any_at (λ b. eqb b 32) xs n 0 lt (eq-eqb _ _ e))
-
+-- Bytes of this form pass the test exactly where that is so.
 cells_of : (width a b i j k m s : ℕ) (rest : List ℕ)
     → begins_word width (headed a b i j k m s rest) ≡ true → Cells width a b i j k m s rest
 unfolding begins_word
 cells_of width a b i j k m s rest h =
-    let p = and_parts _ _ h in
-    let q = and_parts _ _ p.1 in
-    let r = and_parts _ _ q.1 in
-    let t = and_parts _ _ r.1 in
-    let u = and_parts _ _ t.1 in
-    let long : 7 + width ≤ length (headed a b i j k m s rest) = leb-true _ _ p.0 in
-    let blank = none_blank (i ∷ j ∷ k ∷ m ∷ []) (not-true _ t.0) in
+    let after = at_head width a b i j k m s rest in
     record {
-      long = omega arith;
-      tens = digit_bounds a q.0;
-      ones = digit_bounds b r.0;
-      info = (
-        blank 0 (omega arith),
-        (
-          blank 1 (omega arith),
-          (blank 2 (omega arith), blank 3 (omega arith)),
-        ),
-      );
-      sign = elim (or_cases _ _ u.0) [
-        | inl e ↦ inl (eqb-true _ _ e)
-        | inr e ↦
-            inr (eqb-true _ _ e)
-      ];
-      ends = elim (or_cases _ _ u.1) [
-        | inl e ↦ (let f : length (headed a b i j k m s rest) ≡ 7 + width = eqb-true _ _ e in
-            inl (omega arith))
-        | inr e ↦ inr (sym (at_head width a b i j k m s rest) ∙ eqb-true _ _ e)
-      ];
+      long = grind (arith, nat_tests);
+      tens = grind (arith, nat_tests);
+      ones = grind (arith, nat_tests);
+      info = grind (arith, nat_tests);
+      sign = grind (arith, nat_tests);
+      ends = grind (arith, nat_tests, after);
     }
 
 test_of_cells : (width a b i j k m s : ℕ) (rest : List ℕ) → Cells width a b i j k m s rest
     → begins_word width (headed a b i j k m s rest) ≡ true
 unfolding begins_word
 test_of_cells width a b i j k m s rest c =
-    let bytes = headed a b i j k m s rest in
-    let no_blank : list_any (λ b. eqb b 32) (i ∷ j ∷ k ∷ m ∷ []) ≡ false =
-    list_any_none (λ b. eqb b 32) (i ∷ j ∷ k ∷ m ∷ [])
-    (All-from_recursion (λ x. eqb x 32 ≡ false) (i ∷ j ∷ k ∷ m ∷ []) (
-      ne_eqb _ _ c.info.0,
-      (
-        ne_eqb _ _ c.info.1.0,
-        (ne_eqb _ _ c.info.1.1.0, (ne_eqb _ _ c.info.1.1.1, tt)),
-      ),
-    )) in
-    let signs : (eqb s 43 || eqb s 45) ≡ true =
-    elim c.sign [ inl e ↦ or_left _ _ (eq-eqb _ _ e) | inr e ↦ or_right _ _ (eq-eqb _ _ e) ] in
-    let last : (eqb (length bytes) (7 + width) || eqb (get_or bytes (7 + width) 0) 32) ≡ true =
-    elim c.ends [
-      | inl e ↦ or_left _ _ (eq-eqb (length bytes) (7 + width) (omega arith))
-      | inr e ↦
-          or_right _ _ (eq-eqb _ _ (at_head width a b i j k m s rest ∙ e))
-    ] in
-    and_from _ _ (le-leb _ _ (omega (arith, c.long)))
-    (and_from _ _ (and_from _ _ (le-leb _ _ c.tens.0) (le-leb _ _ c.tens.1))
-    (and_from _ _ (and_from _ _ (le-leb _ _ c.ones.0) (le-leb _ _ c.ones.1))
-    (and_from _ _ (not_from_false _ no_blank)
-    (and_from _ _ signs last))))
+    let after = at_head width a b i j k m s rest in
+    grind (arith, nat_tests, after)
 
 -- A word stands at the front of the bytes.
 pub record Front (width : ℕ) (bytes : List ℕ) : Type 0 where
@@ -133,54 +81,35 @@ ends_of [] h = tt
 ends_of (b ∷ rest) (inl e) = absurd (omega arith)
 ends_of (b ∷ rest) (inr e) = e
 
--- The word of a head and a content.
-record HeadedWord (width a b i j k m s : ℕ) (content : List ℕ) : Type 0 where
-  pub word : IsWord width (word_of (headed a b i j k m s content))
-  pub text : headed a b i j k m s content ≡ spelled (word_of (headed a b i j k m s content))
-
-headed_word : (width a b i j k m s : ℕ) (rest : List ℕ) → Cells width a b i j k m s rest
-    → All IsLineByte (headed a b i j k m s rest) → HeadedWord width a b i j k m s (take width rest)
-headed_word width a b i j k m s rest c h =
+front_of : (width a b i j k m s : ℕ) (rest : List ℕ) → Cells width a b i j k m s rest
+    → All IsLineByte (headed a b i j k m s rest) → Front width (headed a b i j k m s rest)
+front_of width a b i j k m s rest c h =
     let n : ℕ = 10 * (a - 48) + (b - 48) in
     let first : 48 + n / 10 ≡ a = omega (arith, c.tens, c.ones) in
     let second : 48 + n % 10 ≡ b = omega (arith, c.tens, c.ones) in
     let sign : sign_byte (eqb s 45) ≡ s = elim c.sign [ inl e ↦ rw e refl | inr e ↦ rw e refl ] in
+    let (ink_i, (ink_j, (ink_k, ink_m))) = c.info in
     record {
-      word = record {
+      word = rw (take_head width a b i j k m s rest) (record {
         index = omega (arith, c.tens, c.ones);
         info_length = refl;
         info = All-from_recursion IsGraphic (i ∷ j ∷ k ∷ m ∷ []) (
-          graphic i (h 2 0 (omega arith)) c.info.0,
+          graphic i (h 2 0 (omega arith)) ink_i,
           (
-            graphic j (h 3 0 (omega arith)) c.info.1.0,
-            (
-              graphic k (h 4 0 (omega arith)) c.info.1.1.0,
-              (graphic m (h 5 0 (omega arith)) c.info.1.1.1, tt),
-            ),
+            graphic j (h 3 0 (omega arith)) ink_j,
+            (graphic k (h 4 0 (omega arith)) ink_k, (graphic m (h 5 0 (omega arith)) ink_m, tt)),
           ),
         );
         content_length = omega (arith, length-take width rest, c.long);
         content = All-take IsLineByte width rest
             (All-drop IsLineByte 7 (headed a b i j k m s rest) h);
-      };
-      text = rw (first, second, sign) refl;
-    }
-
-front_of : (width a b i j k m s : ℕ) (rest : List ℕ) → Cells width a b i j k m s rest
-    → All IsLineByte (headed a b i j k m s rest) → Front width (headed a b i j k m s rest)
-front_of width a b i j k m s rest c h =
-    let w = headed_word width a b i j k m s rest c h in
-    let head = sym (take_head width a b i j k m s rest) in
-    let at_end : EndsWord (drop width rest) =
-    ends_of (drop width rest) (elim c.ends [
-      | inl e ↦ inl (omega (arith, length-drop width rest))
-      | inr e ↦
-          inr (get_or-drop width rest 0 0 ∙ ap (λ (n : ℕ). get_or rest n 0) (omega arith) ∙ e)
-    ]) in
-    record {
-      word = subst (λ (r : List ℕ). IsWord width (word_of r)) head w.word;
-      text = subst (λ (r : List ℕ). r ≡ spelled (word_of r)) head w.text;
-      ends = subst (λ (r : List ℕ). EndsWord r) (sym (drop_head width a b i j k m s rest)) at_end;
+      });
+      text = rw (take_head width a b i j k m s rest, first, second, sign) refl;
+      ends = rw (drop_head width a b i j k m s rest) (ends_of (drop width rest) (elim c.ends [
+        | inl e ↦ inl (omega (arith, length-drop width rest))
+        | inr e ↦ inr (get_or-drop width rest 0 0
+            ∙ ap (λ (n : ℕ). get_or rest n 0) (omega arith) ∙ e)
+      ]));
     }
 
 -- Bytes that pass the test of a word are at least as long as one.
@@ -193,36 +122,20 @@ front_long : (width : ℕ) (bytes : List ℕ) → begins_word width bytes ≡ tr
     → 7 ≤ length bytes → Front width bytes
 front_long width (a ∷ b ∷ i ∷ j ∷ k ∷ m ∷ s ∷ rest) e h long =
     front_of width a b i j k m s rest (cells_of width a b i j k m s rest e) h
-front_long width ([]) e h long = absurd (omega arith)
-front_long width (a ∷ []) e h long = absurd (omega arith)
-front_long width (a ∷ b ∷ []) e h long = absurd (omega arith)
-front_long width (a ∷ b ∷ i ∷ []) e h long = absurd (omega arith)
-front_long width (a ∷ b ∷ i ∷ j ∷ []) e h long = absurd (omega arith)
-front_long width (a ∷ b ∷ i ∷ j ∷ k ∷ []) e h long = absurd (omega arith)
-front_long width (a ∷ b ∷ i ∷ j ∷ k ∷ m ∷ []) e h long = absurd (omega arith)
+front_long width bytes e h long = absurd (omega arith)
 
 -- Printable bytes that pass the test begin with a word.
 pub front : (width : ℕ) (bytes : List ℕ) → begins_word width bytes ≡ true → All IsLineByte bytes
     → Front width bytes
 front width bytes e h = front_long width bytes e h (omega (arith, long_of width bytes e))
 
-head_has_index : (width a b i j k m s : ℕ) (rest : List ℕ) → Cells width a b i j k m s rest
-    → HasIndex (take (7 + width) (headed a b i j k m s rest))
-head_has_index width a b i j k m s rest c =
-    subst (λ (r : List ℕ). HasIndex r) (sym (take_head width a b i j k m s rest))
-    (record { long = omega arith; tens = c.tens; ones = c.ones })
-
 has_index : (width : ℕ) (bytes : List ℕ) → begins_word width bytes ≡ true → 7 ≤ length bytes
     → HasIndex (take (7 + width) bytes)
 has_index width (a ∷ b ∷ i ∷ j ∷ k ∷ m ∷ s ∷ rest) e long =
-    head_has_index width a b i j k m s rest (cells_of width a b i j k m s rest e)
-has_index width [] e long = absurd (omega arith)
-has_index width (a ∷ []) e long = absurd (omega arith)
-has_index width (a ∷ b ∷ []) e long = absurd (omega arith)
-has_index width (a ∷ b ∷ i ∷ []) e long = absurd (omega arith)
-has_index width (a ∷ b ∷ i ∷ j ∷ []) e long = absurd (omega arith)
-has_index width (a ∷ b ∷ i ∷ j ∷ k ∷ []) e long = absurd (omega arith)
-has_index width (a ∷ b ∷ i ∷ j ∷ k ∷ m ∷ []) e long = absurd (omega arith)
+    let c = cells_of width a b i j k m s rest e in
+    rw (take_head width a b i j k m s rest)
+    (record { long = omega arith; tens = c.tens; ones = c.ones })
+has_index width bytes e long = absurd (omega arith)
 
 -- Printable bytes that pass the test begin with all bytes of a word.
 pub word_bytes_of : (width : ℕ) (bytes : List ℕ) → begins_word width bytes ≡ true
@@ -235,26 +148,11 @@ word_bytes_of width bytes e h =
       word = (front width bytes e h).word;
     }
 
+-- Four bytes, one by one.
 four_cells : (xs : List ℕ) → length xs ≡ 4 → (i : ℕ) × (j : ℕ) × (k : ℕ) × (m : ℕ)
     × (xs ≡ i ∷ j ∷ k ∷ m ∷ [])
 four_cells (i ∷ j ∷ k ∷ m ∷ []) e = (i, j, k, m, refl)
-four_cells [] e = absurd (omega arith)
-four_cells (i ∷ []) e = absurd (omega arith)
-four_cells (i ∷ j ∷ []) e = absurd (omega arith)
-four_cells (i ∷ j ∷ k ∷ []) e = absurd (omega arith)
-four_cells (i ∷ j ∷ k ∷ m ∷ n ∷ xs) e = absurd (omega arith)
-
--- The information of a word, byte by byte.
-record Info (w : GsiWord) : Type 0 where
-  pub i : ℕ
-  pub j : ℕ
-  pub k : ℕ
-  pub m : ℕ
-  pub is : w.info ≡ i ∷ j ∷ k ∷ m ∷ []
-
-info_of : (width : ℕ) (w : GsiWord) → IsWord width w → Info w
-info_of width w h = let c = four_cells w.info h.info_length in
-    record { i = c.0; j = c.1; k = c.2; m = c.3; is = c.4 }
+four_cells xs e = absurd (omega arith)
 
 sign_cases : (b : Bool) → (sign_byte b ≡ 43) ⊎ (sign_byte b ≡ 45)
 sign_cases true = inr refl
@@ -273,42 +171,23 @@ ends_cells width content (b ∷ rest) len e = inr (get_or_at content b rest 0 wi
 test_of_word : (width : ℕ) (w : GsiWord) (rest : List ℕ) → IsWord width w → EndsWord rest
     → begins_word width (spelled w ++ rest) ≡ true
 test_of_word width w rest h ends =
-    let c = info_of width w h in
-    let info : All IsGraphic (c.i ∷ c.j ∷ c.k ∷ c.m ∷ []) =
-    subst (λ (xs : List ℕ). All IsGraphic xs) c.is h.info in
-    rw c.is (test_of_cells width (48 + w.index / 10) (48 + w.index % 10) c.i c.j c.k c.m
+    let (i, j, k, m, is) = four_cells w.info h.info_length in
+    let info : All IsGraphic (i ∷ j ∷ k ∷ m ∷ []) = rw is at h.info in
+    rw is (test_of_cells width (48 + w.index / 10) (48 + w.index % 10) i j k m
     (sign_byte w.negative) (w.content ++ rest) (record {
       long = omega (arith, length-append w.content rest, h.content_length);
       tens = (omega arith, omega (arith, h.index));
       ones = (omega arith, omega (arith, h.index));
       info = (
-        ink c.i (info 0 0 (omega arith)),
+        ink i (info 0 0 (omega arith)),
         (
-          ink c.j (info 1 0 (omega arith)),
-          (
-            ink c.k (info 2 0 (omega arith)),
-            ink c.m (info 3 0 (omega arith)),
-          ),
+          ink j (info 1 0 (omega arith)),
+          (ink k (info 2 0 (omega arith)), ink m (info 3 0 (omega arith))),
         ),
       );
       sign = sign_cases w.negative;
       ends = ends_cells width w.content rest h.content_length ends;
     }))
-
-same_word : (n n' : ℕ) (info info' : List ℕ) (negative negative' : Bool) (content content' : List ℕ)
-    → n ≡ n' → info ≡ info' → negative ≡ negative' → content ≡ content'
-    → ((let w : GsiWord = record {
-      index = n;
-      info = info;
-      negative = negative;
-      content = content;
-    } in w) ≡ (record {
-      index = n';
-      info = info';
-      negative = negative';
-      content = content';
-    }))
-same_word n n' info info' negative negative' content content' a b c d = rw (a, b, c, d) refl
 
 front_cells : (width : ℕ) (w : GsiWord) (rest : List ℕ) (i j k m : ℕ) → w.info ≡ i ∷ j ∷ k ∷ m ∷ []
     → length w.content ≡ width
@@ -331,11 +210,12 @@ word_of_spelled : (width : ℕ) (w : GsiWord) (rest : List ℕ) → IsWord width
     → (word_of (take (7 + width) (spelled w ++ rest)) ≡ w)
     × (drop (7 + width) (spelled w ++ rest) ≡ rest)
 word_of_spelled width w rest h =
-    let c = info_of width w h in
-    let cells = front_cells width w rest c.i c.j c.k c.m c.is h.content_length in (
-      ap word_of cells ∙ same_word _ w.index _ w.info _ w.negative _ w.content
-          (omega (arith, h.index)) (sym c.is) (sign_back w.negative) refl,
-      back_cells width w rest c.i c.j c.k c.m c.is h.content_length,
+    let (i, j, k, m, is) = four_cells w.info h.info_length in
+    let cells = front_cells width w rest i j k m is h.content_length in
+    let index : 10 * (48 + w.index / 10 - 48) + (48 + w.index % 10 - 48) ≡ w.index =
+    omega (arith, h.index) in (
+      ap word_of cells ∙ rw (index, sym is, sign_back w.negative) refl,
+      back_cells width w rest i j k m is h.content_length,
     )
 
 -- Bytes begin with one word at most.
@@ -358,23 +238,15 @@ no_word width bytes e b = false≢true (sym e ∙ ap (λ (r : List ℕ). begins_
 -- The bytes of a word are printable.
 pub spelled_printable : (width : ℕ) (w : GsiWord) → IsWord width w → All IsLineByte (spelled w)
 spelled_printable width w h =
-    let content : All IsLineByte (sign_byte w.negative ∷ w.content) =
-    All-cons IsLineByte (sign_byte w.negative) w.content (sign_printable w.negative)
-    h.content in
     let info : All IsLineByte w.info = All-weaker IsGraphic IsLineByte
-    (λ b g. graphic_printable b g) w.info h.info in
-    let first : IsLineByte (48 + w.index / 10) =
-    (omega (arith, h.index), omega (arith, h.index)) in
-    let second : IsLineByte (48 + w.index % 10) =
-    (omega (arith, h.index), omega (arith, h.index)) in
-    All-cons IsLineByte (48 + w.index / 10) ((48 + w.index % 10)
-    ∷ (w.info ++ sign_byte w.negative ∷ w.content)) first
-    (All-cons IsLineByte (48 + w.index % 10) (w.info ++ sign_byte w.negative ∷ w.content)
-    second (All-append IsLineByte w.info (sign_byte w.negative ∷ w.content) info content))
-  where
-    sign_printable : (b : Bool) → IsLineByte (sign_byte b)
-    sign_printable true = (omega arith, omega arith)
-    sign_printable false = (omega arith, omega arith)
-
-    graphic_printable : (b : ℕ) → IsGraphic b → IsLineByte b
-    graphic_printable b g = (omega arith, g.1)
+    (λ b g. (omega arith, g.1)) w.info h.info in
+    let sign : IsLineByte (sign_byte w.negative) = elim (sign_cases w.negative) [
+      | inl e ↦ (omega (arith, e), omega (arith, e))
+      | inr e ↦ (omega (arith, e), omega (arith, e))
+    ] in
+    let digit : (n : ℕ) → n < 10 → IsLineByte (48 + n) = λ n h. (omega arith, omega (arith, h)) in
+    let body : List ℕ = sign_byte w.negative ∷ w.content in
+    All-cons IsLineByte _ ((48 + w.index % 10) ∷ (w.info ++ body))
+    (digit (w.index / 10) (omega (arith, h.index)))
+    (All-cons IsLineByte _ (w.info ++ body) (digit (w.index % 10) (omega arith))
+    (All-append IsLineByte w.info body info (All-cons IsLineByte _ w.content sign h.content)))
