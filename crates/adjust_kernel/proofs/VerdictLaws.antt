@@ -103,9 +103,9 @@ zeros_or_first : (sum : ℕ → ℤ) (count : ℕ) → ((k : ℕ) → k < count 
     ⊎ ((n : ℕ) × IsFirstWhere (λ k. sum k ≢ pos 0) count n)
 zeros_or_first sum count = elim (none_or_first (λ k. sum k ≢ pos 0)
     (λ k. dec_not (ℤ_discrete (sum k) (pos 0))) count) [
-  | inl none ↦ inl (λ k inside. by_not_not (ℤ_discrete (sum k) (pos 0)) (none k inside))
-  | inr first ↦ inr first
-]
+      | inl none ↦ inl (λ k inside. by_not_not (ℤ_discrete (sum k) (pos 0)) (none k inside))
+      | inr first ↦ inr first
+    ]
 
 module _ (station : StationValue) (sheet : SheetValue) where
   -- The residual at a place is that of the observation there.
@@ -142,13 +142,26 @@ module _ (station : StationValue) (sheet : SheetValue) where
   one_fault (Some most) (Residual m) (Residual n) e a b = one_nth Residual (one_first _ _) m n a b
   one_fault limit f g e a b = grind arith
 
+  -- What is said of the sheet where it is accepted, but for the greatest residual.
+  abbrev said_with : ℤ → Accepted
+  said_with greatest = record {
+    name = station.name;
+    sets = length station.sets;
+    targets = length station.targets;
+    directions = length station.obs;
+    greatest = greatest;
+    denominator = sheet.denominator;
+  }
+
+  -- An acceptance says just that, so there is one.
+  is_said : (a : Accepted) → IsAcceptance station sheet a → a ≡ said_with a.greatest
+  is_said a f = rw (f.name, f.sets, f.targets, f.directions, f.denominator) refl
+
   one_acceptance : (a b : Accepted) → IsAcceptance station sheet a → IsAcceptance station sheet b
       → a ≡ b
   one_acceptance a b f g =
-      let greatest : a.greatest ≡ b.greatest = one_greatest (choice_stated_by sheet)
-      (observations station sheet) _ _ f.greatest g.greatest in
-      rw (f.name ∙ sym g.name, f.sets ∙ sym g.sets, f.targets ∙ sym g.targets,
-      f.directions ∙ sym g.directions, greatest, f.denominator ∙ sym g.denominator) refl
+      is_said a f ∙ ap said_with (one_greatest (choice_stated_by sheet)
+      (observations station sheet) _ _ f.greatest g.greatest) ∙ sym (is_said b g)
 
   -- No two verdicts stand for one station, one sheet and one limit.
   pub only_one_verdict : (limit : Option ℕ) (a b : Result Accepted KernelFault)
@@ -275,18 +288,12 @@ module _ (station : StationValue) (sheet : SheetValue) where
       → IfSome limit (KeepsLimit station sheet)
       → 1 ≤ length (observations station sheet) → IsAcceptedSheet station sheet limit
   accepted_sheet limit matches targets sets connected within some =
-      let said : Accepted = record {
-        name = station.name;
-        sets = length station.sets;
-        targets = length station.targets;
-        directions = length station.obs;
-        greatest = pos (greatest_size (choice_stated_by sheet) (observations station sheet));
-        denominator = sheet.denominator;
-      } in (
-        said,
-        accepted_verdict limit said matches targets sets connected within (search (rules,
-        greatest_is (choice_stated_by sheet) (observations station sheet) some)),
-      )
+      let largest = greatest_is (choice_stated_by sheet) (observations station sheet) some in
+      let said = said_with
+      (pos (greatest_size (choice_stated_by sheet) (observations station sheet))) in
+      let verdict = accepted_verdict limit said matches targets sets connected within
+      (search (rules, largest)) in
+      (said, verdict)
 
   -- The verdict of a fault that stands, where what is looked for before it is as it has to be.
   refused : (limit : Option ℕ) (fault : KernelFault) → Stands station sheet limit fault
@@ -299,11 +306,11 @@ module _ (station : StationValue) (sheet : SheetValue) where
   pub some_verdict : (limit : Option ℕ) → 1 ≤ length station.obs
       → (verdict : Result Accepted KernelFault) × IsVerdict station sheet limit verdict
   some_verdict limit some = elim (none_or_first (IsStandingAt limit) standing 10) [
-    | inr (n, first) ↦ let (fault, same, stands) = first.here in (
-        Err fault,
-        (stands, λ other below s. first.before (order_of other) (omega (arith, below, same))
-        (other, refl, s)),
-      )
+    | inr (n, first) ↦
+        let (fault, same, stands) = first.here in
+        let verdict = refused limit fault stands (λ k below. clear_where_none_stands limit k
+        (first.before k (omega (arith, below, same)))) in
+        (Err fault, verdict)
     | inl none ↦
         let clear : (n : ℕ) → n < 10 → IsClearAt station sheet limit n =
         λ n h. clear_where_none_stands limit n (none n h) in
