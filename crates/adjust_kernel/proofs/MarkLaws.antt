@@ -1,9 +1,10 @@
 -- Marks that spread along the observations.
 use Rattle.std.proofs.Common.{◌≡◌, ◌⊎◌, inl, inr, ℕ, ◌+◌, ◌-◌, ◌<◌, ◌≤◌, Bool, true, false, not}
-use Rattle.std.proofs.Common.{◌||◌, cond, ltb, List, [], ◌∷◌, length, set, take, get_or, All}
-use Rattle.std.proofs.Common.{replicate, ⊎_elim, add-zero, below_more, arith, ap, sym, subst, ◌∙◌}
+use Rattle.std.proofs.Common.{◌||◌, cond, List, [], ◌∷◌, length, set, take, get_or, All, replicate}
+use Rattle.std.proofs.Common.{refl, ⊎_elim, add-zero, below_more, arith, ap, sym, subst, ◌∙◌}
 use Rattle.std.specs.List.{AllByRecursion, count_by}
 use Rattle.std.specs.Bool.{OnTrue, OnFalse}
+use Rattle.std.proofs.lemmas.Bool.{or_right}
 use Rattle.std.proofs.lemmas.Bool.Decides.{nat_tests}
 use Rattle.std.proofs.lemmas.List.Elements.{All-from_recursion, recursion_from_All, All-more}
 use Rattle.std.proofs.lemmas.List.Sums.{sum_by-set}
@@ -51,27 +52,22 @@ set_node : (sets s : ℕ) (p q : ℕ → Bool) → s < sets → part_of sets p q
 set_node sets s p q h = grind (arith, nat_tests)
 
 target_node : (sets t : ℕ) (p q : ℕ → Bool) → part_of sets p q (sets + t) ≡ q t
-target_node sets t p q =
-    let e : sets + t - sets ≡ t = omega arith in
-    let f : ltb (sets + t) sets ≡ false = grind (arith, nat_tests) in
-    ap (λ b. cond b (p (sets + t)) (q (sets + t - sets))) f ∙ ap q e
+target_node sets t p q = grind (arith, nat_tests)
 
 mark_after : (marks : List Bool) (n k : ℕ) → n < length marks → mark (set marks n true) k ≡ true
     → (k ≡ n) ⊎ (mark marks k ≡ true)
-mark_after marks n k h e = by (ℕ_discrete k n)
-  where
-    by : Dec (k ≡ n) → (k ≡ n) ⊎ (mark marks k ≡ true)
-    by (yes p) = inl p
-    by (no f) = inr (sym (get_or-set_other marks n k true false f) ∙ e)
+mark_after marks n k h e = elim (ℕ_discrete k n) [
+  | yes p ↦ inl p
+  | no f ↦ inr (sym (get_or-set_other marks n k true false f) ∙ e)
+]
 
 -- A mark is kept where another is set.
 mark_kept : (marks : List Bool) (n k : ℕ) → n < length marks → mark marks k ≡ true
     → mark (set marks n true) k ≡ true
-mark_kept marks n k h e = by (ℕ_discrete k n)
-  where
-    by : Dec (k ≡ n) → mark (set marks n true) k ≡ true
-    by (yes p) = ap (mark (set marks n true)) p ∙ get_or-set_same marks n true false h
-    by (no f) = get_or-set_other marks n k true false f ∙ e
+mark_kept marks n k h e = elim (ℕ_discrete k n) [
+  | yes p ↦ ap (mark (set marks n true)) p ∙ get_or-set_same marks n true false h
+  | no f ↦ get_or-set_other marks n k true false f ∙ e
+]
 
 -- And where two are.
 both_kept : (marks : List Bool) (a b k : ℕ) → a < length marks → b < length (set marks a true)
@@ -83,18 +79,15 @@ one_fewer_unmarked : (marks : List Bool) (n : ℕ) → n < length marks → mark
     → count_by not (set marks n true) < count_by not marks
 one_fewer_unmarked marks n h e =
     let s = sum_by-set (λ b. cond (not b) 1 0) marks n true false h in
-    let one : ℕ = 1 in
-    let f : cond (not (mark marks n)) 1 0 ≡ one = ap (λ b. cond (not b) 1 0) e in
-    omega (arith, s, f)
+    omega (arith, rw e at s)
 
 -- No node is marked at first.
 none_marked : (k : ℕ) → mark (replicate 140 false) k ≡ true → ⊥
-none_marked k e = by (dec_lt k 140)
-  where
-    by : Dec (k < 140) → ⊥
-    by (yes l) = let f : false ≡ true = sym (get_or-replicate 140 k false false l) ∙ e in cc
-    by (no n) = let f : false ≡ true = sym (get_or_past (replicate 140 false) k false
-        (let g = length-replicate {A = Bool} 140 false in omega arith)) ∙ e in cc
+none_marked k e = elim (dec_lt k 140) [
+  | yes l ↦ cc (get_or-replicate 140 k false false l)
+  | no n ↦ cc (get_or_past (replicate 140 false) k false
+      (let g = length-replicate {A = Bool} 140 false in omega arith))
+]
 
 module _ (sets targets : ℕ) (obs : List Obs) where
   -- The first observations of a sweep are done.
@@ -113,11 +106,14 @@ module _ (sets targets : ℕ) (obs : List Obs) where
     alike = λ k d h. absurd (omega arith);
   }
 
+  -- The set and the target of an observation are marked.
+  abbrev Sees : List Bool → Obs → Type 0
+  Sees marks o = (mark marks o.set ≡ true) × (mark marks (sets + o.target) ≡ true)
+
   -- The marks of the first observations' sets and targets.
   pub record AreSeen (marks : List Bool) (n : ℕ) : Type 0 where
     pub long : length marks ≡ 140
-    pub marked : (i : ℕ) → i < n → (d : Obs) → (mark marks (get_or obs i d).set ≡ true)
-        × (mark marks (sets + (get_or obs i d).target) ≡ true)
+    pub marked : (i : ℕ) → i < n → (d : Obs) → Sees marks (get_or obs i d)
     pub only : (k : ℕ) → mark marks k ≡ true → (i : ℕ) × (o : Obs) × (i < length obs)
         × (get_or obs i o ≡ o) × ((o.set ≡ k) ⊎ (sets + o.target ≡ k))
 
@@ -166,71 +162,52 @@ module _ (sets targets : ℕ) (obs : List Obs) (placed : All (IsObs sets targets
       → IsSwept sets targets obs before new (any || carried) (i + 1)
   swept_more before marks new any true i d inside (n, open_end, e) f w =
       let less : count_by not new < count_by not marks =
-      subst (λ (l : List Bool). count_by not l < count_by not marks) (sym e)
-      (one_fewer_unmarked marks n open_end.inside open_end.unmarked) in
-      by any w less
-    where
-      by : (any : Bool) → IsSwept sets targets obs before marks any i
-          → count_by not new < count_by not marks
-          → IsSwept sets targets obs before new (any || true) (i + 1)
-      by true w less = record {
-        spread = λ s. subst (IsSpread sets targets obs) (sym e)
-            (spread_one marks i d inside n open_end (w.spread s));
-        at_most = omega (arith, less, w.at_most);
-        fewer = omega (arith, less, w.at_most);
-        alike = tt;
-      }
-      by false w less = record {
-        spread = λ s. subst (IsSpread sets targets obs) (sym e)
-            (spread_one marks i d inside n open_end (w.spread s));
-        at_most = omega (arith, less, w.at_most);
-        fewer = omega (arith, less, w.at_most);
-        alike = tt;
+      rw e (one_fewer_unmarked marks n open_end.inside open_end.unmarked) in
+      let fewer : count_by not new < count_by not before = omega (arith, less, w.at_most) in
+      record {
+        spread = λ s. rw e (spread_one marks i d inside n open_end (w.spread s));
+        at_most = omega (arith, fewer);
+        fewer = rw (or_right any true refl) fewer;
+        alike = rw (or_right any true refl) tt;
       }
   swept_more before marks new true false i d inside t (e, alike) w = record {
-    spread = λ s. subst (IsSpread sets targets obs) (sym e) (w.spread s);
-    at_most = subst (λ (l : List Bool). count_by not l ≤ count_by not before) (sym e) w.at_most;
-    fewer = subst (λ (l : List Bool). count_by not l < count_by not before) (sym e) w.fewer;
+    spread = λ s. rw e (w.spread s);
+    at_most = rw e w.at_most;
+    fewer = rw e w.fewer;
     alike = tt;
   }
   swept_more before marks new false false i d inside t (e, alike) w = record {
-    spread = λ s. subst (IsSpread sets targets obs) (sym e) (w.spread s);
-    at_most = subst (λ (l : List Bool). count_by not l ≤ count_by not before) (sym e) w.at_most;
+    spread = λ s. rw e (w.spread s);
+    at_most = rw e w.at_most;
     fewer = tt;
-    alike = subst (λ (l : List Bool). All (AreAlike l sets) (take (i + 1) obs)) (sym e)
-        (All-more (AreAlike marks sets) obs i d inside w.alike alike);
+    alike = rw e (All-more (AreAlike marks sets) obs i d inside w.alike alike);
   }
 
-  -- One more observation.
+  -- With both marks of an observation, what was seen before still is, and so is that observation.
   seen_at : (marks : List Bool) (i : ℕ) (o : Obs) → i < length obs
       → ((d : Obs) → get_or obs i d ≡ o) → o.set < length marks
       → sets + o.target < length (set marks o.set true)
       → AreSeen sets targets obs marks i → AreSeen sets targets obs
       (set (set marks o.set true) (sets + o.target) true) (i + 1)
-  seen_at marks i o inside at set_in target_in s = record {
-    long = length-set (set marks o.set true) (sets + o.target) true ∙ length-set marks o.set true
-        ∙ s.long;
-    marked = below_more (λ k. (d : Obs) → (mark (set (set marks o.set true) (sets + o.target) true)
-        (get_or obs k d).set ≡ true) × (mark (set (set marks o.set true) (sets + o.target) true)
-        (sets + (get_or obs k d).target) ≡ true)) i
-        (λ k below d. let m = s.marked k below d in (
-          both_kept marks o.set (sets + o.target) (get_or obs k d).set set_in target_in m.0,
-          both_kept marks o.set (sets + o.target) (sets + (get_or obs k d).target) set_in
-              target_in m.1,
-        ))
-        (λ d. subst (λ (x : Obs). (mark (set (set marks o.set true) (sets + o.target) true) x.set
-        ≡ true) × (mark (set (set marks o.set true) (sets + o.target) true) (sets + x.target)
-        ≡ true)) (sym (at d)) (
-          mark_kept (set marks o.set true) (sets + o.target) o.set target_in
-              (get_or-set_same marks o.set true false set_in),
-          get_or-set_same (set marks o.set true) (sets + o.target) true false target_in,
-        ));
-    only = λ k e. ⊎_elim
-        (λ f. (i, o, inside, at o, inr (sym f)))
-        (λ f. ⊎_elim (λ g. (i, o, inside, at o, inl (sym g))) (λ g. s.only k g)
-        (mark_after marks o.set k set_in f))
-        (mark_after (set marks o.set true) (sets + o.target) k target_in e);
-  }
+  seen_at marks i o inside at set_in target_in s =
+      let one = set marks o.set true in
+      let sees = Sees sets targets obs (set one (sets + o.target) true) in
+      let kept = λ (k : ℕ). both_kept marks o.set (sets + o.target) k set_in target_in in
+      record {
+        long = length-set one (sets + o.target) true ∙ length-set marks o.set true ∙ s.long;
+        marked = below_more (λ k. (d : Obs) → sees (get_or obs k d)) i
+            (λ k below d. let m = s.marked k below d in (kept _ m.0, kept _ m.1))
+            (λ d. subst sees (sym (at d)) (
+              mark_kept one (sets + o.target) o.set target_in
+                  (get_or-set_same marks o.set true false set_in),
+              get_or-set_same one (sets + o.target) true false target_in,
+            ));
+        only = λ k e. ⊎_elim
+            (λ f. (i, o, inside, at o, inr (sym f)))
+            (λ f. ⊎_elim (λ g. (i, o, inside, at o, inl (sym g))) (λ g. s.only k g)
+            (mark_after marks o.set k set_in f))
+            (mark_after one (sets + o.target) k target_in e);
+      }
 
   -- With the marks of its set and target, one more observation is seen.
   pub seen_more : (marks : List Bool) (i : ℕ) (d : Obs) → i < length obs → sets + targets ≤ 140
@@ -239,15 +216,11 @@ module _ (sets targets : ℕ) (obs : List Obs) (placed : All (IsObs sets targets
       (sets + (get_or obs i d).target) true) (i + 1)
   seen_more marks i d inside few s =
       let p = placed i d inside in
-      let a = p.set in
-      let b = p.target in
-      let long = s.long in
-      let e = length-set marks (get_or obs i d).set true in
-      let set_in : (get_or obs i d).set < length marks = omega (arith, long, few, a) in
-      let target_in : sets + (get_or obs i d).target
-      < length (set marks (get_or obs i d).set true) = omega (arith, long, few, b, e) in
-      seen_at marks i (get_or obs i d) inside (λ d2. get_or_default obs i d2 d inside) set_in
-      target_in s
+      let o = get_or obs i d in
+      let set_in : o.set < length marks = omega (arith, s.long, few, p.set) in
+      let target_in : sets + o.target < length (set marks o.set true) =
+      omega (arith, s.long, few, p.target, length-set marks o.set true) in
+      seen_at marks i o inside (λ d2. get_or_default obs i d2 d inside) set_in target_in s
 
   -- Where all nodes are marked, each set and target was observed.
   pub each_observed : (marks : List Bool) → AreSeen sets targets obs marks (length obs)
@@ -266,20 +239,14 @@ module _ (sets targets : ℕ) (obs : List Obs) (placed : All (IsObs sets targets
   pub some_unobserved : (marks : List Bool) → AreSeen sets targets obs marks (length obs) → (n : ℕ)
       → n < sets + targets → mark marks n ≡ false → EachSetObserved sets obs
       × EachTargetObserved targets obs → ⊥
-  some_unobserved marks s n h e (of_sets, of_targets) = by (dec_lt n sets)
-    where
-      no_mark : (k : ℕ) → k ≡ n → mark marks k ≡ true → ⊥
-      no_mark k f g = let a : true ≡ false = sym g ∙ ap (mark marks) f ∙ e in cc
-
-      by : Dec (n < sets) → ⊥
-      by (yes l) = let (i, o, inside, at, is) = of_sets n l in
-          no_mark (get_or obs i o).set (ap (λ (x : Obs). x.set) at ∙ is) (s.marked i inside o).0
-      by (no f) =
-          let (i, o, inside, at, is) = of_targets (n - sets) (omega arith) in
-          let there : sets + (n - sets) ≡ n = omega arith in
-          no_mark (sets + (get_or obs i o).target)
-          (ap (λ (x : Obs). sets + x.target) at ∙ ap (λ (t : ℕ). sets + t) is ∙ there)
-          (s.marked i inside o).1
+  some_unobserved marks s n h e (of_sets, of_targets) = elim (dec_lt n sets) [
+    | yes l ↦ let (i, o, inside, at, is) = of_sets n l in
+        cc (e, at, is, (s.marked i inside o).0)
+    | no f ↦
+        let (i, o, inside, at, is) = of_targets (n - sets) (omega arith) in
+        let there : sets + (n - sets) ≡ n = omega arith in
+        cc (e, at, is, there, (s.marked i inside o).1)
+  ]
 
 -- At first only the first target is marked.
 pub spread_start : (sets targets : ℕ) (obs : List Obs) → sets < 140
@@ -333,14 +300,10 @@ marks_divide sets targets obs marks some s alike n h e rows = record {
       (observations_within (mark marks) (λ t. mark marks (sets + t)) obs rows
       (recursion_from_All (AreAlike marks sets) obs alike));
   first_part = inr (0, some, ap (mark marks) (add-zero sets) ∙ s.first);
-  second_part = by (dec_lt n sets);
+  second_part = elim (dec_lt n sets) [
+    | yes l ↦ inl (n, l, e)
+    | no f ↦
+        let there : sets + (n - sets) ≡ n = omega arith in
+        inr (n - sets, omega arith, ap (mark marks) there ∙ e)
+  ];
 }
-  where
-    by : Dec (n < sets) → HasMember sets targets (mark marks) (λ t. mark marks (sets + t)) false
-    by (yes l) = inl (n, l, e)
-    by (no f) = inr (
-      n - sets,
-      omega arith,
-      let k : sets + (n - sets) ≡ n = omega arith in
-          ap (mark marks) k ∙ e,
-    )
