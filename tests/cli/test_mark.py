@@ -142,13 +142,14 @@ class CommandTest(ProgramTest):
             (["a", "b"], b"error: unexpected argument 'b' found\n"),
             (["--two-c", "1", "a"], b"error: unexpected argument '--two-c' found\n"),
             (["a", "--station"], b"error: a value is required for '--station <NAME>' but none"),
+            ([""], b"error: a value is required for '<GSI>' but none"),
             (["--station=A", "--station=A", "a"], b"error: the argument '--station <NAME>' cannot"),
         ]:
             with self.subTest(args):
                 status, stdout, stderr = answer_of(["mark", *args])
                 self.assertEqual((2, b""), (status, stdout))
                 self.assertTrue(stderr.startswith(message), stderr)
-        for path in ["missing", "", "-"]:
+        for path in ["missing", "-"]:
             expected = 2, b"", f"cannot open {path}\n".encode()
             self.assertEqual(expected, answer_of(["mark", path]))
 

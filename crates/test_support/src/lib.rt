@@ -4,7 +4,7 @@
 //! |---|---|
 //! | `Recovers` | a reader that fails or ends once, and goes on after |
 //! | `Resumes` | a writer that fails once, and goes on after |
-//! | `S1`, `PARTS`, `TIE` | field files of one worked station each |
+//! | `S1`, `TWO_PARTS`, `TIE` | field files of one worked station each |
 //! | `hoard`, `hoard_of_all_but` | all memory, in few blocks, so that what is asked is refused |
 #![tactic(auto)]
 
@@ -13,7 +13,7 @@ mod memory;
 mod reader;
 mod writer;
 
-pub use fields::{PARTS, S1, TIE};
+pub use fields::{S1, TIE, TWO_PARTS};
 pub use memory::{BLOCKS, hoard, hoard_of_all_but};
 pub use reader::Recovers;
 pub use writer::Resumes;

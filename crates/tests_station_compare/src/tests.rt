@@ -14,7 +14,7 @@ use station_compare::{
 use std::alloc::Global;
 use std::process::Abort;
 use std::test::Fail;
-use test_support::{PARTS, S1, TIE};
+use test_support::{S1, TIE, TWO_PARTS};
 
 fn limits(rt: &impl Abort) -> Limits {
     Limits::new(100, 100).expect(rt, "limits")
@@ -164,7 +164,7 @@ fn the_first_fault_is_answered(rt: HostRuntime) -> Result<(), Fail> {
             CompareFault::Table(TableFault::Missing(1)),
         ),
         (
-            PARTS,
+            TWO_PARTS,
             b"S2",
             b"A,0\nB,0\n",
             CompareFault::Adjust(AdjustFault::NotConnected),

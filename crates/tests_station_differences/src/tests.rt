@@ -14,7 +14,7 @@ use station_differences::{
 use std::alloc::Global;
 use std::process::Abort;
 use std::test::Fail;
-use test_support::{PARTS, S1, TIE};
+use test_support::{S1, TIE, TWO_PARTS};
 
 /// An observation: the places of its set and its target, and its two-face direction in half units.
 type Observed = (u32, u32, u32);
@@ -279,7 +279,7 @@ fn a_table_has_differences_or_the_first_fault(rt: HostRuntime) -> Result<(), Fai
             Err(CompareFault::Table(TableFault::Missing(1))),
         ),
         (
-            PARTS,
+            TWO_PARTS,
             b"S2",
             b"A,0\nB,0\n",
             Err(CompareFault::Adjust(AdjustFault::NotConnected)),

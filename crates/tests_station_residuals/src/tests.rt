@@ -12,7 +12,7 @@ use station_residuals::{
 use std::alloc::Global;
 use std::process::Abort;
 use std::test::Fail;
-use test_support::{PARTS, S1, TIE};
+use test_support::{S1, TIE, TWO_PARTS};
 
 /// An observation: the places of its set and its target, and its two-face direction in half units.
 type Observed = (u32, u32, u32);
@@ -181,7 +181,7 @@ fn a_field_file_has_residuals_or_its_first_fault(rt: HostRuntime) -> Result<(), 
         (S1, b"S1", Ok(RESIDUALS)),
         (S1, b"S2", Err(CompareFault::File(Fault::NoStation))),
         (
-            PARTS,
+            TWO_PARTS,
             b"S2",
             Err(CompareFault::Adjust(AdjustFault::NotConnected)),
         ),

@@ -9,7 +9,7 @@ use station_report::{computed_of, degrees_of, report_text, run_report, write_rep
 use std::alloc::Global;
 use std::process::Abort;
 use std::test::Fail;
-use test_support::{PARTS, TIE};
+use test_support::{TIE, TWO_PARTS};
 
 /// An observation: the places of its set and its target, and its two-face direction in half units.
 type Observed = (u32, u32, u32);
@@ -141,7 +141,7 @@ fn a_field_file_without_a_report_has_its_first_fault(rt: HostRuntime) -> Result<
     let faults: [(&[u8], &[u8], CompareFault); 3] = [
         (s1().gsi, b"S2", CompareFault::File(Fault::NoStation)),
         (
-            PARTS,
+            TWO_PARTS,
             b"S2",
             CompareFault::Adjust(AdjustFault::NotConnected),
         ),

@@ -5,7 +5,7 @@ use station_book::Limits;
 use std::alloc::Global;
 use std::process::Abort;
 use std::test::Fail;
-use test_support::{PARTS, S1, TIE};
+use test_support::{S1, TIE, TWO_PARTS};
 
 /// Bytes that a sink has room for where no test wants less.
 pub const AMPLE: usize = 4_000;
@@ -163,7 +163,7 @@ pub fn refused() -> [(&'static [u8], bool, &'static [u8], &'static [u8]); 4] {
     [
         (s1().gsi, false, b"S2", b"refused: no station\n"),
         (s1().gsi, true, b"S1", b"refused: block 13: Read\n"),
-        (PARTS, false, b"S2", b"refused: adjust: NotConnected\n"),
+        (TWO_PARTS, false, b"S2", b"refused: adjust: NotConnected\n"),
         (TIE, false, b"S3", b"refused: adjust: Residual 1\n"),
     ]
 }
