@@ -189,7 +189,8 @@ clean:
 # the folders of both. So a crate is proved in a room of its own: its sources and those of the crates
 # below it, with their libraries, as links. What it leaves goes back to the crate's folder; what a run
 # that was cut off left there goes back when the next one begins. The stamp has the time at which the
-# room was made, so that a source that changes during its proof is proved again.
+# room was made, so that a source that changes during its proof is proved again; and it comes after the
+# room is gone, so that a run that is cut off between leaves none.
 ROOM = build/rooms/$*
 LOG = crates/$*/out/build.log
 
@@ -211,9 +212,9 @@ $(CRATES:%=$(PROVED)/%): $(PROVED)/%: crates.txt HANDLES | $(PROVED)
 	[ $$status -eq 0 ] || { $(call say,$* is NOT PROVED: $(LOG).new ends with); \
 	  tail -n 20 $(LOG).new >&2; rm -rf $(ROOM); exit 1; }; \
 	if [ -s $(LOG).new ]; then mv $(LOG).new $(LOG); else rm $(LOG).new; fi
-	@flock $(PROVED) sh -c 'touch -r $(ROOM)/HANDLES $@ && \
+	@touch -r $(ROOM)/HANDLES $(LOG).begun && rm -rf $(ROOM)
+	@flock $(PROVED) sh -c 'touch -r $(LOG).begun $@ && \
 	$(call say,$* is proved$(comma) $$(ls $(PROVED) | wc -l) of $(words $(CRATES)))'
-	@rm -rf $(ROOM)
 
 $(PROVED):
 	@mkdir -p $@
