@@ -5,12 +5,12 @@ ghost use Rattle.wide_number.specs.Limbs.{WIDE_LIMIT};
 use crate::limbs::{BASE, LIMBS};
 use crate::wide::Wide;
 
-/// 2^32.
+/// 2^32: as much as half of a limb's bits hold is below it.
 const HALF: u128 = 4_294_967_296;
 
 /// How many times a unit goes into a number: fewer than the bound.
 ///
-/// The highest words of both tell, and seldom one too many; then it is found by halving.
+/// The highest words of both tell, and seldom a few too many; then it is found by halving.
 pub fn quotient(number: &Wide, unit: &Wide, bound: u64) -> u64
     requires below { number.now < unit.now * bound }
     requires fits { unit.now * bound < WIDE_LIMIT }
@@ -36,7 +36,7 @@ fn limb_at(limbs: &[u64; LIMBS], place: usize) -> u128
 }
 
 /// How many times a unit goes into a number, as their highest words tell: so many times, or seldom
-/// one too many. Nothing rests on it.
+/// a few too many. Nothing rests on it.
 fn guess(number: &[u64; LIMBS], unit: &[u64; LIMBS]) -> u64 {
     let top = unit.iter().rposition(|limb| *limb > 0).unwrap_or(0);
     let mut of = limb_at(number, top + 1) * BASE + limb_at(number, top);
