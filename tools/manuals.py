@@ -22,7 +22,7 @@ CHANGES = ROOT / "CHANGELOG.md"
 TOOLS = {
     "adjust": "adjust a station by least squares, and write its sheet",
     "check_folder": "check the sheets and tables of a folder against their field files",
-    "prepare": "leave out or rename blocks in a copy of a field file",
+    "prepare": "leave out, rename or put in blocks in a copy of a field file",
     "residuals": "draw the residuals of a station",
 }
 
