@@ -9,9 +9,10 @@ can be copied too. These are left out: blocks by their numbers; a set by its sta
 with --closing the closing sights, which repeat at the end of a half set, in the same face, the
 target that began it, or its pair at the end of a set; with --broken-off, in a job without codes, a
 last set that was not ended; with --without-codes the blocks of codes 10, 20 and 30. --rename gives
-stated blocks another name: to a measurement its word 11, to a code block its word 42. --codes puts
-in the codes of a station whose sets begin at stated blocks. --plain writes plain ASCII letters for
-others, a blank for a tab, and drops byte order marks and bytes 1A at the ends of lines.
+stated blocks another name: to a measurement its word 11, to a code block its word 42. --capitals
+writes the names of measurements in capitals. --codes puts in the codes of a station whose sets
+begin at stated blocks. --plain writes plain ASCII letters for others, a blank for a tab, and drops
+byte order marks and bytes 1A at the ends of lines.
 
 COPY.gsi.log has each line that was left out, changed or put in. The script prints the command
 that shows that nothing else was changed.
@@ -155,6 +156,14 @@ class Block:
             raise Refused(f"block {self.number} has no name: neither word 11 first nor word 42")
         after = word.begin + len(word.content)
         return self.line[: word.begin] + self.filled(name) + self.line[after:]
+
+    def in_capitals(self) -> bytes:
+        """The line with the name of a measurement in capitals."""
+        if not self.begins_with(POINT):
+            return self.line
+        name = self.words[0]
+        after = name.begin + len(name.content)
+        return self.line[: name.begin] + name.content.upper() + self.line[after:]
 
     def code_before(self, code: str, information: str | None, end: bytes) -> bytes:
         """A line with a code that is put before this one, as wide as it is."""
@@ -425,6 +434,10 @@ def renamed(
                     raise Refused(f"block {block.number} is both left out and named {name}")
                 lines[block.place] = block.renamed(name)
                 said.append(f"block {block.number} named {name}")
+    if asked.capitals:
+        others = [block for block in blocks if block.place not in {*out, *lines}]
+        lines |= {block.place: block.in_capitals() for block in others}
+        said.append("names in capitals")
     return lines, said
 
 
@@ -628,6 +641,7 @@ def command_line() -> ArgumentParser:
     said = "give blocks, as 9 or 9,20, this name: of the target, station or set number"
     values = ("BLOCK", "NAME")
     option("--rename", metavar=values, nargs=2, action=Several, const=renaming, help=said)
+    option("--capitals", action="store_true", help="write names of measurements in capitals")
     said = "put in the codes of a station whose sets begin at blocks, as 2,14,26; LAST ends them"
     values = ("STATION", "BLOCKS", "LAST")
     option("--codes", metavar=values, nargs=3, action=Several, const=codes, help=said)
@@ -680,9 +694,9 @@ def main() -> None:
     parser = command_line()
     asked = parser.parse_args()
     of_lines = [asked.blocks, asked.set, asked.closing, asked.broken_off, asked.without_codes]
-    if not any([*of_lines, asked.rename, asked.codes, asked.plain]):
-        every = "--blocks, --set, --closing, --broken-off, --without-codes, --rename, --codes or "
-        parser.error(f"say what is left out or changed: {every}--plain")
+    if not any([*of_lines, asked.rename, asked.capitals, asked.codes, asked.plain]):
+        every = "--blocks, --set, --closing, --broken-off, --without-codes, --rename, --capitals, "
+        parser.error(f"say what is left out or changed: {every}--codes or --plain")
     try:
         done = prepared(asked)
     except (Refused, OSError) as why:

@@ -81,14 +81,15 @@ class PrepareTest(ProgramTest):
         return done.stdout + done.stderr
 
     def check_changes_are_shown(self):
-        """One byte changed, a line more and any line less, put in or renamed too, are each shown."""
+        """One byte changed, a line more and a line less, put in or renamed too, are each shown."""
         right = self.copy.read_bytes()
         lines = right.splitlines(keepends=True)
         at = next(place for place, line in enumerate(lines) if b" 22." in line)
+        new = [place for place, line in enumerate(lines) if b"> " + line in self.log]
         for changed in [
             right.replace(b" 22.", b" 23.", 1),
             b"".join([*lines[:at], lines[at], *lines[at:]]),
-            *(b"".join([*lines[:at], *lines[at + 1 :]]) for at in range(len(lines))),
+            *(b"".join([*lines[:place], *lines[place + 1 :]]) for place in [at, *new]),
         ]:
             self.copy.write_bytes(changed)
             self.assertNotEqual(b"", self.shown())
@@ -211,6 +212,12 @@ class PrepareTest(ProgramTest):
         self.changed(good, ["--rename", "1,4", "P 1"], of_a)
         of_both = edited(of_a, (b"0000000B", b"00000P 1"))
         self.changed(good, ["--rename", "1-4", "P 1"], of_both)
+        self.changed(lower, ["--capitals"], job("1122", "AKKA"))
+        of_code = edited(P7, (b"42....+00000000000000P7", b"42....+00000000000tabor"))
+        small = of_code.replace(b"TOWER", b"Tower").replace(b"CHURCH", b"church")
+        self.changed(small, ["--capitals"], of_code)
+        named = of_code.replace(b"TOWER", b"0Mill", 1)
+        self.changed(small, ["--rename", "2", "Mill", "--capitals"], named)
         other = edited(P7, (b"42....+00000000000000P7", b"42....+00000000000TABOR"))
         self.changed(P7, ["--rename", "1", "TABOR"], other)
         other = edited(P7, (b"42....+0000000000000002", b"42....+0000000000000012"))
