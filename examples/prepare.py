@@ -481,7 +481,7 @@ def end_of(line: bytes) -> bytes:
 
 
 def put_in(
-    lines: list[bytes], blocks: list[Block], asked: Namespace
+    lines: list[bytes], blocks: list[Block], out: set[int], asked: Namespace
 ) -> tuple[dict[int, list[bytes]], list[str]]:
     """The lines of codes that are put in, by the places before which they stand, and what was asked
     for."""
@@ -494,6 +494,10 @@ def put_in(
             among = "or lie among those of another station"
             raise Refused(f"the blocks of {codes.station} don't ascend, {among}")
         after = codes.last
+        for block in blocks[codes.firsts[0] : codes.last]:
+            if block.sets_up() and block.place not in out:
+                among = f"among the sets of {codes.station}"
+                raise Refused(f"block {block.number} sets the instrument up, {among}")
         for block, code, information in codes.lines(blocks):
             end = end_of(lines[max(block.place - 1, 0)]) or b"\n"
             line = block.code_before(code, information, end)
@@ -666,7 +670,7 @@ def prepared(asked: Namespace) -> str:
     blocks = blocks_of(lines)
     out, said_out = left_out(blocks, asked)
     changed, said_changed = renamed(blocks, out, asked)
-    put, said_put = put_in(lines, blocks, asked)
+    put, said_put = put_in(lines, blocks, out, asked)
     if asked.plain:
         changed = in_plain(blocks, out, changed)
         said_changed.append("plain ASCII")

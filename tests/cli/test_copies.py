@@ -270,6 +270,10 @@ class PrepareTest(ProgramTest):
             status, _, answer = self.prepared(field, "--codes", *args)
             self.assertEqual(1, status)
             self.assertTrue(answer.startswith(f"prepare.py: {said}"), answer)
+        set_up = sights_of("ABba|ABba")
+        said = "prepare.py: block 5 sets the instrument up, among the sets of S\n"
+        self.assertEqual((1, "", said), self.prepared(set_up, "--codes", "S", "1,6", "9"))
+        self.assertEqual(0, self.prepared(set_up, "--codes", "S", "1,6", "9", "--blocks", "5")[0])
         said = "prepare.py: block 3 is no reading: no set begins or ends there\n"
         self.assertEqual((1, "", said), self.prepared(P7, "--codes", "P7", "3", "15"))
         for values in ["S 1", "S x 4", "S 1-2 4", "S 1 4-", "0S 1 4"]:
