@@ -83,6 +83,10 @@ class Word(NamedTuple):
     content: bytes
     begin: int  # where the content stands in the line
 
+    def end(self) -> int:
+        """Where the content ends."""
+        return self.begin + len(self.content)
+
 
 class Block:
     """A line that isn't blank: its number, its place among all lines, its bytes with their end, and
@@ -150,20 +154,22 @@ class Block:
         return content.rjust(CONTENT[self.wide], "0").encode()
 
     def renamed(self, name: str) -> bytes:
-        """The line with another name."""
-        index = POINT if self.begins_with(POINT) else INFORMATION
-        if not self.words or not (word := self.first_of(index)):
-            raise Refused(f"block {self.number} has no name: neither word 11 first nor word 42")
-        after = word.begin + len(word.content)
-        return self.line[: word.begin] + self.filled(name) + self.line[after:]
+        """The line with another name, or of a code that has none with this one."""
+        word = self.first_of(POINT if self.begins_with(POINT) else INFORMATION)
+        if word:
+            begin, end, before = word.begin, word.end(), b""
+        elif self.begins_with(CODE):
+            begin, end, before = self.words[0].end(), self.words[0].end(), b" 42....+"
+        else:
+            raise Refused(f"block {self.number} has no name: neither word 11 nor word 41 first")
+        return self.line[:begin] + before + self.filled(name) + self.line[end:]
 
     def in_capitals(self) -> bytes:
         """The line with the name of a measurement in capitals."""
         if not self.begins_with(POINT):
             return self.line
         name = self.words[0]
-        after = name.begin + len(name.content)
-        return self.line[: name.begin] + name.content.upper() + self.line[after:]
+        return self.line[: name.begin] + name.content.upper() + self.line[name.end() :]
 
     def code_before(self, code: str, information: str | None, end: bytes) -> bytes:
         """A line with a code that is put before this one, as wide as it is."""
@@ -181,7 +187,7 @@ class Block:
             if width == CONTENT[bare.wide]:  # bytes, of which a letter may have had two
                 content = content.rjust(width, b"0")
             line += self.in_plain(bare.line[at : word.begin]) + content
-            at = word.begin + width
+            at = word.end()
         return line + self.in_plain(bare.line[at:]) + self.line[len(text) :]
 
     def in_plain(self, piece: bytes) -> bytes:

@@ -222,6 +222,8 @@ class PrepareTest(ProgramTest):
         self.changed(P7, ["--rename", "1", "TABOR"], other)
         other = edited(P7, (b"42....+0000000000000002", b"42....+0000000000000012"))
         self.changed(P7, ["--rename", "16", "12"], other)
+        unnamed = edited(P7, (b" 42....+0000000000000002", b""))
+        self.changed(unnamed, ["--rename", "16", "2"], P7)
         self.check_changes_are_shown()
         both = ["--rename", "4", "X", "--blocks", "3", "5-6", "--rename", "7", "Y"]
         self.assertEqual(0, self.prepared(P7, *both)[0])
@@ -354,7 +356,7 @@ class PrepareTest(ProgramTest):
             (["--closing"], "no set has a closing sight"),
             (["--broken-off"], "the file has codes: leave the set out by --set"),
             (["--rename", "1", "x" * 17], "block 1: the name " + "x" * 17 + " is too long"),
-            (["--rename", "51", "X"], "block 51 has no name"),
+            (["--rename", "52", "X", "--blocks", "1"], "no block 52"),
             (["--rename", "52", "X"], "no block 52: the file has 51"),
             (["--rename", "4", "X", "--set", "P7", "1"], "block 4 is both left out and named X"),
             (["--rename", "1", "P7"], "nothing would be changed"),
@@ -373,6 +375,9 @@ class PrepareTest(ProgramTest):
         degrees = edited(job("1122", "ABBA"), (b"22.102+1", b"22.104+1"))
         said = "prepare.py: block 1: no zenith angle in gon with five decimals\n"
         self.assertEqual((1, "", said), self.prepared(degrees, "--closing"))
+        titled = b"Job 17\n" + P7
+        said = "prepare.py: block 1 has no name: neither word 11 nor word 41 first\n"
+        self.assertEqual((1, "", said), self.prepared(titled, "--rename", "1", "X"))
         names = [["--rename", "1", name] for name in ["", "0P", "P\u00e4"]]
         of_blocks = [["--blocks", "x"], ["--blocks", "0"], ["--blocks"], ["--rename", "1"]]
         for args in [[], *of_blocks, ["--set", "P7"], ["--rename", "x", "X"], *names]:
