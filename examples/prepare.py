@@ -213,7 +213,8 @@ def lines_of(path: str) -> list[bytes]:
         raise Refused(f"cannot read {path}: {why.strerror}") from None
     if text.startswith(UTF_16) or b"\0" in text[:2]:
         raise Refused(f"{path} is in UTF-16: save it as plain text, in ASCII, first")
-    lines = re.findall(rb"[^\r\n]*(?:\r\n|\r|\n)|[^\r\n]+", text)
+    # A transfer may have left CR CR LF, of which station_check takes the first CR for the line's end.
+    lines = re.findall(rb"[^\r\n]*(?:\r*\n|\r)|[^\r\n]+", text)
     if any(line.endswith(b"\r") for line in lines):
         raise Refused("its lines end in CR alone: save it with lines that end in LF or CR LF first")
     return lines

@@ -289,6 +289,7 @@ class PrepareTest(ProgramTest):
         latin, utf = edited(good, (b"A 21", b"\xc4 21")), edited(good, (b"A 21", b"\xc3\x84 21"))
         sharp = edited(good, (b"0A 21", b"\xdfA 21"))
         narrow = edited(good, (b"00A 21", b"0\xc3\x84 21"))  # eight bytes, and so seven letters
+        twice, last = good.replace(b"\r\n", b"\r\r\n"), b"110005+0000000B\r\r\n"
         for field, args, expected in [
             (b"Job 17\r\n" + good, ["--blocks", "1"], good),
             (cut, ["--blocks", "5"], good),
@@ -300,6 +301,7 @@ class PrepareTest(ProgramTest):
             (utf, ["--plain"], good),
             (mark + utf + b"\x1a", ["--plain"], good),
             (narrow, ["--plain"], good),
+            (twice + last, ["--blocks", "5"], twice),
             (utf + cut[len(good) :], ["--plain"], cut),  # what was cut off isn't filled up
             (good + b"\x1a" + mark + good + b"\x1a\x1a", ["--plain"], good + good),
             (utf, ["--rename", "1,4", "A"], good),
