@@ -45,13 +45,13 @@ pub const COMPARE_LONG_ABOUT: &str = "\
 Compares the directions that any program printed, complete sets or not, with the least-squares
 directions of a station in a field file: least over all directions, orientations and full turns.
 
-The table agrees if one rotation brings each of its directions within N units of 0.000001 gon
-(0.001 mgon) of the least-squares one. Else the first fault is named: of the field file, then of the
-table, then of the adjustment, in which no residual may be above 10 mgon; and at last how far they
-are apart.
+The table agrees if one rotation brings each of its directions within N units of 0.000001 gon (0.001
+mgon) of the least-squares one. If not, the first fault is named: of the field file, then of the
+table, then of the adjustment, in which no residual may be above 10 mgon; and last, how far the
+directions are apart.
 
 TABLE is text with a row for each target of the station, in any order: its name and its direction.
-Commas, semicolons, tabs or blanks separate the two, as the first row tells, which may be one of
+Commas, semicolons, tabs or blanks separate the two; the first row decides which, and may be one of
 titles. A direction is in gon, from -400 to 400: a sign or none, at most 3 digits, and a decimal
 point or comma with decimals if it has any; those after the ninth are 0. If commas separate, a
 decimal comma stands in quotes. The first direction need not be 0.
@@ -60,8 +60,8 @@ With --degrees a direction is in degrees, from -360 to 360: with minutes and sec
 59-04-09.18, or the same with the three signs in the place of the hyphens; or with decimals, as
 59.069217. Minutes and seconds have two digits each.
 
-STATION is compared byte by byte with the names in the field file, of which the zeros on the left
-are no part. A name that begins with '-' follows after '--'.";
+STATION is a name of the field file, byte for byte, without the zeros on its left. Write '--' before
+a name that begins with '-'.";
 
 pub const COMPARE_EXAMPLE: &str = "\
 Exit status:
@@ -88,12 +88,11 @@ agree, the one has 0.500 and the others -0.500, or the other way round.
 
 The first row has the titles. Directions are in gon: the stated ones exact, with 6 decimals, or all
 with 9 if one needs more; the least-squares ones counted from the first target, with 6. What is
-stated in degrees is rounded to the ninth decimal of a gon.
-Differences are in mgon with 3 decimals. What is rounded is rounded from the exact fraction; the
-middle of two goes up.
+stated in degrees is rounded to the ninth decimal of a gon. Differences are in mgon with 3 decimals.
+Rounded values are rounded once, from the exact fraction, and halves go up.
 
-TABLE is read as 'compare' reads it. STATION is compared byte by byte with the names in the field
-file, of which the zeros on the left are no part. A name that begins with '-' follows after '--'.";
+TABLE is read as 'compare' reads it. STATION is a name of the field file, byte for byte, without the
+zeros on its left. Write '--' before a name that begins with '-'.";
 
 pub const DIFFERENCES_EXAMPLE: &str = "\
 Exit status:
@@ -113,12 +112,12 @@ pub const DIRECTIONS_LONG_ABOUT: &str = "\
 Prints the least-squares directions of a station, complete sets or not, as a table: least over all
 directions, orientations and full turns. A residual above 10 mgon is a fault.
 
-Each row is NAME,DIRECTION. The targets stand in the order in which the field file first observes
-them. Directions are in gon, from 0 up to 400; the first is 0. They are rounded to K decimals, and
-the middle of two goes up. 'compare' reads such a table.
+Each row is NAME,DIRECTION. Targets come in the order of their first readings. Directions are in
+gon, from 0 up to 400; the first is 0. They are rounded to K decimals, and the middle of two goes
+up. 'compare' reads such a table.
 
-STATION is compared byte by byte with the names in the field file, of which the zeros on the left
-are no part. A name that begins with '-' follows after '--'.";
+STATION is a name of the field file, byte for byte, without the zeros on its left. Write '--' before
+a name that begins with '-'.";
 
 pub const DIRECTIONS_EXAMPLE: &str = "\
 Exit status:
@@ -143,8 +142,8 @@ The first row has the titles. Directions are in gon with 6 decimals, residuals i
 rounded from the exact fraction; the middle of two goes up. The direction and the residual of a row
 add up to its adjusted direction, to the last digit, but for a full circle.
 
-STATION is compared byte by byte with the names in the field file, of which the zeros on the left
-are no part. A name that begins with '-' follows after '--'.";
+STATION is a name of the field file, byte for byte, without the zeros on its left. Write '--' before
+a name that begins with '-'.";
 
 pub const RESIDUALS_EXAMPLE: &str = "\
 Exit status:
@@ -173,7 +172,7 @@ the status is 1.
 
 With --csv the observations are printed as rows for other programs: titles, and for each its
 station, set and target, the readings, the two-face direction, 2c, 2i, the adjusted direction and
-the residual. What is of a target or of the whole station is left out: 'directions' has the adjusted
+the residual. Values of a target or of the whole station are left out: 'directions' has the adjusted
 directions.
 
 Directions are in gon. Face differences are in mgon with 2 decimals, residuals and the standard
@@ -182,8 +181,8 @@ counted from that of the first row of its set. A dash stands where a set has no 
 target. No line is wider than 100 bytes, but for a longer path. A path stands as sha256sum prints
 it: a line feed as '\\n'.
 
-STATION is compared byte by byte with the names in the field file, of which the zeros on the left
-are no part. A name that begins with '-' follows after '--'.";
+STATION is a name of the field file, byte for byte, without the zeros on its left. Write '--' before
+a name that begins with '-'.";
 
 pub const REPORT_EXAMPLE: &str = "\
 Exit status:
@@ -203,10 +202,10 @@ Example:
 pub const CHECK_LONG_ABOUT: &str = "\
 Checks a sheet against the station of its name in a field file.
 
-The sheet is accepted if its observations are exactly the two-face directions of its station in
-the field file, every face difference is within its limit, and no other directions and orientations
-give with the sheet's full turns a smaller sum of squared residuals. Else the first fault is named:
-of the field file, then of the sheet, then of the comparison.
+The sheet is accepted if its observations are exactly the two-face directions of its station in the
+field file, every face difference is within its limit, and, with the sheet's full turns, no other
+directions and orientations give a smaller sum of squared residuals. If not, the first fault is
+named: of the field file, then of the sheet, then of the comparison.
 
 With --residual no residual of an accepted sheet is above the limit, and no other full turns give a
 smaller sum either.
@@ -230,8 +229,8 @@ Prints the adjusted sheet of a station whose sets are complete: its directions a
 means. The sheet is one that 'check' accepts for the same field file and limits, if no residual
 limit is stated.
 
-STATION is compared byte by byte with the names in the field file, of which the zeros on the left
-are no part. A name that begins with '-' follows after '--'.";
+STATION is a name of the field file, byte for byte, without the zeros on its left. Write '--' before
+a name that begins with '-'.";
 
 pub const MEANS_EXAMPLE: &str = "\
 Exit status:
@@ -244,9 +243,9 @@ Example:
   station_check means field.gsi S1 > sheet.csv";
 
 pub const MARK_LONG_ABOUT: &str = "\
-Prints a copy of a field file that was recorded without codes 10, 20 and 30, with lines put in that
-have them: code 10 begins a station, 20 a set, 30 ends a set. Nothing else is changed. The other
-commands read the copy.
+Prints a copy of a field file that was recorded without codes, and puts lines with three codes in:
+10 begins a station, 20 begins a set, 30 ends a set. Nothing else is changed. The other commands
+read the copy.
 
 A station begins at each set-up line, as instruments record one: a block that begins with the point
 number and has the word 84, 85, 86 or 88, and no direction, no vertical angle and no distance. A
@@ -336,8 +335,8 @@ pub const EXPLAIN_LONG_ABOUT: &str = "\
 Explains a fault that the line of a refusal names: when it comes, a line that names it, and what to
 do. Without FAULT, the names of all faults are printed, one a line.
 
-FAULT is the name as the line has it, in capitals or small letters. The whole line will do too, and
-quotes are not needed.";
+FAULT is the name as the line has it, in capitals or small letters. The whole line of a refusal
+works too, without quotes.";
 
 pub const EXPLAIN_EXAMPLE: &str = "\
 Exit status:
