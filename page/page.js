@@ -51,7 +51,20 @@ function sayHow() {
   }
   const count = (/** @type {string} */ mood) => cards.filter(card => card.mood === mood).length;
   const met = Object.keys(SUMMARIES).filter(mood => count(mood) > 0);
-  say(met[0], met.map(mood => text(SUMMARIES[mood], { n: count(mood) })).join(text('between')));
+  say(met[0], '');
+  for (const mood of met) {
+    if (mood !== met[0]) $('verdict').append(text('between'));
+    const said = text(SUMMARIES[mood], { n: count(mood) });
+    button(said, $('verdict'), () => leadTo(mood), `to ${mood}`);
+  }
+}
+
+/** Leads to the first card that looks like this. */
+function leadTo(/** @type {string} */ mood) {
+  const card = /** @type {HTMLElement} */ ($('answers').querySelector(`.card.${mood}`));
+  card.tabIndex = -1;
+  card.focus();
+  card.scrollIntoView();
 }
 
 /**
@@ -66,7 +79,7 @@ const SUMMARIES = {
 function kindText(/** @type {Input} */ input) {
   const names = {
     field: 'kindField', sheet: 'kindSheet', table: 'kindTable', spreadsheet: 'kindSpreadsheet',
-    empty: 'kindEmpty', unread: 'kindUnread', other: 'kindOther',
+    utf16: 'kindUtf16', empty: 'kindEmpty', unread: 'kindUnread', other: 'kindOther',
   };
   return text(names[input.kind], { station: input.kind === 'sheet' ? stationOfSheet(input) : '' });
 }
@@ -116,6 +129,8 @@ function show() {
     part.textContent = text(part.dataset.text, { ...$('made').dataset });
   for (const part of all('[data-label]'))
     part.setAttribute('aria-label', text(part.dataset.label));
+  for (const part of all('[data-placeholder]'))
+    part.setAttribute('placeholder', text(part.dataset.placeholder));
   $('in-force').textContent = limitsLine(limits);
   showInputs();
   $('answers').textContent = '';
