@@ -134,8 +134,14 @@ UNUSED = [
     ("notes.txt", b"as agreed by telephone\n", "neither a field file"),
     ("book.xlsx", b"PK\x03\x04", "a spreadsheet"),
     ("none.csv", b"", "empty"),
+    ("unicode.txt", "A\t0,5\n".encode("utf-16"), "text in UTF-16"),
+    ("report.pdf", b"%PDF-1.4\n1 0\n2 0\n", "neither a field file"),
+    ("letter.txt", b"As agreed on the 12.3.\nP7, please, once more, in 2 sets\n", "neither a field file"),
     ("photo.jpg", b"\xff\xd8\xff\xe0\0\x10JFIF\0\x01,12", "neither a field file"),
 ]
+
+# The paragraphs of an explanation that are the program's.
+EXPLAINED = ".explanation p:not(.label, .here)"
 
 # Every text of the page's own in brackets; what is a number, a name or the program's stands without.
 BRACKETS = (
@@ -514,7 +520,19 @@ class PageInBrowserTest(TimedTest):
         self.assertEqual("open", page.js("$('verdict').className.split(' ')[0]"))
         self.assertRegex(page.text(".exact samp"), r"^refused: block \d+: mark: \w+$")
         self.assertTrue(page.text(".where").startswith("Line "), page.text(".where"))
-        self.assertTrue(page.texts(".explanation p:not(.label)")[-1].startswith("What to do: "))
+        self.assertTrue(page.texts(EXPLAINED)[-1].startswith("What to do: "))
+        # Who has the page alone has no script of the program's.
+        self.assertIn("If you have no prepare.py, change a copy of the file in a text editor", page.text(".here"))
+
+    def test_no_name_is_asked_for_where_it_would_be_in_vain(self):
+        degrees = self.plain().read_bytes().replace(b" 21.322", b" 21.324")
+        page = self.page(self.file("degrees.gsi", degrees))
+        self.assertEqual([["open", "degrees.gsi", NOTHING_RECOGNIZED]], self.cards(page))
+        self.assertEqual(["An angle is not in gon with five decimals."], page.texts(".reason"))
+        self.assertEqual([], page.texts(".card form"))
+        self.assertIn("45 readings with directions stand outside of sets.", page.text(".card"))
+        command = "station_check mark --station '?' degrees.gsi > degrees_marked.gsi"
+        self.assertEqual(["refused: block 1: Hz Unit", command], page.texts(".exact :is(samp, code)"))
 
     def test_a_name_that_no_station_can_have_is_asked_for_again(self):
         wrong = ["P\u00e47", "x" * 17]
@@ -529,13 +547,15 @@ class PageInBrowserTest(TimedTest):
     def test_what_was_not_checked_is_never_green(self):
         page = self.page(self.plain())
         self.assertEqual([["open", "plain.gsi", NOTHING_NAMED]], self.cards(page))
-        self.assertIn("45 readings with directions stand outside of sets.", page.text(".card"))
+        recognized = "Station ?: 4 sets, 6 targets. 1 reading before the sets and 0 after them stay outside."
+        self.assertIn(recognized, page.text(".card"))
         page.give(P7_SHEET)
-        self.assertIn("Not checked, since the field file has no station: station_p7.csv.", page.text(".card"))
+        self.assertIn("Checked as soon as the station has its name: station_p7.csv.", page.text(".card"))
         page.empty()
-        page.give(self.file("level.gsi", b"110001+000000P1 331.28+00123456\r\n"))
+        page.give(self.file("level.gsi", b"110001+000000P1 331.28+00123456\r\n"), P7_SHEET)
         self.assertEqual([["open", "level.gsi", NOTHING_CHECKED]], self.cards(page))
         self.assertIn("levelling", page.text(".card"))
+        self.assertIn("Not checked, since the field file has no station: station_p7.csv.", page.text(".card"))
         page.empty()
         page.give(P7_SHEET)
         self.assertEqual("open", page.js("$('verdict').className"))
@@ -558,7 +578,7 @@ class PageInBrowserTest(TimedTest):
                 refused = [card for card in self.cards(page) if card[0] == "bad"]
                 self.assertRegex(refused[0][2], r"^Refused\. [A-Z][^:]*\.$")
                 # What it means is shown as flowing text, without the line that is its sample.
-                paragraphs = page.texts(".explanation p:not(.label)")
+                paragraphs = page.texts(EXPLAINED)
                 self.assertTrue(paragraphs[-1].startswith("What to do: "))
                 self.assertFalse([text for text in paragraphs if "\n" in text or text.startswith("refused:")])
             page.empty()
@@ -578,6 +598,11 @@ class PageInBrowserTest(TimedTest):
         self.assertEqual("station_check compare station_p7.gsi P7 four.csv", page.text(".exact code"))
         self.assertIn("tables within 0.01 mgon or as they are rounded", page.text("#in-force"))
         page.fill("within", "0.01")
+        furthest = f"Furthest from the least-squares directions: MAST {MINUS}0.025\xa0mgon, P12 +0.025\xa0mgon."
+        self.assertEqual([furthest], page.texts(".reason"))
+        here = page.text(".here")
+        for said in ("The differences of all targets stand below.", "--within in mgon", "Tables are read in gon alone"):
+            self.assertIn(said, here)
         refused = "Refused. The directions are 0.025 mgon apart; the limit is 0.01 mgon."
         self.assertEqual([["bad", "Station P7", refused]], self.cards(page))
         self.assertEqual("station_check compare --within 10 station_p7.gsi P7 four.csv", page.text(".exact code"))
@@ -627,6 +652,13 @@ class PageInBrowserTest(TimedTest):
         page = self.page()
         for text in ("A,0.5", "A;0,5", "A\t0.5", '"A","0.5"', "A   0.5", "A,0.5,", "A,0.5 gon", '"A","0.5gon"', "Ziel;Richtung\nA;0,5\n"):
             self.assertEqual("table", page.js(f"kindOf('a.txt', new TextEncoder().encode({json.dumps(text)}))"), text)
+        titles = "Job 7\nDate 12.3.26\nZiel Richtung\n"
+        for text in (f"{titles}P1 0.5\nP2 1.5\n", "P 1\t0,5\t0,3\n", "TOWER 0.5000 0.3\n"):
+            self.assertEqual("table", page.js(f"kindOf('a.txt', new TextEncoder().encode({json.dumps(text)}))"), text)
+        page.give(FIELD, self.file("sheet.csv", SHEET.read_bytes().replace(b",", b";")))
+        self.assertEqual("sheet of S1", page.texts("#inputs .kind")[1])
+        self.assertEqual("refused: sheet row 1: Fields", page.text(".exact samp"))
+        page.empty()
         page.give(P7_FIELD, self.file("gon.csv", FOUR_DECIMALS.replace(b"\n", b" gon\n")))
         self.assertEqual("refused: table row 1: Number", page.text(".exact samp"))
         self.assertIn("Leave out the unit", page.text(".explanation"))
@@ -644,6 +676,11 @@ class PageInBrowserTest(TimedTest):
         page.give(both, *(self.file(f"{nth}.csv", path.read_bytes()) for nth, path in enumerate(others)))
         self.assertEqual(["good", "good"], [card[0] for card in self.cards(page)])
         self.assertEqual([4, 4], [len(card) for card in self.cards(page)])
+        # Whatever separates the columns.
+        for nth, separator in enumerate([b";", b"\t", b" "]):
+            page.empty()
+            page.give(both, self.file(f"{nth}.txt", FOUR_DECIMALS.replace(b",", separator)))
+            self.assertEqual(["good", "read"], [card[0] for card in self.cards(page)])
         # A table without any target of the stations waits until it has one by choice.
         page.empty()
         page.give(both, self.file("odd.csv", b"X,0\nY,1\n"))
@@ -651,6 +688,15 @@ class PageInBrowserTest(TimedTest):
         with page.answered():
             page.js("{ const s = document.querySelector('#inputs select'); s.value = 'job.gsi: S1'; s.onchange() }")
         self.assertEqual("refused: table row 1: Unknown", page.text(".exact samp"))
+
+    def test_of_many_cards_the_first_of_each_kind_is_led_to(self):
+        page = self.page(*(self.file(f"{nth}.gsi", FIELD.read_bytes()) for nth in range(9)), self.plain(), self.file("8.csv", SHEET.read_bytes()))
+        self.assertEqual("1 to do; 8 read, not compared; 1 in order", page.text("#verdict"))
+        for button, title in [("1 in order", "Station S18.gsi"), ("1 to do", "plain.gsi"), ("8 read, not compared", "Station S10.gsi")]:
+            page.press(button)
+            self.assertTrue(page.wait("document.activeElement.className.startsWith('card ')"))
+            found = page.js("{ const e = document.activeElement; [e.querySelector('header').textContent, e.getBoundingClientRect().top] }")
+            self.assertTrue(found[0].endswith(title) and 0 <= found[1] < SCREEN[1] - 100, (button, found))
 
     def test_of_several_field_files_a_sheet_goes_to_the_longest_name_that_fits(self):
         fields = [self.file(name, FIELD.read_bytes()) for name in ("2026.gsi", "2026.11.GSI")]
@@ -780,7 +826,7 @@ class PageInBrowserTest(TimedTest):
         values = re.compile(r"(?<![\d.])[+\u2212]\d+\.\d\d\d?(?!\d)")
         self.assertEqual(Counter(values.findall(shown)), Counter(values.findall(text)))
         for number, one in enumerate(pages, 1):
-            self.assertIn(f"{number} / {len(pages)}", one)
+            self.assertRegex(one, rf"(?m)^ *Protocol of sets: Station S1, wide.gsi  +{number} ?/ ?{len(pages)}$")
             if re.search(r"^ *P\d+ +[+\u2212]", one, re.MULTILINE):
                 first = re.search(r"^ *(Target|P\d+) ", one, re.MULTILINE)
                 self.assertEqual("Target", first[1], one[:300])
@@ -795,6 +841,12 @@ class PageInBrowserTest(TimedTest):
         (text,) = self.printed(self.page(P7_FIELD, P7_SHEET))
         self.assertIn("Residuals as a picture", text)
         self.assertIn("SHA-256 of the module inside", text)
+
+    @unittest.skipUnless(shutil.which("pdftotext"), "no pdftotext is found")
+    def test_with_a_table_the_picture_stands_beside_the_residuals(self):
+        first, second = self.printed(self.page(P7_FIELD, self.file("four.csv", FOUR_DECIMALS)))
+        self.assertRegex(first, r"(?m)^ *Residuals +Residuals as a picture$")
+        self.assertIn("Checked by: place, date, signature", second)
 
     @unittest.skipUnless(shutil.which("pdftotext"), "no pdftotext is found")
     def test_what_has_no_protocol_is_printed_as_it_is_shown(self):
@@ -927,7 +979,7 @@ class PageInBrowserTest(TimedTest):
                 self.assertEqual(1, len({text.count("|") for text in one.values()}))
         scripts = [path.read_text() for path in (ROOT / "page").glob("*.js") if path.name != "texts.js"]
         used = {name for script in scripts for name in re.findall(r"'(\w+)'", script)}
-        of_parts = {*re.findall(r'data-(?:text|label)="(\w+)"', PAGE.read_text())}
+        of_parts = {*re.findall(r'data-(?:text|label|placeholder)="(\w+)"', PAGE.read_text())}
         self.assertEqual({*texts}, used & {*texts} | of_parts)
 
     def test_a_sign_of_french_text_is_never_alone_on_a_line(self):
