@@ -332,7 +332,7 @@ export function showCard(card, desk, isOpen, parent) {
   element('span', text(MOODS[card.mood]), head, { className: 'mood' });
   const title = card.station ? text('station', { name: card.title }) : card.title;
   part.setAttribute('aria-label', title);
-  element('h2', title, head);
+  element('h2', title, head, { className: card.station ? '' : 'name' });
   if (card.station) element('span', card.field.name, head, { className: 'quiet name' });
   if (card.marked?.other) showMarked(card, desk, part);
   for (const answer of card.answers) showAnswer(answer, desk, part);

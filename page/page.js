@@ -156,6 +156,8 @@ function told(/** @type {number} */ done, /** @type {number} */ all, /** @type {
   $('progress-text').textContent = text('working', { done, all, name });
   const bar = /** @type {HTMLProgressElement} */ ($('progress-bar'));
   [bar.max, bar.value] = [all, done - 1];
+  // (of a single file it is not known how far it is)
+  if (all === 1) bar.removeAttribute('value');
 }
 
 /** Says why the work did not come to its end. */

@@ -158,15 +158,16 @@ PLAIN_TEXTS = """(() => {
     if (parent.closest('script, style, noscript, pre, code, samp, [lang=en]:not(html), .name, tbody, option'))
       continue;
     if (!parent.checkVisibility()) continue;
-    const left = node.data.replace(/\u27e6[^]*?\u27e7/g, '');
+    let left = node.data, before;
+    do [before, left] = [left, left.replace(/\u27e6[^\u27e6\u27e7]*\u27e7/g, '')]; while (left !== before);
     if (/\\p{L}{2}/u.test(left)) found.push(left.trim());
   }
   return found;
 })()"""
 
-# The names that a screen reader is told and that are in no brackets.
+# The names that a screen reader is told and that are in no brackets, nor those of files.
 PLAIN_LABELS = (
-    "[...document.querySelectorAll('[aria-label]')].map(one => one.getAttribute('aria-label'))"
+    "[...document.querySelectorAll('[aria-label]:not(:has(h2.name))')].map(one => one.getAttribute('aria-label'))"
     r".filter(label => !/\u27e6/.test(label))"
 )
 
@@ -463,6 +464,10 @@ class PageInBrowserTest(TimedTest):
         lines = P7_FIELD.read_bytes().splitlines(True)
         return self.file("plain.gsi", b"".join(line for line in lines if not line.startswith(b"*41")))
 
+    def rain(self):
+        """A job without codes that was broken off within a set."""
+        return self.file("rain.gsi", b"".join(JOB.read_bytes().splitlines(True)[:43]))
+
     def state_name(self, page, name):
         """States the name of a station where it is asked for."""
         with page.answered():
@@ -515,7 +520,7 @@ class PageInBrowserTest(TimedTest):
         self.assertEqual("2 read, not compared", page.text("#verdict"))
 
     def test_a_job_whose_sets_are_not_recognized_shows_where_and_what_to_do(self):
-        page = self.page(self.file("rain.gsi", b"".join(JOB.read_bytes().splitlines(True)[:43])))
+        page = self.page(self.rain())
         self.assertEqual([["open", "rain.gsi", NOTHING_RECOGNIZED]], self.cards(page))
         self.assertEqual("open", page.js("$('verdict').className.split(' ')[0]"))
         self.assertRegex(page.text(".exact samp"), r"^refused: block \d+: mark: \w+$")
@@ -703,7 +708,7 @@ class PageInBrowserTest(TimedTest):
         page = self.page(*fields, self.file("2026.11.csv", SHEET.read_bytes()), self.file("week.csv", SHEET.read_bytes()))
         moods = [(card[0], card[1]) for card in self.cards(page)]
         self.assertEqual([("read", "Station S1"), ("good", "Station S1"), ("open", "week.csv")], moods)
-        self.assertEqual(["2026.gsi", "2026.11.GSI"], page.texts(".card header .name"))
+        self.assertEqual(["2026.gsi", "2026.11.GSI", "week.csv"], page.texts(".card header .name"))
 
     def test_cancel_empties_nothing_and_a_file_can_be_taken_away(self):
         page = self.page(FIELD, SHEET)
@@ -988,7 +993,10 @@ class PageInBrowserTest(TimedTest):
             self.assertNotRegex(said, "(?<!\u202f)[:;?!»]|«(?!\u202f)")
 
     def test_no_text_of_the_page_is_without_its_translations(self):
-        page = self.page(P7_FIELD, P7_SHEET, self.file("four.csv", FOUR_DECIMALS), self.file(*UNUSED[0][:2]))
+        apart = FOUR_DECIMALS.replace(b"278.8606", b"278.8616")
+        files = [P7_SHEET, self.file("four.csv", FOUR_DECIMALS), self.file("apart.csv", apart), self.file(*UNUSED[0][:2])]
+        page = self.page(P7_FIELD, *files, self.plain(), self.rain())
+        self.assertEqual("1 refused; 2 to do", page.text("#verdict"))
         for part in ("details", "#again", "#release"):
             page.js(f"document.querySelectorAll('{part}').forEach(e => {{ e.open = true; e.hidden = false }})")
         page.js(BRACKETS)
