@@ -153,7 +153,7 @@ export const TEXTS = {
     fr: 'Pas de réponse : le texte n’a pas la place ici.',
   },
   summaryGood: { en: '{n} in order', de: '{n} in Ordnung', fr: '{n} en ordre' },
-  summaryBad: { en: '{n} refused', de: '{n} zurückgewiesen', fr: 'refus : {n}' },
+  summaryBad: { en: '{n} refused', de: '{n} zurückgewiesen', fr: '{n} refus' },
   summaryRead: { en: '{n} read, not compared', de: '{n} gelesen, nicht verglichen', fr: '{n} sans comparaison' },
   summaryOpen: { en: '{n} to do', de: '{n} zu tun', fr: '{n} à faire' },
   between: { en: '; ', de: '; ', fr: ' ; ' },

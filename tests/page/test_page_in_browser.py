@@ -888,6 +888,13 @@ class PageInBrowserTest(TimedTest):
             self.assertTrue(page.js(f"{wide}.length > 0 && {wide}.every(e => getComputedStyle(e).backgroundImage !== 'none')"))
             self.assertEqual("sticky", page.js("getComputedStyle(document.querySelector('.bars tbody th')).position"))
 
+    def test_on_a_phone_no_file_is_wider_than_the_list_of_files(self):
+        name = "a_job_of_the_whole_week_in_one_file.gsi"
+        both = self.file(name, P7_FIELD.read_bytes() + FIELD.read_bytes())
+        page = self.page(both, self.file("four.csv", FOUR_DECIMALS), size=PHONE)
+        self.assertIn(f"{name}: P7", page.texts("#inputs option"))
+        self.assertEqual(*page.js("[$('inputs').scrollWidth, $('inputs').clientWidth]"))
+
     def test_the_text_stands_out_in_light_and_in_dark(self):
         """Of each text on its background the contrast is 4.5 at least."""
         for scheme in ("light", "dark"):
