@@ -55,16 +55,20 @@ function sayHow() {
   for (const mood of met) {
     if (mood !== met[0]) $('verdict').append(text('between'));
     const said = text(SUMMARIES[mood], { n: count(mood) });
-    button(said, $('verdict'), () => leadTo(mood), `to ${mood}`);
+    const first = cards.find(card => card.mood === mood);
+    button(said, $('verdict'), () => leadTo(first), `to ${mood}`);
   }
 }
 
-/** Leads to the first card that looks like this. */
-function leadTo(/** @type {string} */ mood) {
-  const card = /** @type {HTMLElement} */ ($('answers').querySelector(`.card.${mood}`));
-  card.tabIndex = -1;
-  card.focus();
-  card.scrollIntoView();
+/** Leads to a card, or to what it asks for. */
+function leadTo(/** @type {Card} */ card) {
+  const part = /** @type {HTMLElement} */ ($('answers').children[cards.indexOf(card)]);
+  if (!part) return; // (it is of a later state, and not shown yet)
+  const asked = card.mood === 'open' && part.querySelector('input');
+  part.tabIndex = -1;
+  (asked || part).focus({ preventScroll: true });
+  const { top } = part.getBoundingClientRect();
+  if (top < 0 || top > innerHeight / 2) part.scrollIntoView();
 }
 
 /**
@@ -222,9 +226,12 @@ const desk = {
     window.print();
     only = null;
   },
-  name(/** @type {Input} */ field, /** @type {string} */ station) {
+  async name(/** @type {Input} */ field, /** @type {string} */ station) {
     field.station = station;
-    checkAll();
+    await checkAll();
+    // (all cards are new, and the one that was worked at may have been far below)
+    const named = cards.find(card => (card.field?.original ?? card.field) === field);
+    if (named) leadTo(named);
   },
 };
 

@@ -191,6 +191,12 @@ OVERLAPS = """[...document.querySelectorAll('.results .picture svg')].flatMap(sv
     a.left < b.right && b.left < a.right && a.top + 3 < b.bottom && b.top + 3 < a.bottom)).map(([text]) => text);
 })"""
 
+# Of the card that the keyboard is in: what its head says, and where its top is.
+IN_HAND = """(() => {
+  const card = document.activeElement.closest('.card');
+  return card && [card.querySelector('header').textContent, card.getBoundingClientRect().top];
+})()"""
+
 # The time for which the window did not answer at the longest.
 WATCH = """{
   let last = performance.now();
@@ -699,9 +705,16 @@ class PageInBrowserTest(TimedTest):
         self.assertEqual("1 to do; 8 read, not compared; 1 in order", page.text("#verdict"))
         for button, title in [("1 in order", "Station S18.gsi"), ("1 to do", "plain.gsi"), ("8 read, not compared", "Station S10.gsi")]:
             page.press(button)
-            self.assertTrue(page.wait("document.activeElement.className.startsWith('card ')"))
-            found = page.js("{ const e = document.activeElement; [e.querySelector('header').textContent, e.getBoundingClientRect().top] }")
+            found = page.wait(IN_HAND)
             self.assertTrue(found[0].endswith(title) and 0 <= found[1] < SCREEN[1] - 100, (button, found))
+
+    def test_a_station_that_was_named_stays_in_sight(self):
+        page = self.page(*(self.file(f"{nth}.gsi", FIELD.read_bytes()) for nth in range(9)), self.plain())
+        for name, title in [("P\u00e47", "plain.gsi"), ("P7", "Station P7plain_marked.gsi")]:
+            page.js("scrollTo(0, document.body.scrollHeight)")
+            self.state_name(page, name)
+            found = page.wait(IN_HAND)
+            self.assertTrue(found[0].endswith(title) and 0 <= found[1] < SCREEN[1] - 100, found)
 
     def test_of_several_field_files_a_sheet_goes_to_the_longest_name_that_fits(self):
         fields = [self.file(name, FIELD.read_bytes()) for name in ("2026.gsi", "2026.11.GSI")]
