@@ -21,7 +21,8 @@ import { each, greatestOf, recognizedIn, residualsIn, stationsOf } from './recor
  * What is shown of a station, or of a file without one: `readings` counts those of a file without
  * sets, `waiting` has the files that can't be checked yet, `unplaced` the text that says why a file
  * has no place, `marked` is the answer when codes were put into a copy, and `recognized` what it
- * told of the card's station, and at the first card of a copy of the stations without sets too.
+ * told of the card's station, and at the first card of a copy of the stations without sets too; of
+ * a job that needs a name what would be recognized by any.
  * @typedef {{ title: string, mood: Mood, field?: Input, station?: Station, answers: Answer[],
  *   waiting: Input[], readings?: number, unplaced?: string, marked?: Answer,
  *   recognized?: import('./records.js').Recognized[], results?: Results }} Card
@@ -31,6 +32,9 @@ import { each, greatestOf, recognizedIn, residualsIn, stationsOf } from './recor
 
 /** Statuses of a call: those of the program's command, and the call's own. */
 export const ACCEPTED = 0, REFUSED = 1, OUT_OF_RANGE = 2, TOO_LITTLE_ROOM = 3;
+
+/** The name by which it is tried whether a job lacks nothing else: no station has it. */
+const NAME_TO_TRY = '?';
 
 /** What the fault of a refusal means, in the words of the program. */
 async function explanationOf(/** @type {string} */ line) {
@@ -96,7 +100,8 @@ async function cardsWithoutSets(field, limits) {
   const { text } = await ask('readings', field.bytes), readings = Number(text);
   const card = { ...cardOfFile(field), field, readings };
   if (readings === 0 || field.original) return [card];
-  const marked = await answerOfMark(field);
+  const marked = await answerOfMark(field, field.station);
+  if (isWithoutName(marked)) return [{ ...card, ...await tried(marked) }];
   if (marked.status !== ACCEPTED) return [{ ...card, marked }];
   const told = recognizedIn(marked.line), cards = await cardsOfField(marked.other, limits);
   return cards.map((one, nth) => {
@@ -106,9 +111,28 @@ async function cardsWithoutSets(field, limits) {
   });
 }
 
-/** The answer of putting codes into a copy of a field file: the copy is its other file. */
-async function answerOfMark(/** @type {Input} */ field) {
-  const { station = '' } = field, copy = `${stemOf(field)}_marked.gsi`;
+/** Whether codes could not be put in since nothing names the station. */
+export const isWithoutName = (/** @type {Answer} */ { line, field }) =>
+  !field.station && /: mark: NoSetUp$/.test(line);
+
+/**
+ * What a job without a name shows: what is recognized but for it, or what is wrong besides, so that
+ * nobody states a name in vain.
+ * @param {Answer} marked
+ */
+async function tried(marked) {
+  const answer = await answerOfMark(marked.field, NAME_TO_TRY);
+  return answer.status === ACCEPTED ? { marked, recognized: recognizedIn(answer.line) }
+    : { marked: answer };
+}
+
+/**
+ * The answer of putting codes into a copy of a field file: the copy is its other file.
+ * @param {Input} field
+ * @param {string} [station] the name that is stated
+ */
+async function answerOfMark(field, station = '') {
+  const copy = `${stemOf(field)}_marked.gsi`;
   const { status, bytes, beside } = await ask('mark', field.bytes, station);
   const named = station ? ['--station', station] : [];
   const command = `${commandOf('mark', [], {}, [field.name], named)} > ${copy}`;

@@ -1,9 +1,11 @@
 // A card of a station: the answer first, then the fault or the results.
-import { ACCEPTED, OUT_OF_RANGE, REFUSED, filesOf, meansOf } from './answers.js';
+import {
+  ACCEPTED, OUT_OF_RANGE, REFUSED, filesOf, isWithoutName, meansOf,
+} from './answers.js';
 import { button, element, menuOf, ofProgram, save } from './elements.js';
 import { stemOf } from './files.js';
 import {
-  apartIn, headlineOf, headlineOfCard, isWithoutName, meaningOf, recognizedText,
+  apartIn, furthestOf, headlineOf, headlineOfCard, meaningOf, recognizedText,
 } from './headlines.js';
 import { pictureFile } from './picture.js';
 import { placeOf } from './place.js';
@@ -71,6 +73,25 @@ export const paragraphsOf = (/** @type {string} */ explanation) => explanation.t
   .filter(paragraph => !/^ +refused: /.test(paragraph))
   .map(paragraph => paragraph.split('\n').map(line => line.trim()).join(' '));
 
+/**
+ * What the page has in the place of what an explanation names.
+ * @type {[RegExp, string][]}
+ */
+const HERE = [
+  [/station_check differences/, 'hereDifferences'],
+  [/--(two-c|two-i|residual|within)/, 'hereLimits'],
+  [/--degrees/, 'hereGon'],
+  [/prepare\.py/, 'hereEditor'],
+];
+
+/** Says what stands in the place of options and scripts that an explanation names. */
+function showHere(/** @type {string} */ explanation, /** @type {Element} */ parent) {
+  const said = HERE.filter(([named]) => named.test(explanation)).map(([, name]) => text(name));
+  if (said.length === 0) return;
+  const part = element('p', '', parent, { className: 'here' });
+  element('strong', `${text('here')} `, part).after(said.join(' '));
+}
+
 function showExplanation(/** @type {string} */ explanation, /** @type {Element} */ parent) {
   const part = element('div', '', parent, { className: 'explanation' });
   part.setAttribute('role', 'note');
@@ -83,6 +104,7 @@ function showExplanation(/** @type {string} */ explanation, /** @type {Element} 
     if (lead) element('strong', lead, said);
     said.append(rest);
   }
+  showHere(explanation, part);
 }
 
 // ---------------------------------------------------------------- an answer
@@ -118,6 +140,8 @@ function showAnswer(answer, desk, parent) {
     headline.append(' ');
     ofProgram('span', meaningOf(answer), headline);
   }
+  if (apartIn(line) && answer.differences)
+    element('p', furthestOf(answer.differences), part, { className: 'reason' });
   const place = status === REFUSED ? placeOf(line, field, other, station) : null;
   if (place) showPlace(place, part);
   if (explanation) showExplanation(explanation, part);
@@ -215,7 +239,7 @@ function showMarked({ marked, recognized }, desk, parent) {
   element('p', text('compareBook'), part);
   const buttons = element('div', '', part, { className: 'buttons' });
   button(text('saveMarked'), buttons, () => save(other.name, other.bytes, 'text/plain'));
-  if (field.station) askName(field, desk, buttons, 'button');
+  if (field.station) askName(field, desk, 'changeName', buttons);
   const exact = element('details', '', part);
   element('summary', text('program'), exact);
   ofProgram('pre', `${command}\n${line}`, exact);
@@ -225,15 +249,15 @@ function showMarked({ marked, recognized }, desk, parent) {
  * Asks for the name of the station, which no line of the job has, or for another one.
  * @param {Input} field
  * @param {Desk} desk
+ * @param {string} action what the button says
  * @param {Element} parent
- * @param {string} className of the button
  */
-function askName(field, desk, parent, className) {
+function askName(field, desk, action, parent, className = 'button') {
   const form = element('form', '', parent, { className: 'buttons' });
   const label = element('label', `${text('stationName')} `, form);
   const about = { type: 'text', maxLength: 16, value: field.station ?? '' };
   const name = /** @type {HTMLInputElement} */ (element('input', '', label, about));
-  element('button', text('markSets'), form, { type: 'submit', className });
+  element('button', text(action), form, { type: 'submit', className });
   form.onsubmit = event => {
     event.preventDefault();
     desk.name(field, name.value.trim());
@@ -247,7 +271,7 @@ function askName(field, desk, parent, className) {
  * @param {Element} parent
  */
 function showUnmarked(card, desk, parent) {
-  const { marked, field } = card, isWrong = marked.status === OUT_OF_RANGE;
+  const { marked, field, recognized } = card, isWrong = marked.status === OUT_OF_RANGE;
   const isAsked = isWrong || isWithoutName(marked);
   if (isAsked) element('p', text(isWrong ? 'wrongName' : 'needName'), parent);
   else {
@@ -256,8 +280,11 @@ function showUnmarked(card, desk, parent) {
     if (place) showPlace(place, parent);
     if (marked.explanation) showExplanation(marked.explanation, parent);
   }
-  if (isAsked || field.station) askName(field, desk, parent, isAsked ? 'button primary' : 'button');
-  element('p', text('outside', { n: card.readings }), parent, { className: 'quiet' });
+  for (const one of recognized ?? []) element('p', recognizedText(one), parent);
+  if (isAsked) askName(field, desk, 'markSets', parent, 'button primary');
+  else if (field.station) askName(field, desk, 'changeName', parent);
+  const outside = text('outside', { n: card.readings });
+  if (!recognized) element('p', outside, parent, { className: 'quiet' });
   showCommand(marked, parent);
 }
 
@@ -272,6 +299,12 @@ function showUnmarked(card, desk, parent) {
 function showTodo(card, desk, parent) {
   if (card.readings === 0) element('p', text('noReadings'), parent);
   else if (card.marked) showUnmarked(card, desk, parent);
+}
+
+/** Why files of a card are not checked yet. */
+function waitingFor(/** @type {Card} */ { mood, marked }) {
+  if (mood === 'bad') return 'waiting';
+  return marked && isWithoutName(marked) ? 'waitingForName' : 'waitingForSets';
 }
 
 function showDigests(/** @type {Card} */ card, /** @type {Element} */ parent) {
@@ -299,7 +332,7 @@ export function showCard(card, desk, isOpen, parent) {
   element('span', text(MOODS[card.mood]), head, { className: 'mood' });
   const title = card.station ? text('station', { name: card.title }) : card.title;
   part.setAttribute('aria-label', title);
-  element('h2', title, head);
+  element('h2', title, head, { className: card.station ? '' : 'name' });
   if (card.station) element('span', card.field.name, head, { className: 'quiet name' });
   if (card.marked?.other) showMarked(card, desk, part);
   for (const answer of card.answers) showAnswer(answer, desk, part);
@@ -309,7 +342,7 @@ export function showCard(card, desk, isOpen, parent) {
   if (card.readings !== undefined) showTodo(card, desk, part);
   if (card.waiting.length > 0) {
     const names = card.waiting.map(file => file.name).join(', ');
-    element('p', text(card.mood === 'bad' ? 'waiting' : 'waitingForSets', { names }), part);
+    element('p', text(waitingFor(card), { names }), part);
   }
   if (card.station) showOpening(card, desk, isOpen, part);
   showDigests(card, part);

@@ -3,7 +3,8 @@ import { each, recordsOf } from './records.js';
 
 /**
  * What a file is: a field file, a sheet or a table; or why it is none of them.
- * @typedef {'field' | 'sheet' | 'table' | 'spreadsheet' | 'empty' | 'unread' | 'other'} Kind
+ * @typedef {'field' | 'sheet' | 'table' | 'spreadsheet' | 'utf16' | 'empty' | 'unread' |
+ *   'other'} Kind
  * A file that was handed in: `choice` is the place that the user chose for it, `station` the name
  * that the user gave to a field file without one, and `original` the field file that a marked copy
  * is of. The digest is there once the file was judged.
@@ -17,9 +18,20 @@ import { each, recordsOf } from './records.js';
 /** So many bytes at the beginning of a file tell what it is. */
 const HEAD = 4096;
 
+/** The first two bytes of a text in UTF-16, in either order. */
+const UTF16_MARKS = [0xfffe, 0xfeff];
+
 const EXTENSION = /\.[^.]*$/;
 const GSI_WORD = /^\*?\d\d[\d.?]{4}[+-]/;
-const NUMBER_AT_END = /[,;\t ]\s*"?[+-]?\d[\d.,'"°-]*( ?gon)?"?[,;\s]*$/i;
+const DIRECTION = String.raw`"?[+-]?\d[\d.,'"°-]*(?: ?gon)?"?`;
+/** A row of a table: a number ends it, or where blanks separate, all is numbers but a name. */
+const ROW = new RegExp(`[,;\\t]\\s*${DIRECTION}[,;\\s]*$|^\\s*\\S+(?:\\s+${DIRECTION})+\\s*$`, 'i');
+/** Of how many lines of a table one is a row at least: others may be titles. */
+const LINES_PER_ROW = 3;
+/** What a sheet begins with, and the separator that a spreadsheet may have put there. */
+const SHEET = /^"?sheet"?([,;\t])/;
+/** By what the fields of a table may be separated. */
+const SEPARATORS = [',', ';', '\t', ' '];
 
 /** The text of bytes; what is no text shows as a sign. */
 export const textOf = (/** @type {Uint8Array} */ bytes) => new TextDecoder().decode(bytes);
@@ -27,32 +39,32 @@ export const textOf = (/** @type {Uint8Array} */ bytes) => new TextDecoder().dec
 /** The name of a file without what stands after its last point. */
 export const stemOf = (/** @type {{ name: string }} */ file) => file.name.replace(EXTENSION, '');
 
-/** The rows of a sheet or a table, without the mark that some editors put before them. */
-export const rowsOf = (/** @type {{ bytes: Uint8Array }} */ file) =>
-  recordsOf(textOf(file.bytes)).map(record => record.fields);
-
 /**
  * What a file is. Field files have GSI words in their lines, sheets begin with 'sheet', tables have
- * a number at the end of a line. One with its unit makes a table too, which is then refused at that
+ * rows that end with a number. One with its unit makes a table too, which is then refused at that
  * row.
  * @returns {Kind}
  */
 export function kindOf(/** @type {string} */ name, /** @type {Uint8Array} */ bytes) {
   if (bytes.length === 0) return 'empty';
+  if (UTF16_MARKS.includes(256 * bytes[0] + bytes[1])) return 'utf16';
   const head = textOf(bytes.subarray(0, HEAD));
   const lines = head.split(/[\r\n]+/).filter(line => line.trim() !== '');
   if (/\.gsi$/i.test(name) || lines.some(line => GSI_WORD.test(line))) return 'field';
   if (head.startsWith('PK') || /\.(xlsx?|ods)$/i.test(name)) return 'spreadsheet';
-  if (/[\0-\x08\x0e-\x1f]/.test(head)) return 'other';
-  if (/^"?sheet"?,/.test(head)) return 'sheet';
-  if (lines.some(line => NUMBER_AT_END.test(line))) return 'table';
-  return 'other';
+  if (head.startsWith('%PDF') || /[\0-\x08\x0e-\x1f]/.test(head)) return 'other';
+  if (SHEET.test(head)) return 'sheet';
+  const rows = lines.filter(line => ROW.test(line));
+  return rows.length > 0 && rows.length * LINES_PER_ROW >= lines.length ? 'table' : 'other';
 }
 
 // ---------------------------------------------------------------- what belongs together
 
 /** The station that a sheet is of, by its first row. */
-export const stationOfSheet = (/** @type {Input} */ sheet) => rowsOf(sheet)[0]?.[2] ?? '';
+export function stationOfSheet(/** @type {Input} */ sheet) {
+  const text = textOf(sheet.bytes), separator = text.match(SHEET)?.[1];
+  return recordsOf(text, separator)[0]?.fields[2] ?? '';
+}
 
 /**
  * The field files with the longest name that begins this one, as in a folder: `NAME.STATION.csv`.
@@ -103,6 +115,10 @@ export function fieldOfSheet(sheet, fields, stations) {
 const hasPart = (/** @type {string} */ stem, /** @type {string} */ name) =>
   ` ${stem.replace(/[._-]/g, ' ')} `.includes(` ${name.replace(/[._-]/g, ' ')} `);
 
+/** What may be the names of a table: the first fields of its rows, however they are separated. */
+const namesIn = (/** @type {Input} */ table) => new Set(SEPARATORS.flatMap(separator =>
+  recordsOf(textOf(table.bytes), separator).map(({ fields }) => fields[0])));
+
 /** How many of these names a station has as targets. */
 function shared(/** @type {Station} */ station, /** @type {Set<string>} */ names) {
   const rows = station.listed.list.matchAll(/^set \d+, target (.*): p \d+, 2c -?\d+, 2i -?\d+$/gm);
@@ -124,7 +140,7 @@ export function stationOfTable(table, fields, stations) {
   let left = narrowed(stations, station => byName.includes(station.field));
   left = narrowed(left, station => hasPart(stemOf(table), station.listed.name));
   if (left.length > 1) {
-    const names = new Set(rowsOf(table).map(fields => fields[0]));
+    const names = namesIn(table);
     const counts = left.map(station => shared(station, names));
     left = left.filter((_, nth) => counts[nth] > 0 && counts[nth] === Math.max(...counts));
   }

@@ -1,6 +1,7 @@
 // The answer in words and mgon, of each kind.
-import { ACCEPTED, OUT_OF_RANGE, TOO_LITTLE_ROOM } from './answers.js';
-import { APART, mgonOf } from './numbers.js';
+import { ACCEPTED, OUT_OF_RANGE, TOO_LITTLE_ROOM, isWithoutName } from './answers.js';
+import { APART, mgonOf, signed } from './numbers.js';
+import { differencesIn, sizeOf } from './records.js';
 import { text } from './texts.js';
 
 /**
@@ -48,6 +49,19 @@ export function headlineOf(/** @type {Answer} */ answer, /** @type {Limits} */ l
   return text('refusedApart', { apart, within: mgonOf(limits.within, APART) });
 }
 
+/** So many targets of a table that is apart are named. */
+const MOST_NAMED = 4;
+
+/** The targets that are furthest apart, each with its difference as the call wrote it. */
+export function furthestOf(/** @type {string} */ differences) {
+  const all = differencesIn(differences);
+  const greatest = Math.max(...all.map(one => sizeOf(one.difference)));
+  const furthest = all.filter(one => sizeOf(one.difference) === greatest)
+    .map(({ target, difference }) => `${target} ${signed(difference)}\u00a0mgon`);
+  const more = furthest.length > MOST_NAMED ? ['…'] : [];
+  return text('furthest', { targets: [...furthest.slice(0, MOST_NAMED), ...more].join(', ') });
+}
+
 /** The answer in words, and what the fault of a refusal is. */
 export const saidOf = (/** @type {Answer} */ answer, /** @type {Limits} */ limits) =>
   answer.explanation && !apartIn(answer.line)
@@ -72,10 +86,6 @@ export function recognizedText(/** @type {import('./records.js').Recognized} */ 
   const readings = text('readingsCounted', { n: before });
   return text('recognized', { station, ...counts, before: readings, after });
 }
-
-/** Whether codes could not be put in since nothing names the station. */
-export const isWithoutName = (/** @type {Answer} */ { line, field }) =>
-  !field.station && /: mark: NoSetUp$/.test(line);
 
 /** The headline of a card without answers. */
 export function headlineOfCard(/** @type {Card} */ card) {

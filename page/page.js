@@ -51,7 +51,24 @@ function sayHow() {
   }
   const count = (/** @type {string} */ mood) => cards.filter(card => card.mood === mood).length;
   const met = Object.keys(SUMMARIES).filter(mood => count(mood) > 0);
-  say(met[0], met.map(mood => text(SUMMARIES[mood], { n: count(mood) })).join(text('between')));
+  say(met[0], '');
+  for (const mood of met) {
+    if (mood !== met[0]) $('verdict').append(text('between'));
+    const said = text(SUMMARIES[mood], { n: count(mood) });
+    const first = cards.find(card => card.mood === mood);
+    button(said, $('verdict'), () => leadTo(first), `to ${mood}`);
+  }
+}
+
+/** Leads to a card, or to what it asks for. */
+function leadTo(/** @type {Card} */ card) {
+  const part = /** @type {HTMLElement} */ ($('answers').children[cards.indexOf(card)]);
+  if (!part) return; // (it is of a later state, and not shown yet)
+  const asked = card.mood === 'open' && part.querySelector('input');
+  part.tabIndex = -1;
+  (asked || part).focus({ preventScroll: true });
+  const { top } = part.getBoundingClientRect();
+  if (top < 0 || top > innerHeight / 2) part.scrollIntoView();
 }
 
 /**
@@ -66,7 +83,7 @@ const SUMMARIES = {
 function kindText(/** @type {Input} */ input) {
   const names = {
     field: 'kindField', sheet: 'kindSheet', table: 'kindTable', spreadsheet: 'kindSpreadsheet',
-    empty: 'kindEmpty', unread: 'kindUnread', other: 'kindOther',
+    utf16: 'kindUtf16', empty: 'kindEmpty', unread: 'kindUnread', other: 'kindOther',
   };
   return text(names[input.kind], { station: input.kind === 'sheet' ? stationOfSheet(input) : '' });
 }
@@ -116,6 +133,8 @@ function show() {
     part.textContent = text(part.dataset.text, { ...$('made').dataset });
   for (const part of all('[data-label]'))
     part.setAttribute('aria-label', text(part.dataset.label));
+  for (const part of all('[data-placeholder]'))
+    part.setAttribute('placeholder', text(part.dataset.placeholder));
   $('in-force').textContent = limitsLine(limits);
   showInputs();
   $('answers').textContent = '';
@@ -141,6 +160,8 @@ function told(/** @type {number} */ done, /** @type {number} */ all, /** @type {
   $('progress-text').textContent = text('working', { done, all, name });
   const bar = /** @type {HTMLProgressElement} */ ($('progress-bar'));
   [bar.max, bar.value] = [all, done - 1];
+  // (of a single file it is not known how far it is)
+  if (all === 1) bar.removeAttribute('value');
 }
 
 /** Says why the work did not come to its end. */
@@ -205,9 +226,12 @@ const desk = {
     window.print();
     only = null;
   },
-  name(/** @type {Input} */ field, /** @type {string} */ station) {
+  async name(/** @type {Input} */ field, /** @type {string} */ station) {
     field.station = station;
-    checkAll();
+    await checkAll();
+    // (all cards are new, and the one that was worked at may have been far below)
+    const named = cards.find(card => (card.field?.original ?? card.field) === field);
+    if (named) leadTo(named);
   },
 };
 

@@ -61,6 +61,23 @@ function showMarks({ marked, recognized, title }, parent) {
   ofProgram('code', marked.command, element('div', '', parent));
 }
 
+/** A text of the style, without signs that end it or the style. */
+const inStyle = (/** @type {string} */ said) =>
+  `"${said.replace(/["\\<]/g, sign => `\\${sign.charCodeAt(0).toString(16)} `)}"`;
+
+/**
+ * Has each page of a protocol say what it is of, at its foot, in browsers that write there: others
+ * would add a page after the last one.
+ * @param {HTMLElement} part
+ * @param {string} said
+ */
+function nameItsPages(part, said) {
+  if (!('CSSMarginRule' in window)) return;
+  const nth = part.parentElement.children.length, page = nth > 1 ? `protocol${nth}` : '';
+  element('style', `@page ${page} { @bottom-left { content: ${inStyle(said)} } }`, part);
+  if (page) part.style.setProperty('page', page);
+}
+
 /**
  * The protocol of a card whose results are loaded.
  * @param {Card} card
@@ -69,7 +86,9 @@ function showMarks({ marked, recognized, title }, parent) {
  */
 export function showProtocol(card, limits, parent) {
   const part = element('article', '', parent, { className: 'protocol' }), { listed } = card.station;
-  element('h1', text('protocol', { name: listed.name }), part);
+  const title = text('protocol', { name: listed.name });
+  nameItsPages(part, `${title}, ${card.field.name}`);
+  element('h1', title, part);
   const facts = element('dl', '', part, { className: 'facts' });
   showFiles(card, row('files', facts));
   /** @type {Intl.DateTimeFormatOptions} */

@@ -9,7 +9,7 @@
  * fields. Lines without bytes are none.
  * @param {string} text
  */
-export function recordsOf(text) {
+export function recordsOf(text, separator = ',') {
   /** @type {TextRecord[]} */
   const records = [];
   let fields = [''], first = 0, isQuoted = false, wasQuoted = false;
@@ -26,7 +26,7 @@ export function recordsOf(text) {
       else isQuoted = false;
     } else if (letter === '"' && fields.at(-1) === '' && !wasQuoted) {
       isQuoted = wasQuoted = true;
-    } else if (letter === ',') {
+    } else if (letter === separator) {
       fields.push('');
       wasQuoted = false;
     } else if (letter === '\n' || letter === '\r') {

@@ -14,7 +14,10 @@ import { text } from './texts.js';
  * @typedef {import('./answers.js').Card} Card
  */
 
-/** A table of so many sets fits beside the directions; where there are more the picture does. */
+/**
+ * A table of so many sets fits beside the directions; where there are more the picture does. If the
+ * differences stand beside the directions, both stand beside each other, on paper too.
+ */
 const FEW_SETS = 5;
 
 /** Why there are no adjusted directions, and so no residuals. */
@@ -64,7 +67,9 @@ function sectionsOf({ station, results, answers }) {
     const picture = {
       title: text('picture'), className: 'across', fill: part => showPicture(read, part),
     };
-    sections.push(...read.sets.length > FEW_SETS ? [picture, table] : [table, picture]);
+    const isFew = read.sets.length <= FEW_SETS, isBeside = isFew && sections.length === 2;
+    if (isBeside) picture.className = 'across stacked';
+    sections.push(...isFew ? [table, picture] : [picture, table]);
   }
   sections.push({ title: text('faces'), fill: part => facesTables(station, part) });
   return sections;

@@ -49,6 +49,11 @@ export const TEXTS = {
     de: 'nicht verwendet: eine Arbeitsmappe; speichern Sie die zwei Spalten als CSV',
     fr: 'non utilisé : un classeur ; enregistrez ses deux colonnes en CSV',
   },
+  kindUtf16: {
+    en: 'not used: text in UTF-16; save it as UTF-8',
+    de: 'nicht verwendet: Text in UTF-16; speichern Sie ihn als UTF-8',
+    fr: 'non utilisé : texte en UTF-16 ; enregistrez-le en UTF-8',
+  },
   kindEmpty: {
     en: 'not used: the file is empty',
     de: 'nicht verwendet: Die Datei ist leer',
@@ -96,6 +101,7 @@ export const TEXTS = {
     de: 'Eine Tabelle darf abweichen um, in mgon',
     fr: 'Une table peut différer de, en mgon',
   },
+  usual: { en: 'usual', de: 'üblich', fr: 'usuelle' },
   limitDecimals: {
     en: 'Decimals of the directions, in gon',
     de: 'Nachkommastellen der Richtungen, in gon',
@@ -147,7 +153,7 @@ export const TEXTS = {
     fr: 'Pas de réponse : le texte n’a pas la place ici.',
   },
   summaryGood: { en: '{n} in order', de: '{n} in Ordnung', fr: '{n} en ordre' },
-  summaryBad: { en: '{n} refused', de: '{n} zurückgewiesen', fr: 'refus : {n}' },
+  summaryBad: { en: '{n} refused', de: '{n} zurückgewiesen', fr: '{n} refus' },
   summaryRead: { en: '{n} read, not compared', de: '{n} gelesen, nicht verglichen', fr: '{n} sans comparaison' },
   summaryOpen: { en: '{n} to do', de: '{n} zu tun', fr: '{n} à faire' },
   between: { en: '; ', de: '; ', fr: ' ; ' },
@@ -183,6 +189,11 @@ export const TEXTS = {
     en: 'Refused. The directions are {apart} mgon apart: more than 0.01 mgon, and more than rounding explains.',
     de: 'Zurückgewiesen. Die Richtungen weichen {apart} mgon ab: mehr als 0.01 mgon und mehr, als Rundung erklärt.',
     fr: 'Refusé. Les directions s’écartent de {apart} mgon : plus que 0.01 mgon, et plus que l’arrondi n’explique.',
+  },
+  furthest: {
+    en: 'Furthest from the least-squares directions: {targets}.',
+    de: 'Am weitesten von den Richtungen nach kleinsten Quadraten entfernt: {targets}.',
+    fr: 'Les plus éloignées des directions des moindres carrés : {targets}.',
   },
   readWell: {
     en: 'Read without a fault: {sets}, {targets}, {directions}.',
@@ -262,6 +273,7 @@ export const TEXTS = {
     fr: 'Une station ne peut pas porter ce nom : il a de 1 à 16 lettres sans accent, chiffres et signes.',
   },
   stationName: { en: 'Name of the station', de: 'Name der Station', fr: 'Nom de la station' },
+  changeName: { en: 'Change the name', de: 'Namen ändern', fr: 'Changer le nom' },
   markSets: { en: 'Recognize the sets', de: 'Sätze erkennen', fr: 'Reconnaître les séries' },
   lineOfFile: {
     en: 'Line {line} of {name}, block {block}',
@@ -296,6 +308,11 @@ export const TEXTS = {
     de: 'Nicht geprüft, weil die Felddatei keine Station hat: {names}.',
     fr: 'Non vérifié, car le fichier de terrain n’a pas de station : {names}.',
   },
+  waitingForName: {
+    en: 'Checked as soon as the station has its name: {names}.',
+    de: 'Wird geprüft, sobald die Station ihren Namen hat: {names}.',
+    fr: 'Vérifié dès que la station a son nom : {names}.',
+  },
   noFieldFor: {
     en: 'Not checked: no field file fits it. Its name should begin as that of its field file, or choose its station in the list of files.',
     de: 'Nicht geprüft: Keine Felddatei passt dazu. Der Name sollte wie der der Felddatei beginnen, oder wählen Sie die Station in der Dateiliste.',
@@ -313,6 +330,27 @@ export const TEXTS = {
     fr: 'La même chose en ligne de commande',
   },
   whatItMeans: { en: 'What it means and what to do', de: 'Was es bedeutet und was zu tun ist (englisch)', fr: 'Ce que cela veut dire et que faire (en anglais)' },
+  here: { en: 'On this page:', de: 'Auf dieser Seite:', fr: 'Sur cette page :' },
+  hereDifferences: {
+    en: 'The differences of all targets stand below.',
+    de: 'Die Unterschiede aller Ziele stehen weiter unten.',
+    fr: 'Les écarts de toutes les cibles sont plus bas.',
+  },
+  hereLimits: {
+    en: 'You state --two-c, --two-i, --residual and --within in mgon, under ‘Limits’.',
+    de: 'Sie geben --two-c, --two-i, --residual und --within in mgon an, unter „Grenzen“.',
+    fr: 'Vous indiquez --two-c, --two-i, --residual et --within en mgon, sous « Limites ».',
+  },
+  hereGon: {
+    en: 'Tables are read in gon alone; the program reads degrees too.',
+    de: 'Tabellen werden nur in gon gelesen; das Programm liest auch Grad.',
+    fr: 'Les tables sont lues en gon seulement ; le programme lit aussi les degrés.',
+  },
+  hereEditor: {
+    en: 'If you have no prepare.py, change a copy of the file in a text editor, whose lines have the numbers shown here; keep the original, and write down what you changed and why.',
+    de: 'Ohne prepare.py ändern Sie eine Kopie der Datei in einem Texteditor, dessen Zeilen die hier gezeigten Nummern haben; bewahren Sie das Original auf, und halten Sie fest, was Sie geändert haben und warum.',
+    fr: 'Sans prepare.py, modifiez une copie du fichier dans un éditeur de texte, dont les lignes ont les numéros montrés ici ; gardez l’original, et notez ce que vous avez changé et pourquoi.',
+  },
   directions: { en: 'Adjusted directions', de: 'Ausgeglichene Richtungen', fr: 'Directions compensées' },
   directionsCaption: {
     en: 'Least-squares directions, the first target as zero, in gon',

@@ -1,7 +1,7 @@
-"""Makes the picture of the page in the guide anew: `python3 tools/guide_picture.py`.
+"""Makes the pictures of the page in a browser anew: `python3 tools/guide_picture.py`.
 
-The page has to be made before, and a Chromium has to be there. Look at the picture before you keep
-it.
+The page has to be made before, and a Chromium has to be there. Look at the pictures before you keep
+them.
 """
 
 import sys
@@ -14,10 +14,10 @@ import browser
 
 PAGE = ROOT / "build" / "station_check.html"
 EXAMPLE = ROOT / "examples" / "station_p7"
-PICTURE = ROOT / "docs" / "page.png"
 
-# What is below the face differences is left out.
-BELOW = ".digests"
+# Each picture, and what it ends above: the guide's has all but the digests, that of README.md the
+# answer with the first tables, so that the first screen has room for it.
+PICTURES = {ROOT / "docs" / "page.png": ".digests", ROOT / "docs" / "answer.png": ".across"}
 
 WIDTH, HEIGHT = 1100, 1400
 
@@ -25,9 +25,10 @@ WIDTH, HEIGHT = 1100, 1400
 def main() -> None:
     page = browser.Page(PAGE, WIDTH, HEIGHT)
     page.give(EXAMPLE.with_suffix(".gsi"), EXAMPLE.with_suffix(".csv"))
-    page.picture(PICTURE, BELOW)
+    for picture, below in PICTURES.items():
+        page.picture(picture, below)
+        print(f"{picture}: {picture.stat().st_size} bytes")
     page.close()
-    print(f"{PICTURE}: {PICTURE.stat().st_size} bytes")
 
 
 if __name__ == "__main__":

@@ -134,8 +134,14 @@ UNUSED = [
     ("notes.txt", b"as agreed by telephone\n", "neither a field file"),
     ("book.xlsx", b"PK\x03\x04", "a spreadsheet"),
     ("none.csv", b"", "empty"),
+    ("unicode.txt", "A\t0,5\n".encode("utf-16"), "text in UTF-16"),
+    ("report.pdf", b"%PDF-1.4\n1 0\n2 0\n", "neither a field file"),
+    ("letter.txt", b"As agreed on the 12.3.\nP7, please, once more, in 2 sets\n", "neither a field file"),
     ("photo.jpg", b"\xff\xd8\xff\xe0\0\x10JFIF\0\x01,12", "neither a field file"),
 ]
+
+# The paragraphs of an explanation that are the program's.
+EXPLAINED = ".explanation p:not(.label, .here)"
 
 # Every text of the page's own in brackets; what is a number, a name or the program's stands without.
 BRACKETS = (
@@ -152,15 +158,16 @@ PLAIN_TEXTS = """(() => {
     if (parent.closest('script, style, noscript, pre, code, samp, [lang=en]:not(html), .name, tbody, option'))
       continue;
     if (!parent.checkVisibility()) continue;
-    const left = node.data.replace(/\u27e6[^]*?\u27e7/g, '');
+    let left = node.data, before;
+    do [before, left] = [left, left.replace(/\u27e6[^\u27e6\u27e7]*\u27e7/g, '')]; while (left !== before);
     if (/\\p{L}{2}/u.test(left)) found.push(left.trim());
   }
   return found;
 })()"""
 
-# The names that a screen reader is told and that are in no brackets.
+# The names that a screen reader is told and that are in no brackets, nor those of files.
 PLAIN_LABELS = (
-    "[...document.querySelectorAll('[aria-label]')].map(one => one.getAttribute('aria-label'))"
+    "[...document.querySelectorAll('[aria-label]:not(:has(h2.name))')].map(one => one.getAttribute('aria-label'))"
     r".filter(label => !/\u27e6/.test(label))"
 )
 
@@ -183,6 +190,12 @@ OVERLAPS = """[...document.querySelectorAll('.results .picture svg')].flatMap(sv
   return all.filter(([, a], nth) => a.left < left || a.right > right || all.slice(nth + 1).some(([, b]) =>
     a.left < b.right && b.left < a.right && a.top + 3 < b.bottom && b.top + 3 < a.bottom)).map(([text]) => text);
 })"""
+
+# Of the card that the keyboard is in: what its head says, and where its top is.
+IN_HAND = """(() => {
+  const card = document.activeElement.closest('.card');
+  return card && [card.querySelector('header').textContent, card.getBoundingClientRect().top];
+})()"""
 
 # The time for which the window did not answer at the longest.
 WATCH = """{
@@ -457,6 +470,10 @@ class PageInBrowserTest(TimedTest):
         lines = P7_FIELD.read_bytes().splitlines(True)
         return self.file("plain.gsi", b"".join(line for line in lines if not line.startswith(b"*41")))
 
+    def rain(self):
+        """A job without codes that was broken off within a set."""
+        return self.file("rain.gsi", b"".join(JOB.read_bytes().splitlines(True)[:43]))
+
     def state_name(self, page, name):
         """States the name of a station where it is asked for."""
         with page.answered():
@@ -509,12 +526,24 @@ class PageInBrowserTest(TimedTest):
         self.assertEqual("2 read, not compared", page.text("#verdict"))
 
     def test_a_job_whose_sets_are_not_recognized_shows_where_and_what_to_do(self):
-        page = self.page(self.file("rain.gsi", b"".join(JOB.read_bytes().splitlines(True)[:43])))
+        page = self.page(self.rain())
         self.assertEqual([["open", "rain.gsi", NOTHING_RECOGNIZED]], self.cards(page))
         self.assertEqual("open", page.js("$('verdict').className.split(' ')[0]"))
         self.assertRegex(page.text(".exact samp"), r"^refused: block \d+: mark: \w+$")
         self.assertTrue(page.text(".where").startswith("Line "), page.text(".where"))
-        self.assertTrue(page.texts(".explanation p:not(.label)")[-1].startswith("What to do: "))
+        self.assertTrue(page.texts(EXPLAINED)[-1].startswith("What to do: "))
+        # Who has the page alone has no script of the program's.
+        self.assertIn("If you have no prepare.py, change a copy of the file in a text editor", page.text(".here"))
+
+    def test_no_name_is_asked_for_where_it_would_be_in_vain(self):
+        degrees = self.plain().read_bytes().replace(b" 21.322", b" 21.324")
+        page = self.page(self.file("degrees.gsi", degrees))
+        self.assertEqual([["open", "degrees.gsi", NOTHING_RECOGNIZED]], self.cards(page))
+        self.assertEqual(["An angle is not in gon with five decimals."], page.texts(".reason"))
+        self.assertEqual([], page.texts(".card form"))
+        self.assertIn("45 readings with directions stand outside of sets.", page.text(".card"))
+        command = "station_check mark --station '?' degrees.gsi > degrees_marked.gsi"
+        self.assertEqual(["refused: block 1: Hz Unit", command], page.texts(".exact :is(samp, code)"))
 
     def test_a_name_that_no_station_can_have_is_asked_for_again(self):
         wrong = ["P\u00e47", "x" * 17]
@@ -529,13 +558,15 @@ class PageInBrowserTest(TimedTest):
     def test_what_was_not_checked_is_never_green(self):
         page = self.page(self.plain())
         self.assertEqual([["open", "plain.gsi", NOTHING_NAMED]], self.cards(page))
-        self.assertIn("45 readings with directions stand outside of sets.", page.text(".card"))
+        recognized = "Station ?: 4 sets, 6 targets. 1 reading before the sets and 0 after them stay outside."
+        self.assertIn(recognized, page.text(".card"))
         page.give(P7_SHEET)
-        self.assertIn("Not checked, since the field file has no station: station_p7.csv.", page.text(".card"))
+        self.assertIn("Checked as soon as the station has its name: station_p7.csv.", page.text(".card"))
         page.empty()
-        page.give(self.file("level.gsi", b"110001+000000P1 331.28+00123456\r\n"))
+        page.give(self.file("level.gsi", b"110001+000000P1 331.28+00123456\r\n"), P7_SHEET)
         self.assertEqual([["open", "level.gsi", NOTHING_CHECKED]], self.cards(page))
         self.assertIn("levelling", page.text(".card"))
+        self.assertIn("Not checked, since the field file has no station: station_p7.csv.", page.text(".card"))
         page.empty()
         page.give(P7_SHEET)
         self.assertEqual("open", page.js("$('verdict').className"))
@@ -558,7 +589,7 @@ class PageInBrowserTest(TimedTest):
                 refused = [card for card in self.cards(page) if card[0] == "bad"]
                 self.assertRegex(refused[0][2], r"^Refused\. [A-Z][^:]*\.$")
                 # What it means is shown as flowing text, without the line that is its sample.
-                paragraphs = page.texts(".explanation p:not(.label)")
+                paragraphs = page.texts(EXPLAINED)
                 self.assertTrue(paragraphs[-1].startswith("What to do: "))
                 self.assertFalse([text for text in paragraphs if "\n" in text or text.startswith("refused:")])
             page.empty()
@@ -578,6 +609,11 @@ class PageInBrowserTest(TimedTest):
         self.assertEqual("station_check compare station_p7.gsi P7 four.csv", page.text(".exact code"))
         self.assertIn("tables within 0.01 mgon or as they are rounded", page.text("#in-force"))
         page.fill("within", "0.01")
+        furthest = f"Furthest from the least-squares directions: MAST {MINUS}0.025\xa0mgon, P12 +0.025\xa0mgon."
+        self.assertEqual([furthest], page.texts(".reason"))
+        here = page.text(".here")
+        for said in ("The differences of all targets stand below.", "--within in mgon", "Tables are read in gon alone"):
+            self.assertIn(said, here)
         refused = "Refused. The directions are 0.025 mgon apart; the limit is 0.01 mgon."
         self.assertEqual([["bad", "Station P7", refused]], self.cards(page))
         self.assertEqual("station_check compare --within 10 station_p7.gsi P7 four.csv", page.text(".exact code"))
@@ -627,6 +663,13 @@ class PageInBrowserTest(TimedTest):
         page = self.page()
         for text in ("A,0.5", "A;0,5", "A\t0.5", '"A","0.5"', "A   0.5", "A,0.5,", "A,0.5 gon", '"A","0.5gon"', "Ziel;Richtung\nA;0,5\n"):
             self.assertEqual("table", page.js(f"kindOf('a.txt', new TextEncoder().encode({json.dumps(text)}))"), text)
+        titles = "Job 7\nDate 12.3.26\nZiel Richtung\n"
+        for text in (f"{titles}P1 0.5\nP2 1.5\n", "P 1\t0,5\t0,3\n", "TOWER 0.5000 0.3\n"):
+            self.assertEqual("table", page.js(f"kindOf('a.txt', new TextEncoder().encode({json.dumps(text)}))"), text)
+        page.give(FIELD, self.file("sheet.csv", SHEET.read_bytes().replace(b",", b";")))
+        self.assertEqual("sheet of S1", page.texts("#inputs .kind")[1])
+        self.assertEqual("refused: sheet row 1: Fields", page.text(".exact samp"))
+        page.empty()
         page.give(P7_FIELD, self.file("gon.csv", FOUR_DECIMALS.replace(b"\n", b" gon\n")))
         self.assertEqual("refused: table row 1: Number", page.text(".exact samp"))
         self.assertIn("Leave out the unit", page.text(".explanation"))
@@ -644,6 +687,11 @@ class PageInBrowserTest(TimedTest):
         page.give(both, *(self.file(f"{nth}.csv", path.read_bytes()) for nth, path in enumerate(others)))
         self.assertEqual(["good", "good"], [card[0] for card in self.cards(page)])
         self.assertEqual([4, 4], [len(card) for card in self.cards(page)])
+        # Whatever separates the columns.
+        for nth, separator in enumerate([b";", b"\t", b" "]):
+            page.empty()
+            page.give(both, self.file(f"{nth}.txt", FOUR_DECIMALS.replace(b",", separator)))
+            self.assertEqual(["good", "read"], [card[0] for card in self.cards(page)])
         # A table without any target of the stations waits until it has one by choice.
         page.empty()
         page.give(both, self.file("odd.csv", b"X,0\nY,1\n"))
@@ -652,12 +700,28 @@ class PageInBrowserTest(TimedTest):
             page.js("{ const s = document.querySelector('#inputs select'); s.value = 'job.gsi: S1'; s.onchange() }")
         self.assertEqual("refused: table row 1: Unknown", page.text(".exact samp"))
 
+    def test_of_many_cards_the_first_of_each_kind_is_led_to(self):
+        page = self.page(*(self.file(f"{nth}.gsi", FIELD.read_bytes()) for nth in range(9)), self.plain(), self.file("8.csv", SHEET.read_bytes()))
+        self.assertEqual("1 to do; 8 read, not compared; 1 in order", page.text("#verdict"))
+        for button, title in [("1 in order", "Station S18.gsi"), ("1 to do", "plain.gsi"), ("8 read, not compared", "Station S10.gsi")]:
+            page.press(button)
+            found = page.wait(IN_HAND)
+            self.assertTrue(found[0].endswith(title) and 0 <= found[1] < SCREEN[1] - 100, (button, found))
+
+    def test_a_station_that_was_named_stays_in_sight(self):
+        page = self.page(*(self.file(f"{nth}.gsi", FIELD.read_bytes()) for nth in range(9)), self.plain())
+        for name, title in [("P\u00e47", "plain.gsi"), ("P7", "Station P7plain_marked.gsi")]:
+            page.js("scrollTo(0, document.body.scrollHeight)")
+            self.state_name(page, name)
+            found = page.wait(IN_HAND)
+            self.assertTrue(found[0].endswith(title) and 0 <= found[1] < SCREEN[1] - 100, found)
+
     def test_of_several_field_files_a_sheet_goes_to_the_longest_name_that_fits(self):
         fields = [self.file(name, FIELD.read_bytes()) for name in ("2026.gsi", "2026.11.GSI")]
         page = self.page(*fields, self.file("2026.11.csv", SHEET.read_bytes()), self.file("week.csv", SHEET.read_bytes()))
         moods = [(card[0], card[1]) for card in self.cards(page)]
         self.assertEqual([("read", "Station S1"), ("good", "Station S1"), ("open", "week.csv")], moods)
-        self.assertEqual(["2026.gsi", "2026.11.GSI"], page.texts(".card header .name"))
+        self.assertEqual(["2026.gsi", "2026.11.GSI", "week.csv"], page.texts(".card header .name"))
 
     def test_cancel_empties_nothing_and_a_file_can_be_taken_away(self):
         page = self.page(FIELD, SHEET)
@@ -780,7 +844,7 @@ class PageInBrowserTest(TimedTest):
         values = re.compile(r"(?<![\d.])[+\u2212]\d+\.\d\d\d?(?!\d)")
         self.assertEqual(Counter(values.findall(shown)), Counter(values.findall(text)))
         for number, one in enumerate(pages, 1):
-            self.assertIn(f"{number} / {len(pages)}", one)
+            self.assertRegex(one, rf"(?m)^ *Protocol of sets: Station S1, wide.gsi  +{number} ?/ ?{len(pages)}$")
             if re.search(r"^ *P\d+ +[+\u2212]", one, re.MULTILINE):
                 first = re.search(r"^ *(Target|P\d+) ", one, re.MULTILINE)
                 self.assertEqual("Target", first[1], one[:300])
@@ -795,6 +859,12 @@ class PageInBrowserTest(TimedTest):
         (text,) = self.printed(self.page(P7_FIELD, P7_SHEET))
         self.assertIn("Residuals as a picture", text)
         self.assertIn("SHA-256 of the module inside", text)
+
+    @unittest.skipUnless(shutil.which("pdftotext"), "no pdftotext is found")
+    def test_with_a_table_the_picture_stands_beside_the_residuals(self):
+        first, second = self.printed(self.page(P7_FIELD, self.file("four.csv", FOUR_DECIMALS)))
+        self.assertRegex(first, r"(?m)^ *Residuals +Residuals as a picture$")
+        self.assertIn("Checked by: place, date, signature", second)
 
     @unittest.skipUnless(shutil.which("pdftotext"), "no pdftotext is found")
     def test_what_has_no_protocol_is_printed_as_it_is_shown(self):
@@ -830,6 +900,13 @@ class PageInBrowserTest(TimedTest):
             wide = "[...document.querySelectorAll('.wide')].filter(e => e.scrollWidth > e.clientWidth)"
             self.assertTrue(page.js(f"{wide}.length > 0 && {wide}.every(e => getComputedStyle(e).backgroundImage !== 'none')"))
             self.assertEqual("sticky", page.js("getComputedStyle(document.querySelector('.bars tbody th')).position"))
+
+    def test_on_a_phone_no_file_is_wider_than_the_list_of_files(self):
+        name = "a_job_of_the_whole_week_in_one_file.gsi"
+        both = self.file(name, P7_FIELD.read_bytes() + FIELD.read_bytes())
+        page = self.page(both, self.file("four.csv", FOUR_DECIMALS), size=PHONE)
+        self.assertIn(f"{name}: P7", page.texts("#inputs option"))
+        self.assertEqual(*page.js("[$('inputs').scrollWidth, $('inputs').clientWidth]"))
 
     def test_the_text_stands_out_in_light_and_in_dark(self):
         """Of each text on its background the contrast is 4.5 at least."""
@@ -927,7 +1004,7 @@ class PageInBrowserTest(TimedTest):
                 self.assertEqual(1, len({text.count("|") for text in one.values()}))
         scripts = [path.read_text() for path in (ROOT / "page").glob("*.js") if path.name != "texts.js"]
         used = {name for script in scripts for name in re.findall(r"'(\w+)'", script)}
-        of_parts = {*re.findall(r'data-(?:text|label)="(\w+)"', PAGE.read_text())}
+        of_parts = {*re.findall(r'data-(?:text|label|placeholder)="(\w+)"', PAGE.read_text())}
         self.assertEqual({*texts}, used & {*texts} | of_parts)
 
     def test_a_sign_of_french_text_is_never_alone_on_a_line(self):
@@ -936,7 +1013,10 @@ class PageInBrowserTest(TimedTest):
             self.assertNotRegex(said, "(?<!\u202f)[:;?!»]|«(?!\u202f)")
 
     def test_no_text_of_the_page_is_without_its_translations(self):
-        page = self.page(P7_FIELD, P7_SHEET, self.file("four.csv", FOUR_DECIMALS), self.file(*UNUSED[0][:2]))
+        apart = FOUR_DECIMALS.replace(b"278.8606", b"278.8616")
+        files = [P7_SHEET, self.file("four.csv", FOUR_DECIMALS), self.file("apart.csv", apart), self.file(*UNUSED[0][:2])]
+        page = self.page(P7_FIELD, *files, self.plain(), self.rain())
+        self.assertEqual("1 refused; 2 to do", page.text("#verdict"))
         for part in ("details", "#again", "#release"):
             page.js(f"document.querySelectorAll('{part}').forEach(e => {{ e.open = true; e.hidden = false }})")
         page.js(BRACKETS)

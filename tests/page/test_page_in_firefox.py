@@ -2,7 +2,9 @@
 
 import shutil
 import subprocess
+import tempfile
 import unittest
+from pathlib import Path
 
 import firefox
 from program import EXAMPLE, EXAMPLE_SHEET, EXAMPLE_TABLE, TimedTest
@@ -11,6 +13,9 @@ from test_page_calls import EXAMPLES, JOB, PAGE, RT, make_page
 P7 = "Station P7: Accepted. Greatest residual 0.320 mgon, set 4, TOWER."
 S1 = "Station S1: Accepted. Greatest residual 0.005 mgon, set 1, A."
 WRONG = "\u201cResiduals of a sheet at most, in mgon\u201d: a number from 0 to 10, in steps of 0.005"
+
+# The directions of P7 as an office in Germany or Austria exports them, with four decimals.
+FOUR_DECIMALS = "Ziel;Hz\nTOWER;0,0000\nP3;64,5213\nMAST;139,4045\nP8;212,7572\nCHURCH;278,8606\nP12;345,2092\n"
 
 # What is done at the page, and the verdict that is then told.
 STEPS = [
@@ -56,6 +61,23 @@ class PageInFirefoxTest(TimedTest):
         for (do, *words), verdict in STEPS:
             getattr(page, do)(*words)
             self.assertEqual(verdict, page.wait_text("#verdict", verdict), words)
+
+    def test_a_job_without_codes_is_named_and_compared_with_a_table_of_four_decimals(self):
+        folder = tempfile.TemporaryDirectory(prefix="page-")
+        self.addCleanup(folder.cleanup)
+        job, table = Path(folder.name, "job.gsi"), Path(folder.name, "directions.csv")
+        job.write_bytes(b"".join(line for line in EXAMPLES[0].read_bytes().splitlines(True) if line[:3] != b"*41"))
+        table.write_text(FOUR_DECIMALS)
+        page = self.page()
+        page.drop(job)
+        unnamed = "Nothing was checked yet: the station needs a name."
+        self.assertEqual(unnamed, page.wait_text("#verdict", unnamed))
+        page.js("const name = document.querySelector('.card input'); name.value = 'P7'; name.form.requestSubmit()")
+        read = "Station P7: Read without a fault: 4 sets, 6 targets, 22 directions."
+        self.assertEqual(read, page.wait_text("#verdict", read))
+        page.drop(table)
+        agrees = "Station P7: Agrees. 6 targets within 0.025 mgon of the least-squares directions."
+        self.assertEqual(agrees, page.wait_text("#verdict", agrees))
 
     def test_the_picture_has_the_colours_of_the_style(self):
         page = self.page()
