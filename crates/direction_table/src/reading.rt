@@ -64,7 +64,7 @@ pub struct StatedTable {
     pub directions: Vec<i64>,
     /// The limit of a comparison that is usual for the steps to which its rows round their
     /// directions, in units of 0.000001 gon: 10, or half the coarsest step, rounded up, and 1,
-    /// where that is more. A whole number of gon or degrees is taken as it stands.
+    /// where that is more. A whole number of gon or degrees, as 0 or 0.0, is taken as it stands.
     pub usual_within: u32,
 }
 
