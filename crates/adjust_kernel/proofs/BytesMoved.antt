@@ -31,17 +31,22 @@ from_end : (bytes : List ℕ) → number (drop (length bytes) bytes) ≡ 0
 from_end [] = refl
 from_end (b ∷ bytes) = from_end bytes
 
+module _ (bytes : List ℕ) (count : ℕ) (e : length bytes ≡ count) where
+  -- Past so many bytes none stands, and before that one at each place.
+  none_past : number (drop count bytes) ≡ 0
+  none_past = subst (λ (n : ℕ). number (drop n bytes) ≡ 0) e (from_end bytes)
+
+  byte_at : (k : ℕ) → k < count → number (drop k bytes)
+      ≡ slice_index bytes k + number (drop (suc k) bytes) * 256
+  byte_at k inside = from_place k bytes (omega (arith, e, inside))
+
 -- Eight bytes that are read as one number give their number.
 eight_read : (bytes : List ℕ) → length bytes ≡ 8 → from_le_bytes w64 bytes ≡ number bytes
 eight_read bytes e =
-    let none : number (drop 8 bytes) ≡ 0 =
-    subst (λ (n : ℕ). number (drop n bytes) ≡ 0) e (from_end bytes) in
-    let here : (k : ℕ) → k < 8 → number (drop k bytes)
-    ≡ slice_index bytes k + number (drop (suc k) bytes) * 256 =
-    λ (k : ℕ) (inside : k < 8). from_place k bytes (omega (arith, e, inside)) in
+    let here = byte_at bytes 8 e in
     omega (
       arith,
-      none,
+      none_past bytes 8 e,
       here 0 (omega arith),
       here 1 (omega arith),
       here 2 (omega arith),
@@ -55,14 +60,10 @@ eight_read bytes e =
 -- Sixteen bytes that are read as one number give their number.
 sixteen_read : (bytes : List ℕ) → length bytes ≡ 16 → from_le_bytes w128 bytes ≡ number bytes
 sixteen_read bytes e =
-    let none : number (drop 16 bytes) ≡ 0 =
-    subst (λ (n : ℕ). number (drop n bytes) ≡ 0) e (from_end bytes) in
-    let here : (k : ℕ) → k < 16 → number (drop k bytes)
-    ≡ slice_index bytes k + number (drop (suc k) bytes) * 256 =
-    λ (k : ℕ) (inside : k < 16). from_place k bytes (omega (arith, e, inside)) in
+    let here = byte_at bytes 16 e in
     omega (
       arith,
-      none,
+      none_past bytes 16 e,
       here 0 (omega arith),
       here 1 (omega arith),
       here 2 (omega arith),

@@ -14,7 +14,7 @@ use native.Mathlib.Decide.{ℕ_discrete, dec_lt}
 use Rattle.adjust_kernel.specs.declared.obs.Obs.{Obs}
 use Rattle.adjust_kernel.specs.declared.row.Row.{Row}
 use Rattle.adjust_kernel.specs.Connected.{IsDivided, HasMember}
-use Rattle.adjust_kernel.specs.Marks.{AreAlike, IsOpenEnd, IsSpread, mark, part_of}
+use Rattle.adjust_kernel.specs.Marks.{AreAlike, IsOpenEnd, MarksSpread, mark, part_of}
 use Rattle.adjust_kernel.specs.Pairs.{turned_by_rows}
 use Rattle.adjust_kernel.specs.TurnedObservations.{TurnedObservation}
 use Rattle.adjust_kernel.specs.Stations.{IsObs, EachSetObserved, EachTargetObserved}
@@ -92,7 +92,7 @@ none_marked k e = elim (dec_lt k 140) [
 module _ (sets targets : ℕ) (obs : List Obs) where
   -- The first observations of a sweep are done.
   pub record IsSwept (before marks : List Bool) (any : Bool) (n : ℕ) : Type 0 where
-    pub spread : IsSpread sets targets obs before → IsSpread sets targets obs marks
+    pub spread : MarksSpread sets targets obs before → MarksSpread sets targets obs marks
     pub at_most : count_by not marks ≤ count_by not before
     pub fewer : OnTrue any (count_by not marks < count_by not before)
     pub alike : OnFalse any (All (AreAlike marks sets) (take n obs))
@@ -128,8 +128,8 @@ module _ (sets targets : ℕ) (obs : List Obs) where
 module _ (sets targets : ℕ) (obs : List Obs) (placed : All (IsObs sets targets) obs) where
   -- A mark that is carried along an observation stays in the part of the first target.
   spread_one : (marks : List Bool) (i : ℕ) (d : Obs) → i < length obs → (n : ℕ)
-      → IsOpenEnd marks sets (get_or obs i d) n → IsSpread sets targets obs marks
-      → IsSpread sets targets obs (set marks n true)
+      → IsOpenEnd marks sets (get_or obs i d) n → MarksSpread sets targets obs marks
+      → MarksSpread sets targets obs (set marks n true)
   spread_one marks i d inside n open_end s = record {
     first = mark_kept marks n sets open_end.inside s.first;
     long = length-set marks n true ∙ s.long;
@@ -250,7 +250,7 @@ module _ (sets targets : ℕ) (obs : List Obs) (placed : All (IsObs sets targets
 
 -- At first only the first target is marked.
 pub spread_start : (sets targets : ℕ) (obs : List Obs) → sets < 140
-    → IsSpread sets targets obs (set (replicate 140 false) sets true)
+    → MarksSpread sets targets obs (set (replicate 140 false) sets true)
 spread_start sets targets obs h = record {
   first = get_or-set_same (replicate 140 false) sets true false long;
   long = length-set (replicate 140 false) sets true ∙ length-replicate 140 false;
@@ -266,7 +266,7 @@ spread_start sets targets obs h = record {
 
 -- Where all are marked, no division is left.
 pub marked_is_whole : (sets targets : ℕ) (obs : List Obs) (marks : List Bool)
-    → IsSpread sets targets obs marks → ((n : ℕ) → n < sets + targets → mark marks n ≡ true)
+    → MarksSpread sets targets obs marks → ((n : ℕ) → n < sets + targets → mark marks n ≡ true)
     → (rows : List Row) → length rows ≡ length obs
     → IsDivided sets targets (turned_by_rows obs rows)
     → ⊥
@@ -289,7 +289,7 @@ marked_is_whole sets targets obs marks s all rows same_length d =
 -- Where no observation has an open end, the first target is marked and a node isn't, the marks
 -- divide.
 pub marks_divide : (sets targets : ℕ) (obs : List Obs) (marks : List Bool) → 0 < targets
-    → IsSpread sets targets obs marks → All (AreAlike marks sets) obs
+    → MarksSpread sets targets obs marks → All (AreAlike marks sets) obs
     → (n : ℕ) → n < sets + targets → mark marks n ≡ false → (rows : List Row)
     → IsDivided sets targets (turned_by_rows obs rows)
 marks_divide sets targets obs marks some s alike n h e rows = record {

@@ -1,14 +1,17 @@
 -- One more residual in running sums.
 use Rattle.std.proofs.Common.{◌≡◌, ℕ, ◌+◌, ◌*◌, ◌<◌, cond, eqb, List, [], ◌∷◌, ◌++◌, length, take}
 use Rattle.std.proofs.Common.{replicate, set, get_or, All, ℤ, pos, ◌+ℤ◌, arith, ap, refl, sym, ◌∙◌}
-use Rattle.std.proofs.Common.{eq-eqb}
+use Rattle.std.proofs.Common.{eq-eqb, ◌≢◌, below_more, FitsSigned}
+use mir.Syntax.{w128}
+use mir.Val.{to_z, of_z}
 use Rattle.std.proofs.Math.IntN.{+ℤ_idr}
-use Rattle.std.proofs.lemmas.Int.{ints}
+use Rattle.std.proofs.lemmas.Int.{ints, to_z-of_z}
 use Rattle.std.proofs.lemmas.Bool.{ne_eqb}
 use Rattle.std.proofs.lemmas.List.{map-append, get_or-set_same, get_or-set_other, length-append}
 use Rattle.std.proofs.lemmas.List.{get_or-replicate, take_more}
 use Rattle.std.proofs.lemmas.List.Elements.{All-set, All-weaker, All-replicate}
 use Rattle.adjust_kernel.specs.declared.tally.Added.{Added}
+use Rattle.adjust_kernel.specs.Firsts.{IsFirstWhere}
 use Rattle.adjust_kernel.specs.Sums.{int_sum_where}
 use Rattle.adjust_kernel.specs.Within.{IsWithin}
 use Rattle.adjust_kernel.specs.Tallies.{AreSumsOf, added_for_target, added_for_set, added_of}
@@ -126,3 +129,20 @@ pub added_for_set-all : (c : Choice) (rs : List TurnedObservation) (s : ℕ)
 added_for_set-all c [] s = refl
 added_for_set-all c (r ∷ rs) s = ap (λ z. cond (eqb r.set s) (residual c r) (pos 0) +ℤ z)
     (added_for_set-all c rs s)
+
+-- Of the sums below a number, all are 0. A sum at it that a tally tells, and that isn't 0, is the
+-- first such one; and where it is 0, so are all up to it.
+module _ (sum : ℕ → ℤ) (n : ℕ) (told : ℤ) (is : told ≡ sum n)
+    (before : (m : ℕ) → m < n → sum m ≡ pos 0) where
+  pub first_uneven : (count : ℕ) → n < count → of_z w128 told ≢ of_z w128 (pos 0)
+      → IsFirstWhere (λ k. sum k ≢ pos 0) count n
+  first_uneven count inside uneven = record {
+    inside = inside;
+    here = λ even. uneven (ap (of_z w128) (is ∙ even));
+    before = λ m below other. other (before m below);
+  }
+
+  pub more_even : FitsSigned w128 told → of_z w128 told ≡ of_z w128 (pos 0)
+      → (m : ℕ) → m < n + 1 → sum m ≡ pos 0
+  more_even fits even = below_more (λ k. sum k ≡ pos 0) n before
+      (sym is ∙ sym (to_z-of_z w128 told fits) ∙ ap (to_z w128) even)

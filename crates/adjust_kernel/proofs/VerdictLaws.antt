@@ -127,7 +127,7 @@ module _ (station : StationValue) (sheet : SheetValue) where
   not_standing limit (SetSum n) clear (k, _, f) = f.here (clear k f.inside)
   not_standing limit NotConnected clear stands = clear stands
   not_standing None (Residual n) clear stands = absurd stands
-  not_standing (Some most) (Residual n) clear (k, _, f) =
+  not_standing (Some limit) (Residual n) clear (k, _, f) =
       let small = size_within _ _ (clear k any_observation f.inside) in
       omega (arith, small, rw (residual_at k any_observation f.inside) at f.here)
 
@@ -139,7 +139,7 @@ module _ (station : StationValue) (sheet : SheetValue) where
   one_fault limit (ObsRow m) (ObsRow n) e a b = one_nth ObsRow (one_difference _ _) m n a b
   one_fault limit (TargetSum m) (TargetSum n) e a b = one_nth TargetSum (one_first _ _) m n a b
   one_fault limit (SetSum m) (SetSum n) e a b = one_nth SetSum (one_first _ _) m n a b
-  one_fault (Some most) (Residual m) (Residual n) e a b = one_nth Residual (one_first _ _) m n a b
+  one_fault (Some limit) (Residual m) (Residual n) e a b = one_nth Residual (one_first _ _) m n a b
   one_fault limit f g e a b = grind arith
 
   -- What is said of the sheet where it is accepted, but for the greatest residual.
@@ -181,10 +181,10 @@ module _ (station : StationValue) (sheet : SheetValue) where
   limit_or_standing : (limit : Option ℕ) → IfSome limit (KeepsLimit station sheet)
       ⊎ IsStandingAt limit 9
   limit_or_standing None = inl tt
-  limit_or_standing (Some most) =
+  limit_or_standing (Some limit) =
       let rs = observations station sheet in
-      elim (none_or_first (IsAbove most (choice_stated_by sheet) rs)
-      (λ k. dec_lt (most * sheet.denominator)
+      elim (none_or_first (IsAbove limit (choice_stated_by sheet) rs)
+      (λ k. dec_lt (limit * sheet.denominator)
       (unsigned_abs (slice_index_or (map (residual (choice_stated_by sheet)) rs) k (pos 0))))
       (length rs)) [
         | inl none ↦ inl (λ k d inside.
@@ -356,12 +356,12 @@ module _ (station : StationValue) (sheet : SheetValue) where
 
   -- The first residual above the limit is the fault, where all looked for before is as it has to
   -- be.
-  pub residual_fault : (most n : ℕ) → Matches station sheet → TargetsAddUp station sheet
+  pub residual_fault : (limit n : ℕ) → Matches station sheet → TargetsAddUp station sheet
       → SetsAddUp station sheet → HoldsTogether station sheet
-      → IsFirstWhere (IsAbove most (choice_stated_by sheet) (observations station sheet))
-      (length (observations station sheet)) n → IsVerdict station sheet (Some most)
+      → IsFirstWhere (IsAbove limit (choice_stated_by sheet) (observations station sheet))
+      (length (observations station sheet)) n → IsVerdict station sheet (Some limit)
       (Err (Residual (n + 1)))
-  residual_fault most n matches targets sets connected first =
-      let more = below_more (IsClearAt station sheet (Some most)) in
-      refused (Some most) (Residual (n + 1)) (n, refl, first)
-      (more 8 (more 7 (more 6 (kept matches (Some most)) targets) sets) connected)
+  residual_fault limit n matches targets sets connected first =
+      let more = below_more (IsClearAt station sheet (Some limit)) in
+      refused (Some limit) (Residual (n + 1)) (n, refl, first)
+      (more 8 (more 7 (more 6 (kept matches (Some limit)) targets) sets) connected)

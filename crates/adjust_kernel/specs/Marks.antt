@@ -27,7 +27,7 @@ part_of sets part_of_set part_of_target n =
 
 -- What is marked lies in the part of the first target, however the nodes fall into parts with no
 -- observation between.
-pub record IsSpread (sets targets : ℕ) (obs : List Obs) (marks : List Bool) : Type 0 where
+pub record MarksSpread (sets targets : ℕ) (obs : List Obs) (marks : List Bool) : Type 0 where
   pub first : mark marks sets ≡ true
   pub long : length marks ≡ MOST_NODES
   pub one_part : (p q : ℕ → Bool) → All (λ o. p o.set ≡ q o.target) obs

@@ -43,7 +43,8 @@ HoldsTogether station sheet =
 
 -- No residual is above this limit.
 abbrev pub KeepsLimit : StationValue → SheetValue → ℕ → Type 0
-KeepsLimit station sheet most = IsLimited most (choice_stated_by sheet) (observations station sheet)
+KeepsLimit station sheet limit =
+    IsLimited limit (choice_stated_by sheet) (observations station sheet)
 
 -- P holds of the place that is the n-th, counted from 1.
 abbrev pub AtNth : (ℕ → Type 0) → ℕ → Type 0
@@ -73,8 +74,8 @@ Stands station sheet limit (SetSum n) =
 Stands station sheet limit NotConnected =
     IsDivided (length station.sets) (length station.targets) (observations station sheet)
 Stands station sheet limit (Residual n) =
-    IsSomeAnd limit (λ most.
-    AtNth (IsFirstWhere (IsAbove most (choice_stated_by sheet) (observations station sheet))
+    IsSomeAnd limit (λ limit.
+    AtNth (IsFirstWhere (IsAbove limit (choice_stated_by sheet) (observations station sheet))
     (length (observations station sheet))) n)
 
 -- The order in which the faults are looked for.

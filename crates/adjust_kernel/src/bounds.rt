@@ -19,6 +19,9 @@ pub const LARGEST_SET_NUMBER: u16 = 9_999;
 /// The most bytes of a name; the least is 1.
 pub const LONGEST_NAME: usize = 16;
 
+/// The most bytes of the name of a fault, of whatever crate, as the line of a refusal has it.
+pub const LONGEST_FAULT_NAME: usize = 16;
+
 /// The largest denominator D of a sheet; the smallest is 1.
 pub const LARGEST_DENOMINATOR: u64 = 1_000_000_000_000;
 

@@ -9,7 +9,7 @@ ghost use Rattle.std.specs.Bool.{OnTrue, OnFalse};
 ghost use Rattle.std.specs.List.{count_by};
 ghost use Rattle.adjust_kernel.specs.declared.row.Row.{Row};
 ghost use Rattle.adjust_kernel.specs.Connected.{IsConnected, IsDivided};
-ghost use Rattle.adjust_kernel.specs.Marks.{AreAlike, IsOpenEnd, IsSpread};
+ghost use Rattle.adjust_kernel.specs.Marks.{AreAlike, IsOpenEnd, MarksSpread};
 ghost use Rattle.adjust_kernel.specs.Pairs.{turned_by_rows};
 ghost use Rattle.adjust_kernel.specs.Stations.{IsObs};
 
@@ -59,8 +59,8 @@ fn sweep(marks: &mut [bool; MOST_NODES], sets: usize, targets: usize, obs: &[Obs
     requires sets { sets ≤ MOST_SETS }
     requires targets { targets ≤ MOST_TARGETS }
     requires obs { All (IsObs sets targets) obs.now }
-    ensures spread { IsSpread sets targets obs.now marks.old
-        → IsSpread sets targets obs.now marks.new }
+    ensures spread { MarksSpread sets targets obs.now marks.old
+        → MarksSpread sets targets obs.now marks.new }
     ensures fewer { OnTrue result (count_by not marks.new < count_by not marks.old) }
     ensures alike { OnFalse result (All (AreAlike marks.new sets) obs.now) }
 {

@@ -1,6 +1,7 @@
 //! Why a sheet is refused.
 
 ghost use Rattle.std.specs.Prelude.{◌≡◌, ◌≤◌, length};
+ghost use Rattle.adjust_kernel.specs.declared.bounds.TheConstants.{LONGEST_FAULT_NAME};
 ghost use Rattle.adjust_kernel.specs.FaultNames.{kernel_fault_name, kernel_fault_number};
 
 use thiserror::Error;
@@ -48,7 +49,7 @@ impl KernelFault {
     /// Its name, as the line of a refusal has it.
     pub fn name(self) -> &'static str
         ensures name { result.now ≡ kernel_fault_name self }
-        ensures short { length result.now ≤ 16 }
+        ensures short { length result.now ≤ LONGEST_FAULT_NAME }
     {
         match self {
             KernelFault::Name => "Name",

@@ -5,6 +5,7 @@ ghost use Rattle.adjust_kernel.specs.declared.accepted.Accepted.{Accepted};
 ghost use Rattle.adjust_kernel.specs.declared.kernel_fault.KernelFault.{KernelFault};
 ghost use Rattle.adjust_kernel.specs.declared.bounds.TheConstants.{TURN, MOST_TARGETS, MOST_SETS};
 ghost use Rattle.adjust_kernel.specs.declared.bounds.TheConstants.{MOST_ROWS, LARGEST_SET_NUMBER};
+ghost use Rattle.adjust_kernel.specs.declared.bounds.TheConstants.{LONGEST_FAULT_NAME};
 ghost use Rattle.adjust_kernel.specs.declared.bounds.TheConstants.{LONGEST_NAME};
 ghost use Rattle.adjust_kernel.specs.declared.bounds.TheConstants.{LARGEST_DENOMINATOR};
 ghost use Rattle.adjust_kernel.specs.declared.bounds.TheConstants.{LARGEST_ANGLE, LARGEST_TURN};
@@ -81,6 +82,7 @@ pub fn bounds()
     ensures rows { MOST_ROWS ≡ 4_000 }
     ensures set_number { LARGEST_SET_NUMBER ≡ 9_999 }
     ensures name { LONGEST_NAME ≡ 16 }
+    ensures fault_name { LONGEST_FAULT_NAME ≡ 16 }
     ensures first_printable { FIRST_PRINTABLE ≡ 32 }
     ensures last_printable { LAST_PRINTABLE ≡ 126 }
     ensures denominator { LARGEST_DENOMINATOR ≡ 1_000_000_000_000 }

@@ -62,7 +62,7 @@ StatesNoLimits found = (limits : FaceLimits) → StatesLimits found limits → �
 -- This residual limit is stated, or none.
 abbrev pub StatesResidual : Found → Option ℕ → Type 0
 StatesResidual found None = matched_of found (codes "residual") ≡ None
-StatesResidual found (Some most) = LimitIsStated found (codes "residual") HalfUnit most
+StatesResidual found (Some limit) = LimitIsStated found (codes "residual") HalfUnit limit
 
 -- A residual limit is stated that may not be.
 abbrev pub StatesNoResidual : Found → Type 0

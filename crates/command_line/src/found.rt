@@ -56,8 +56,8 @@ pub(crate) fn residual_of(found: &ArgMatches<'_>) -> Option<Option<ResidualLimit
     if !found.contains_id(RESIDUAL) {
         return Some(None);
     }
-    let most = limit_of(found, RESIDUAL, LimitUnit::HalfUnit)?;
-    Some(Some(ResidualLimit::new(most)?))
+    let limit = limit_of(found, RESIDUAL, LimitUnit::HalfUnit)?;
+    Some(Some(ResidualLimit::new(limit)?))
 }
 
 /// How many decimals a direction is written with, unless it is missing or out of its range.

@@ -2,8 +2,8 @@
 use Rattle.std.proofs.Common.{◌≡◌, ℕ, true, false, List, [], ◌∷◌, ◌++◌, map, Some, None, refl}
 use Rattle.std.specs.Prelude.{codes, pos, negsuc}
 use Rattle.csv.proofs.OnLiterals.{csv_on_literals}
-use Rattle.direction_table.specs.Faults.{fault_at, fault_between, row_fault}
-use Rattle.direction_table.specs.Faults.{stating_fault}
+use Rattle.sheet_format.specs.RowFaults.{fault_at, fault_between}
+use Rattle.direction_table.specs.Faults.{stating_fault, table_row_fault, table_rules}
 use Rattle.direction_table.specs.FieldForms.{named, tidy}
 use Rattle.direction_table.specs.Directions.{direction_value, is_direction, is_on_circle}
 use Rattle.direction_table.specs.Separators.{rows_of, separator_of}
@@ -83,8 +83,8 @@ german-rows : stated_by Gon (rows_of targets german) targets
 unfolding csv_on_literals separator_of rows_of
 german-rows = refl
 
-german-titles : fault_at Gon targets (rows_of targets german) 0 ≡ None
-unfolding csv_on_literals separator_of rows_of row_fault stating_fault fault_between
+german-titles : fault_at (table_rules Gon targets) (rows_of targets german) 0 ≡ None
+unfolding csv_on_literals separator_of rows_of table_row_fault stating_fault fault_between
 german-titles = refl
 
 german-limit : usual_within Gon (rows_of targets german) ≡ 501
@@ -94,10 +94,11 @@ german-limit = refl
 abbrev twice : List ℕ
 twice = line (codes "P3 1") ++ line (codes " P3  2")
 
-second-row : fault_at Gon targets (rows_of targets twice) 1 ≡ Some fault.Twice
-unfolding csv_on_literals separator_of rows_of row_fault stating_fault fault_between
+second-row : fault_at (table_rules Gon targets) (rows_of targets twice) 1 ≡ Some fault.Twice
+unfolding csv_on_literals separator_of rows_of table_row_fault stating_fault fault_between
 second-row = refl
 
-no-titles : fault_at Gon targets (rows_of targets (line (codes "P3,5 gon"))) 0 ≡ Some fault.Number
-unfolding csv_on_literals separator_of rows_of row_fault stating_fault fault_between
+no-titles : fault_at (table_rules Gon targets) (rows_of targets (line (codes "P3,5 gon"))) 0
+    ≡ Some fault.Number
+unfolding csv_on_literals separator_of rows_of table_row_fault stating_fault fault_between
 no-titles = refl

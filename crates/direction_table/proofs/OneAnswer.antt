@@ -5,8 +5,9 @@ use Rattle.std.proofs.Common.{Option, Some, None, refl, ap, sym, arith, inl, inr
 use Rattle.std.proofs.lemmas.Bool.{cases_lt}
 use Rattle.std.proofs.lemmas.Option.{none-some}
 use Rattle.adjust_kernel.proofs.FirstLaws.{none_or_first, one_first}
-use Rattle.adjust_kernel.specs.Firsts.{IsFirstWhere}
-use Rattle.direction_table.specs.Faults.{HasNoFault, IsFirstFaultOfTable, fault_at}
+use Rattle.sheet_format.specs.RowFaults.{RowRules, fault_at}
+use Rattle.sheet_format.proofs.RowFaultLaws.{past-end, same-kind, same-place}
+use Rattle.direction_table.specs.Faults.{HasNoFault, table_rules}
 use Rattle.direction_table.specs.Separators.{rows_of}
 use Rattle.direction_table.specs.Tables.{IsNoneAt, IsTableFault, IsTableText}
 use Rattle.direction_table.specs.Tables.{stated_by}
@@ -15,7 +16,6 @@ use Rattle.direction_table.specs.declared.fault.TableFault.{TableFault}
 use Rattle.direction_table.specs.declared.fault.TableFault.TheVariants.{TooLong, Row, Missing}
 use Rattle.direction_table.specs.declared.fault.TableFault.TheVariants.{Memory}
 use Rattle.direction_table.specs.declared.reading.TheConstants.{LONGEST_TABLE}
-use Rattle.direction_table.proofs.RowsRead.{past-end}
 use Rattle.direction_table.proofs.StatedDirections.{not-missing}
 use Rattle.direction_table.specs.declared.unit.AngleUnit.{AngleUnit}
 
@@ -56,20 +56,14 @@ module _ (unit : AngleUnit) (targets : List (List ℕ)) (bytes : List ℕ) where
   abbrev rows : List (List (List ℕ))
   rows = rows_of targets bytes
 
+  abbrev rules : RowRules (List (List ℕ)) RowKind
+  rules = table_rules unit targets
+
   abbrev stated : List (Option ℤ)
   stated = stated_by unit rows targets
 
   abbrev HasFault : ℕ → Type 0
-  HasFault place = (kind : RowKind) × (fault_at unit targets rows place ≡ Some kind)
-
-  -- The first row with a fault is the first place that has one.
-  as-first : (place count : ℕ) (kind : RowKind) → IsFirstFaultOfTable unit targets rows place kind
-      → place < count → IsFirstWhere HasFault count place
-  as-first place count kind f inside = record {
-    inside = inside;
-    here = (kind, f.here);
-    before = λ m below some. none-some some.0 (sym (f.before m below) ∙ some.1);
-  }
+  HasFault place = (kind : RowKind) × (fault_at rules rows place ≡ Some kind)
 
   -- Bytes are a table of one list of directions at most.
   pub one-table : (a b : List ℤ) → IsTableText unit targets bytes a
@@ -96,12 +90,9 @@ module _ (unit : AngleUnit) (targets : List (List ℕ)) (bytes : List ℕ) where
   one-fault (Row n j) (Row m k) a b =
       let (short, p, at_p, one) = a in
       let (short2, q, at_q, two) = b in
-      let place = one_first HasFault (p + q + 1) p q (as-first p _ j one (omega arith))
-      (as-first q _ k two (omega arith)) in
+      let place = same-place rules rows p q j k one two in
       let number : n ≡ m = omega (arith, at_p, at_q, place) in
-      let kind : Some j ≡ Some k =
-      sym one.here ∙ ap (fault_at unit targets rows) place ∙ two.here in
-      cc
+      rw (number, same-kind rules rows p q j k one two place) refl
   one-fault (Row n j) (Missing m) a b =
       let (short, p, at_p, one) = a in
       absurd (none-some j (sym (b.1 p) ∙ one.here))
@@ -133,11 +124,11 @@ module _ (unit : AngleUnit) (targets : List (List ℕ)) (bytes : List ℕ) where
 
   by-rows : length bytes ≤ LONGEST_TABLE → TableOrFault
   by-rows short =
-      elim (none_or_first HasFault (λ place. dec-some (fault_at unit targets rows place))
+      elim (none_or_first HasFault (λ place. dec-some (fault_at rules rows place))
       (length rows)) [
         | inl clean ↦ by-targets short (λ place. elim (cases_lt place (length rows)) [
           | inl inside ↦ none-of _ (clean place inside)
-          | inr past ↦ past-end unit targets rows place past
+          | inr past ↦ past-end rules rows place past
         ])
         | inr first ↦ inr (
           Row (first.0 + 1) first.1.here.0,

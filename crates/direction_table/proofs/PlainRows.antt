@@ -9,7 +9,9 @@ use Rattle.std.proofs.lemmas.List.Elements.{All-head}
 use Rattle.adjust_kernel.specs.Stations.{AreTargets}
 use Rattle.sheet_format.specs.Rows.{records_of}
 use Rattle.sheet_format.specs.Faults.{is_name}
-use Rattle.direction_table.specs.Faults.{HasNoFault, is_first, row_fault, stating_fault}
+use Rattle.sheet_format.proofs.RowFaultLaws.{fault-row}
+use Rattle.direction_table.specs.Faults.{HasNoFault, is_first, stating_fault}
+use Rattle.direction_table.specs.Faults.{table_row_fault, table_rules}
 use Rattle.direction_table.specs.FieldForms.{has_name, tidy, without_blanks}
 use Rattle.direction_table.specs.PlainTables.{IsPlainRow, IsPlainTable}
 use Rattle.direction_table.specs.Rows.{name_of}
@@ -20,14 +22,13 @@ use Rattle.direction_table.specs.Tables.{IsTableText, stated_by}
 use Rattle.direction_table.specs.declared.separator.Separator.{Separator}
 use Rattle.direction_table.specs.declared.separator.Separator.TheVariants.{Comma}
 use Rattle.direction_table.proofs.PlainDirections.{no-blanks, plain-form, plain-range}
-use Rattle.direction_table.proofs.RowsRead.{fault-row}
 use Rattle.direction_table.specs.declared.unit.AngleUnit.TheVariants.{Gon}
 
 -- A plain row without a fault names a target.
 known : (targets : List (List ℕ)) (before : List (List (List ℕ))) (row : List (List ℕ))
-    → IsPlainRow row → row_fault Gon targets before row ≡ None → has_name targets (name_of row)
-    ≡ true
-unfolding row_fault stating_fault
+    → IsPlainRow row → table_row_fault Gon targets before row ≡ None
+    → has_name targets (name_of row) ≡ true
+unfolding table_row_fault stating_fault
 known targets before (a ∷ b ∷ []) p e = elim (cases_Bool (has_name targets a)) [
   | inl h ↦ h
   | inr h ↦ absurd (elim (cases_Bool (is_name a)) [
@@ -55,7 +56,7 @@ each-known : (targets : List (List ℕ)) (rows : List (List (List ℕ))) → All
     → HasNoFault Gon targets rows → All (λ row. has_name targets (name_of row) ≡ true) rows
 each-known targets rows plain clean k d below =
     known targets (take k rows) (get_or rows k d) (plain k d below)
-    (sym (fault-row Gon targets rows k d below) ∙ clean k)
+    (sym (fault-row (table_rules Gon targets) rows k d below) ∙ clean k)
 
 -- Such a row has nothing loose.
 tidy-row : (targets : List (List ℕ)) (row : List (List ℕ)) → IsPlainRow row

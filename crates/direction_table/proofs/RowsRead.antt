@@ -6,16 +6,16 @@ use Rattle.std.proofs.Common.{◌≡◌, ◌∙◌, ℕ, ◌≤◌, ◌<◌, ◌
 use Rattle.std.proofs.Common.{◌++◌, length, Option, Some, None, refl, ap, sym, subst, arith, inl}
 use Rattle.std.proofs.Common.{inr, ◌==◌, ℤ, get_or, length-append, append_assoc, take, drop}
 use lib.ListN.{replicate}
-use Rattle.std.proofs.Math.Seq.{drop-append_seam, drop-cons, take-append_seam}
 use Rattle.std.proofs.lemmas.Bool.{and_parts, cases_Bool, cases_eq, cases_lt, eq-eqb, ne_eqb}
 use Rattle.std.proofs.lemmas.Bool.{not-true, or_parts}
 use Rattle.std.proofs.lemmas.Slice.Eq.{bytes_eq-Decides}
-use Rattle.std.proofs.lemmas.List.{append-nil, drop_all, take_all, take_at}
+use Rattle.std.proofs.lemmas.List.{append-nil, take_at}
 use Rattle.csv.specs.Reading.{is_bom, records, strip_bom}
 use Rattle.direction_table.specs.ByteSteps.{records_left}
-use Rattle.direction_table.specs.Faults.{HasNoFault, IsFirstFaultOfTable, NoFaultBefore, are_titles}
-use Rattle.direction_table.specs.Faults.{fault_at, fault_between, is_first, row_fault}
-use Rattle.direction_table.specs.Faults.{stating_fault}
+use Rattle.sheet_format.specs.RowFaults.{IsFirstFault, NoFaultBefore, RowRules, fault_between}
+use Rattle.sheet_format.proofs.RowFaultLaws.{fault-row, faultless-more, first-here, past-end}
+use Rattle.direction_table.specs.Faults.{HasNoFault, are_titles, is_first, stating_fault}
+use Rattle.direction_table.specs.Faults.{table_row_fault, table_rules}
 use Rattle.direction_table.specs.Directions.{is_direction}
 use Rattle.direction_table.specs.FieldForms.{has_name, tidy}
 use Rattle.direction_table.specs.Rows.{beside_name, name_of}
@@ -66,15 +66,18 @@ module _ (unit : AngleUnit) where
       omega (arith, rest)
 
   module _ (targets : List (List ℕ)) where
+    abbrev rules : RowRules (List (List ℕ)) RowKind
+    rules = table_rules unit targets
+
     -- A row of titles has no fault, states nothing, and limits nothing.
     record IsPassedOver (before : List (List (List ℕ))) (row : List (List ℕ)) : Type 0 where
-      faultless : row_fault unit targets before row ≡ None
+      faultless : table_row_fault unit targets before row ≡ None
       states : stated_by unit (before ++ (row ∷ [])) targets ≡ stated_by unit before targets
       unlimited : row_limit unit row ≡ 0
 
     titles-pass : (before : List (List (List ℕ))) (row : List (List ℕ))
         → (is_first before && are_titles unit targets row) ≡ true → IsPassedOver before row
-    unfolding row_fault
+    unfolding table_row_fault
     titles-pass (first ∷ before) row e = cc e
     titles-pass [] row e =
         let (wide, both) = and_parts _ _ e in
@@ -88,59 +91,18 @@ module _ (unit : AngleUnit) where
     -- Any other row has the fault of what it states.
     states-fault : (before : List (List (List ℕ))) (row : List (List ℕ))
         → (is_first before && are_titles unit targets row) ≡ false
-        → row_fault unit targets before row ≡ stating_fault unit targets before row
-    unfolding row_fault
+        → table_row_fault unit targets before row ≡ stating_fault unit targets before row
+    unfolding table_row_fault
     states-fault before row e = rw e refl
 
     module _ (all : List (List (List ℕ))) where
-      -- The fault at the place where the rows part.
-      fault_at-seam : (before rest : List (List (List ℕ))) → all ≡ before ++ rest
-          → fault_at unit targets all (length before) ≡ fault_between unit targets before rest
-      fault_at-seam before rest whole =
-          rw (whole, take-append_seam before rest, drop-append_seam before rest) refl
-
-      -- Where no row before has a fault, and this one has none, none of that many has.
-      clean-more : (before rest : List (List (List ℕ))) (row : List (List ℕ))
-          → all ≡ before ++ (row ∷ rest) → NoFaultBefore unit targets all (length before)
-          → row_fault unit targets before row ≡ None
-          → NoFaultBefore unit targets all (length (before ++ (row ∷ [])))
-      unfolding fault_between
-      clean-more before rest row whole none here earlier below =
-          elim (cases_eq earlier (length before)) [
-            | inl same ↦ ap (fault_at unit targets all) same
-                ∙ fault_at-seam before (row ∷ rest) whole ∙ here
-            | inr other ↦ none earlier
-                (omega (arith, other, below, length-append before (row ∷ [])))
-          ]
-
-      -- Where no row before has a fault, and this one has, it is the first of the table.
-      first-here : (before rest : List (List (List ℕ))) (row : List (List ℕ)) (k : RowKind)
-          → all ≡ before ++ (row ∷ rest) → NoFaultBefore unit targets all (length before)
-          → row_fault unit targets before row ≡ Some k
-          → IsFirstFaultOfTable unit targets all (length before) k
-      unfolding fault_between
-      first-here before rest row k whole clean found =
-          record { here = fault_at-seam before (row ∷ rest) whole ∙ found; before = clean }
-
-      -- Past the end there is no fault.
-      pub past-end : (place : ℕ) → length all ≤ place → fault_at unit targets all place ≡ None
-      unfolding fault_between
-      past-end place past = rw (take_all place all past, drop_all place all past) refl
-
-      -- The fault at a place is that of its row, by those before it.
-      pub fault-row : (place : ℕ) (d : List (List ℕ)) → place < length all
-          → fault_at unit targets all place
-          ≡ row_fault unit targets (take place all) (get_or all place d)
-      unfolding fault_between
-      fault-row place d below = rw (drop-cons all place d below) refl
-
       -- So where no row has one, none has.
       pub no-fault : ((place : ℕ) → place < length all
-          → row_fault unit targets (take place all) (get_or all place []) ≡ None)
+          → table_row_fault unit targets (take place all) (get_or all place []) ≡ None)
           → HasNoFault unit targets all
       no-fault none place = elim (cases_lt place (length all)) [
-        | inl inside ↦ fault-row place [] inside ∙ none place inside
-        | inr past ↦ past-end place past
+        | inl inside ↦ fault-row rules all place [] inside ∙ none place inside
+        | inr past ↦ past-end rules all place past
       ]
 
       -- So many rows were read, none of which has a fault, and these are left.
@@ -149,7 +111,7 @@ module _ (unit : AngleUnit) where
         pub before : List (List (List ℕ))
         pub whole : all ≡ before ++ rest
         pub count : number ≡ length before
-        pub clean : NoFaultBefore unit targets all (length before)
+        pub clean : NoFaultBefore rules all (length before)
         pub each : stated ≡ stated_by unit before targets
         pub usual : limit ≡ usual_within unit before
 
@@ -180,14 +142,17 @@ module _ (unit : AngleUnit) where
 
         -- A row without a fault is read, and those after it are left.
         more : (next : List (Option ℤ)) (larger : ℕ)
-            → row_fault unit targets read.before row ≡ None
+            → table_row_fault unit targets read.before row ≡ None
             → next ≡ stated_by unit (read.before ++ (row ∷ [])) targets
             → larger ≡ max limit (row_limit unit row) → HasRead next larger (number + 1) rest
+        unfolding fault_between
         more next larger none states is = record {
           before = read.before ++ (row ∷ []);
           whole = read.whole ∙ sym (append_assoc read.before (row ∷ []) rest);
           count = omega (arith, read.count, length-append read.before (row ∷ []));
-          clean = clean-more read.before rest row read.whole read.clean none;
+          clean = λ earlier below. faultless-more rules all read.before (row ∷ rest) read.whole
+              read.clean none earlier
+              (omega (arith, below, length-append read.before (row ∷ [])));
           each = states;
           usual =
               (let most = usual-more read.before row in
@@ -220,10 +185,11 @@ module _ (unit : AngleUnit) where
         pub read-fault : (k : RowKind) → ((number + 1 == 1) && are_titles unit targets row) ≡ false
             → ((before : List (List (List ℕ))) → stated ≡ stated_by unit before targets
             → stating_fault unit targets before row ≡ Some k)
-            → IsFirstFaultOfTable unit targets all number k
+            → IsFirstFault rules all number k
+        unfolding fault_between
         read-fault k other found =
-            subst (λ n. IsFirstFaultOfTable unit targets all n k) (sym read.count)
-            (first-here read.before rest row k read.whole read.clean
+            subst (λ n. IsFirstFault rules all n k) (sym read.count)
+            (first-here rules all read.before (row ∷ rest) read.whole read.clean k
             (states-fault read.before row (by-number false other) ∙ found read.before read.each))
 
       -- Where no row is left, none has a fault.
@@ -232,7 +198,7 @@ module _ (unit : AngleUnit) where
       read-clean stated limit number read =
           λ place. elim (cases_lt place (length all)) [
             | inl inside ↦ read.clean place (rw (read.whole ∙ append-nil read.before) at inside)
-            | inr past ↦ past-end place past
+            | inr past ↦ past-end rules all place past
           ]
 
 -- Without a byte order mark a text is no longer.

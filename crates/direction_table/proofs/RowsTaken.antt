@@ -10,9 +10,10 @@ use Rattle.std.proofs.lemmas.Bool.{cases_Bool, cases_eq, cases_lt, false_from_ne
 use Rattle.std.proofs.lemmas.List.{ext_get_or, get_or-map, length-map}
 use Rattle.std.proofs.lemmas.Slice.Eq.{bytes_eq-Decides}
 use Rattle.adjust_kernel.specs.Stations.{AreTargets}
-use Rattle.direction_table.specs.Faults.{entry_fault, stating_fault, unless}
+use Rattle.sheet_format.specs.RowFaults.{unless}
+use Rattle.direction_table.specs.Faults.{entry_fault, stating_fault}
 use Rattle.direction_table.specs.Directions.{direction_value}
-use Rattle.direction_table.specs.Rows.{Fields, columns_of, direction_in, name_of}
+use Rattle.direction_table.specs.Rows.{TwoColumns, two_columns_of, direction_in, name_of}
 use Rattle.direction_table.specs.FieldForms.{has_name}
 use Rattle.direction_table.specs.declared.fault.RowKind.TheVariants as fault
 use Rattle.direction_table.specs.declared.unit.AngleUnit.{AngleUnit}
@@ -49,15 +50,15 @@ or-none (Some v) = refl
 -- A row that is about to be taken: its columns, which have no fault, the place of its target, and
 -- what the rows before it state.
 pub record Taken (unit : AngleUnit) (targets : List (List ℕ)) (before : List (List (List ℕ)))
-    (directions : List (Option ℤ)) (row : List (List ℕ)) (place : ℕ) (c : Fields) : Type 0 where
-  pub columns : columns_of row ≡ Some c
+    (directions : List (Option ℤ)) (row : List (List ℕ)) (place : ℕ) (c : TwoColumns) : Type 0 where
+  pub columns : two_columns_of row ≡ Some c
   pub clean : entry_fault unit targets c ≡ None
   pub inside : place < length targets
   pub name : get_or targets place [] ≡ c.name
   pub stated : directions ≡ map (direction_in unit before) targets
 
 module _ {unit : AngleUnit} {targets : List (List ℕ)} {before : List (List (List ℕ))}
-    {directions : List (Option ℤ)} {row : List (List ℕ)} {place : ℕ} {c : Fields}
+    {directions : List (Option ℤ)} {row : List (List ℕ)} {place : ℕ} {c : TwoColumns}
     (t : Taken unit targets before directions row place c) where
   -- What is kept at the place is what the rows before state of the row's name.
   kept : get_or directions place None ≡ direction_in unit before c.name

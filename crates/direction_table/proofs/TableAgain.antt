@@ -16,7 +16,7 @@ use Rattle.adjust_kernel.specs.Stations.{AreTargets}
 use Rattle.sheet_format.specs.Rows.{records_of}
 use Rattle.sheet_format.proofs.NameTests.{name-test}
 use Rattle.sheet_format.proofs.TextAgain.{back-entries, records-written}
-use Rattle.direction_table.specs.Faults.{HasNoFault, is_first, row_fault, stating_fault}
+use Rattle.direction_table.specs.Faults.{HasNoFault, is_first, table_row_fault, stating_fault}
 use Rattle.direction_table.specs.FieldForms.{has_name}
 use Rattle.direction_table.specs.PlainTables.{IsPlainRow, IsPlainTable}
 use Rattle.direction_table.specs.Rows.{direction_in, name_of}
@@ -75,8 +75,8 @@ not-found names name others =
 clean-row : (targets : List (List ℕ)) (before : List (List (List ℕ))) (count : ℕ)
     (row : TargetDirection) → AreDecimals count → IsWritten count row
     → has_name targets row.name ≡ true → has_name (map name_of before) row.name ≡ false
-    → row_fault Gon targets before (row_of count row) ≡ None
-unfolding row_fault stating_fault
+    → table_row_fault Gon targets before (row_of count row) ≡ None
+unfolding table_row_fault stating_fault
 clean-row targets before count row few ok known new =
     rw (
       name-test row.name ok.name,
@@ -100,7 +100,7 @@ clean-rows count stated ok few each = no-fault Gon names rows at
     rows = map (row_of count) stated
 
     at : (place : ℕ) → place < length rows
-        → row_fault Gon names (take place rows) (get_or rows place []) ≡ None
+        → table_row_fault Gon names (take place rows) (get_or rows place []) ≡ None
     at place below =
         let inside : place < length stated =
         omega (arith, below, length-map stated (row_of count)) in

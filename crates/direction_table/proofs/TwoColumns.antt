@@ -9,13 +9,13 @@ use Rattle.csv.specs.Records.{field_at}
 use Rattle.direction_table.specs.Faults.{are_titles}
 use Rattle.direction_table.specs.FieldForms.{has_name, is_blank, named, tidy, without_blanks}
 use Rattle.direction_table.specs.Directions.{is_direction}
-use Rattle.direction_table.specs.Rows.{Fields, columns_of}
+use Rattle.direction_table.specs.Rows.{TwoColumns, two_columns_of}
 use Rattle.direction_table.specs.Separators.{begins_with_target}
 use Rattle.direction_table.proofs.FieldsAt.{at}
 use Rattle.direction_table.specs.declared.unit.AngleUnit.{AngleUnit}
 
 -- A row has two columns where it has two fields and those after them are all blank.
-pub columns_tidy : (targets fs : List (List ℕ)) → columns_of (tidy targets fs)
+pub columns_tidy : (targets fs : List (List ℕ)) → two_columns_of (tidy targets fs)
     ≡ (if nat_le 2 (length fs) && list_all is_blank (drop 2 fs)
     then Some (record { name = named targets (at fs 0); direction = without_blanks (at fs 1) })
     else None)
@@ -52,7 +52,7 @@ begins_at targets (a ∷ rest) =
     rw (ne_eqb (length (a ∷ rest)) 0 (λ e. absurd (omega (arith, e)))) refl
 
 -- A row with two columns is these.
-pub row-is : (row : List (List ℕ)) (c : Fields) → columns_of row ≡ Some c
+pub row-is : (row : List (List ℕ)) (c : TwoColumns) → two_columns_of row ≡ Some c
     → row ≡ c.name ∷ c.direction ∷ []
 row-is (a ∷ b ∷ []) c e = cc
 row-is row c e = cc e

@@ -5,10 +5,19 @@ use lib.IntN.{neg_ℤ}
 use Rattle.std.specs.Char.{is_ascii_digit}
 use Rattle.std.specs.List.{list_all, position}
 use Rattle.std.specs.Str.Parse.{digits_value}
+use Rattle.sheet_format.specs.Numbers.{zero_digit}
+
+-- The decimal point.
+abbrev pub point : ℕ
+point = 46
+
+-- The decimal comma.
+abbrev pub comma : ℕ
+comma = 44
 
 -- A decimal point, or a decimal comma.
 abbrev pub is_mark : ℕ → Bool
-is_mark b = (b == 46) || (b == 44)
+is_mark b = (b == point) || (b == comma)
 
 -- The place of the decimal point or comma of a number, or its end.
 abbrev pub mark_of : List ℕ → ℕ
@@ -34,7 +43,8 @@ is_whole digits = nat_le (length digits) 3 && list_all is_ascii_digit digits
 -- Any number of digits after it, of which those after the ninth are 0.
 abbrev pub is_fraction : List ℕ → Bool
 is_fraction digits =
-    list_all is_ascii_digit (take 9 digits) && list_all (λ digit. digit == 48) (drop 9 digits)
+    list_all is_ascii_digit (take 9 digits)
+    && list_all (λ digit. digit == zero_digit) (drop 9 digits)
 
 -- A number without its sign: digits before the point, after it or both (profile).
 abbrev pub is_size : List ℕ → Bool

@@ -7,7 +7,7 @@ use Rattle.std.specs.List.{list_all}
 use Rattle.std.specs.Str.Parse.{digits_value}
 use Rattle.sheet_format.specs.Rows.{records_of}
 use Rattle.direction_table.specs.Faults.{HasNoFault}
-use Rattle.direction_table.specs.Gons.{signed}
+use Rattle.direction_table.specs.Gons.{point, signed}
 use Rattle.direction_table.specs.Rows.{beside_name}
 use Rattle.direction_table.specs.Tables.{stated_by}
 use Rattle.adjust_kernel.specs.declared.units.TheConstants.{CIRCLE, PARTS}
@@ -21,7 +21,7 @@ minus negative = if negative then 45 ∷ [] else []
 -- A point and the decimals after it, or nothing.
 abbrev pub after_point : List ℕ → List ℕ
 after_point [] = []
-after_point (digit ∷ digits) = 46 ∷ digit ∷ digits
+after_point (digit ∷ digits) = point ∷ digit ∷ digits
 
 -- The number of digits before and after a point, in units of the ninth decimal.
 abbrev pub plain_size : List ℕ → List ℕ → ℕ

@@ -6,18 +6,18 @@ use Rattle.direction_table.specs.declared.columns.Columns.{Columns}
 use Rattle.direction_table.specs.declared.unit.AngleUnit.{AngleUnit}
 
 -- The fields of a row that has two columns.
-pub record Fields : Type 0 where
+pub record TwoColumns : Type 0 where
   pub name : List ℕ
   pub direction : List ℕ
 
 -- The columns of a record, where it has two fields.
-abbrev pub columns_of : List (List ℕ) → Option Fields
-columns_of (a ∷ b ∷ []) = Some (record { name = a; direction = b })
-columns_of _ = None
+abbrev pub two_columns_of : List (List ℕ) → Option TwoColumns
+two_columns_of (a ∷ b ∷ []) = Some (record { name = a; direction = b })
+two_columns_of _ = None
 
 -- The same, of the columns in memory.
-abbrev pub columns_view : Columns → Fields
-columns_view c = record { name = c.name.now; direction = c.direction.now }
+abbrev pub two_columns_view : Columns → TwoColumns
+two_columns_view c = record { name = c.name.now; direction = c.direction.now }
 
 -- The name of a row.
 abbrev pub name_of : List (List ℕ) → List ℕ

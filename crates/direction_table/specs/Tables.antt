@@ -3,7 +3,8 @@
 use Rattle.std.specs.Prelude.{◌≡◌, ◌⊎◌, ℕ, ◌≤◌, ◌<◌, ◌+◌, List, length, map, slice_index_or, ℤ}
 use Rattle.std.specs.Prelude.{Option, Some, None}
 use Rattle.adjust_kernel.specs.Firsts.{IsFirstWhere}
-use Rattle.direction_table.specs.Faults.{HasNoFault, IsFirstFaultOfTable}
+use Rattle.sheet_format.specs.RowFaults.{IsFirstFault}
+use Rattle.direction_table.specs.Faults.{HasNoFault, table_rules}
 use Rattle.direction_table.specs.Rows.{direction_in}
 use Rattle.direction_table.specs.Separators.{rows_of}
 use Rattle.direction_table.specs.declared.fault.TableFault.{TableFault}
@@ -40,15 +41,16 @@ abbrev pub IsTableFault : AngleUnit → List (List ℕ) → List ℕ → TableFa
 IsTableFault unit targets bytes TooLong = LONGEST_TABLE < length bytes
 IsTableFault unit targets bytes (Row number kind) =
     (length bytes ≤ LONGEST_TABLE) × (place : ℕ) × (number ≡ place + 1)
-    × IsFirstFaultOfTable unit targets (rows_of targets bytes) place kind
+    × IsFirstFault (table_rules unit targets) (rows_of targets bytes) place kind
 IsTableFault unit targets bytes (Missing number) =
     (length bytes ≤ LONGEST_TABLE) × HasNoFault unit targets (rows_of targets bytes)
     × IsFirstMissing (stated_by unit (rows_of targets bytes) targets) number
 IsTableFault unit targets bytes Memory = ⊥
 
 -- A refusal is the fault of the bytes, or memory ran out.
-abbrev pub IsFaultOrMemory : AngleUnit → List (List ℕ) → List ℕ → TableFault → Type 0
-IsFaultOrMemory unit targets bytes fault = IsTableFault unit targets bytes fault ⊎ (fault ≡ Memory)
+abbrev pub IsTableFaultOrMemory : AngleUnit → List (List ℕ) → List ℕ → TableFault → Type 0
+IsTableFaultOrMemory unit targets bytes fault =
+    IsTableFault unit targets bytes fault ⊎ (fault ≡ Memory)
 
 -- A refusal names the first place at which no direction is stated, or memory ran out.
 abbrev pub IsMissingOrMemory : List (Option ℤ) → TableFault → Type 0

@@ -2,6 +2,8 @@
 use Rattle.std.specs.Prelude.{◌≡◌, ℕ, zero, suc, ◌+◌, ◌-◌, ◌^◌, ◌/◌, ◌%◌, ◌≤◌, ◌<◌, List, [], ◌∷◌}
 use Rattle.std.specs.Prelude.{◌++◌}
 use Rattle.std.specs.Fmt.{decimal}
+use Rattle.sheet_format.specs.Numbers.{zero_digit}
+use Rattle.direction_table.specs.Gons.{point}
 use Rattle.direction_table.specs.declared.decimals.TheConstants.{MOST_WRITTEN}
 use Rattle.adjust_kernel.specs.declared.units.TheConstants.{CIRCLE}
 
@@ -9,12 +11,12 @@ use Rattle.adjust_kernel.specs.declared.units.TheConstants.{CIRCLE}
 abbrev pub decimals_of : ℕ → ℕ → List ℕ
 decimals_of zero direction = []
 decimals_of (suc k) direction =
-    decimals_of k direction ++ ((48 + direction / 10 ^ (8 - k) % 10) ∷ [])
+    decimals_of k direction ++ ((zero_digit + direction / 10 ^ (8 - k) % 10) ∷ [])
 
 -- A direction as text: the gon, a point, and so many decimals (profile).
 abbrev pub direction_text : ℕ → ℕ → List ℕ
 direction_text count direction =
-    decimal (direction / 10 ^ 9) ++ (46 ∷ decimals_of count direction)
+    decimal (direction / 10 ^ 9) ++ (point ∷ decimals_of count direction)
 
 -- How many decimals are written: 1 to 8 (profile).
 abbrev pub AreDecimals : ℕ → Type 0

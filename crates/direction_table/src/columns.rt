@@ -4,7 +4,7 @@ ghost use Rattle.std.specs.Prelude.{◌≡◌, option_map};
 ghost use Rattle.csv.specs.Records.{fields_of};
 ghost use Rattle.direction_table.specs.Faults as faults;
 ghost use Rattle.direction_table.specs.FieldForms.{tidy};
-ghost use Rattle.direction_table.specs.Rows.{columns_of, columns_view};
+ghost use Rattle.direction_table.specs.Rows.{two_columns_of, two_columns_view};
 
 use crate::direction::Direction;
 use crate::field::{are_blank_from, field, has_target, named, without_blanks};
@@ -26,8 +26,8 @@ impl<'a> Columns<'a> {
     /// The columns of a row, if it has two, and after them none that isn't blank.
     #[tactic(auto, using(crate::proofs::TwoColumns::columns_tidy))]
     pub(crate) fn of(targets: &[Name], row: &'a ByteRecord) -> Option<Columns<'a>>
-        ensures { option_map columns_view result
-            ≡ columns_of (tidy targets.now (fields_of row.now)) }
+        ensures { option_map two_columns_view result
+            ≡ two_columns_of (tidy targets.now (fields_of row.now)) }
     {
         if row.len() < COLUMNS {
             return None;

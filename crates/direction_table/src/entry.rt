@@ -9,7 +9,7 @@ ghost use Rattle.sheet_format.specs.Faults.{is_name};
 ghost use Rattle.direction_table.specs.Faults as faults;
 ghost use Rattle.direction_table.specs.Directions as spec;
 ghost use Rattle.direction_table.specs.FieldForms.{has_name};
-ghost use Rattle.direction_table.specs.Rows.{columns_view};
+ghost use Rattle.direction_table.specs.Rows.{two_columns_view};
 
 use crate::columns::Columns;
 use crate::direction::{CIRCLE_PARTS, COARSEST_STEP, Direction};
@@ -85,20 +85,20 @@ pub(crate) fn entry_of(
     targets: &[Name],
 ) -> Result<Entry, RowKind>
     ensures faultless { OnOk result
-        (faults.entry_fault unit targets.now (columns_view columns.now) ≡ None) }
+        (faults.entry_fault unit targets.now (two_columns_view columns.now) ≡ None) }
     ensures inside { IfOk result (λ entry. entry.place < length targets.now) }
     ensures name { IfOk result
-        (λ entry. slice_index_or targets.now entry.place [] ≡ (columns_view columns.now).name) }
+        (λ entry. slice_index_or targets.now entry.place [] ≡ (two_columns_view columns.now).name) }
     ensures form { OnOk result
-        (spec.is_direction unit (columns_view columns.now).direction ≡ true) }
+        (spec.is_direction unit (two_columns_view columns.now).direction ≡ true) }
     ensures direction { IfOk result (λ entry. entry.stated.direction
-        ≡ spec.direction_value unit (columns_view columns.now).direction) }
+        ≡ spec.direction_value unit (two_columns_view columns.now).direction) }
     ensures step { IfOk result (λ entry. entry.stated.step
-        ≡ spec.step_in unit (columns_view columns.now).direction) }
+        ≡ spec.step_in unit (two_columns_view columns.now).direction) }
     ensures bound { IfOk result (λ entry. IsWithin (pos CIRCLE_PARTS) entry.stated.direction) }
     ensures small_step { IfOk result (λ entry. entry.stated.step ≤ COARSEST_STEP) }
     ensures fault { IfErr result
-        (λ kind. faults.entry_fault unit targets.now (columns_view columns.now) ≡ Some kind) }
+        (λ kind. faults.entry_fault unit targets.now (two_columns_view columns.now) ≡ Some kind) }
 {
     let name = name_of(columns.name).ok_or(RowKind::Name)?;
     let stated = direction_of(unit, columns.direction)?;

@@ -1,7 +1,8 @@
 //! Why bytes are no table of directions.
 
 ghost use Rattle.std.specs.Prelude.{◌≡◌, ◌≤◌, length};
-ghost use Rattle.direction_table.specs.FaultNames.{row_kind_name, table_fault_name};
+ghost use Rattle.adjust_kernel.specs.declared.bounds.TheConstants.{LONGEST_FAULT_NAME};
+ghost use Rattle.direction_table.specs.FaultNames.{table_row_kind_name, table_fault_name};
 ghost use Rattle.direction_table.specs.declared.fault.TableFault.TheVariants.{Memory};
 
 use crate::reading::LONGEST_TABLE;
@@ -38,8 +39,8 @@ pub enum RowKind {
 impl RowKind {
     /// Its name, as the line of a refusal has it.
     pub fn name(self) -> &'static str
-        ensures name { result.now ≡ row_kind_name self }
-        ensures short { length result.now ≤ 16 }
+        ensures name { result.now ≡ table_row_kind_name self }
+        ensures short { length result.now ≤ LONGEST_FAULT_NAME }
     {
         match self {
             RowKind::Fields => "Fields",
@@ -73,7 +74,7 @@ impl TableFault {
     /// Its name, as the line of a refusal has it.
     pub fn name(self) -> &'static str
         ensures name { result.now ≡ table_fault_name self }
-        ensures short { length result.now ≤ 16 }
+        ensures short { length result.now ≤ LONGEST_FAULT_NAME }
     {
         match self {
             TableFault::TooLong => "TooLong",

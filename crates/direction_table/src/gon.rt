@@ -5,6 +5,7 @@ ghost use Rattle.std.specs.Prelude.{false, IfSome, IfNone, OnSome};
 ghost use Rattle.std.specs.Char.{is_ascii_digit};
 ghost use Rattle.std.specs.List.{list_all, position};
 ghost use Rattle.std.specs.Str.Parse.{digits_value};
+ghost use Rattle.sheet_format.specs.Numbers.{zero_digit};
 ghost use Rattle.direction_table.specs.Gons as spec;
 
 use sheet_format::of_digits;
@@ -44,7 +45,7 @@ pub(crate) fn whole_of(digits: &[u8]) -> Option<u64>
 
 /// Whether these digits are all 0.
 fn are_zeros(digits: &[u8]) -> bool
-    ensures { result ≡ list_all (λ digit. digit == 48) digits.now }
+    ensures { result ≡ list_all (λ digit. digit == zero_digit) digits.now }
 {
     digits.iter().all(|digit| *digit == b'0')
 }

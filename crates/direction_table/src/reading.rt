@@ -11,8 +11,8 @@ ghost use Rattle.direction_table.specs.Faults as faults;
 ghost use Rattle.direction_table.specs.Faults.{HasNoFault};
 ghost use Rattle.direction_table.specs.FieldForms.{tidy};
 ghost use Rattle.direction_table.specs.Separators.{rows_of};
-ghost use Rattle.direction_table.specs.Tables.{IsFaultOrMemory, IsMissingOrMemory, IsTableFault};
-ghost use Rattle.direction_table.specs.Tables.{IsTableText, stated_by};
+ghost use Rattle.direction_table.specs.Tables.{IsMissingOrMemory, IsTableFault};
+ghost use Rattle.direction_table.specs.Tables.{IsTableFaultOrMemory, IsTableText, stated_by};
 ghost use Rattle.direction_table.specs.UsualLimits as spec;
 ghost use Rattle.direction_table.specs.declared.fault.TableFault.{TableFault};
 ghost use Rattle.direction_table.specs.declared.fault.TableFault.TheVariants.{Memory};
@@ -45,7 +45,7 @@ pub fn read_table(
     requires { AreTargets targets.now }
     ensures table { IfOk result (λ directions.
         IsTableText unit targets.now bytes.now directions.items) }
-    ensures fault { IfErr result (IsFaultOrMemory unit targets.now bytes.now) }
+    ensures fault { IfErr result (IsTableFaultOrMemory unit targets.now bytes.now) }
 
     // Bytes that are a table, and bytes with a fault, get no other answer, unless memory ran out.
     ensures stands { (directions : List ℤ) → IsTableText unit targets.now bytes.now directions
@@ -64,7 +64,7 @@ pub struct StatedTable {
     pub directions: Vec<i64>,
     /// The limit of a comparison that is usual for the steps to which its rows round their
     /// directions, in units of 0.000001 gon: 10, or half the coarsest step, rounded up, and 1,
-    /// where that is more. A whole number of gon or degrees is taken as it stands.
+    /// where that is more. A whole number of gon or degrees, as 0 or 0.0, is taken as it stands.
     pub usual_within: u32,
 }
 
@@ -80,7 +80,7 @@ pub fn read_stated_table(
         IsTableText unit targets.now bytes.now stated.directions.items) }
     ensures usual_within { IfOk result (λ stated.
         stated.usual_within ≡ spec.usual_within unit (rows_of targets.now bytes.now)) }
-    ensures fault { IfErr result (IsFaultOrMemory unit targets.now bytes.now) }
+    ensures fault { IfErr result (IsTableFaultOrMemory unit targets.now bytes.now) }
 {
     if bytes.len() > LONGEST_TABLE {
         return Err(TableFault::TooLong);
@@ -116,7 +116,7 @@ fn read_rows(
         ≡ stated_by unit (rows_of targets.now bytes.now) targets.now) }
     ensures usual_within { IfOk result (λ stated. stated.usual_within
         ≡ spec.usual_within unit (rows_of targets.now bytes.now)) }
-    ensures fault { IfErr result (IsFaultOrMemory unit targets.now bytes.now) }
+    ensures fault { IfErr result (IsTableFaultOrMemory unit targets.now bytes.now) }
 {
     let separator = separator_of(alloc, targets, bytes)?;
     let mut records = Records::of(alloc, separator, bytes);

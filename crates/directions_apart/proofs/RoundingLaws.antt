@@ -9,7 +9,7 @@ use Rattle.adjust_kernel.specs.Residuals.{Choice}
 use Rattle.adjust_kernel.specs.Within.{IsWithin}
 use Rattle.directions_apart.specs.Apart.{AreBroughtNear, IsApart}
 use Rattle.directions_apart.specs.Arcs.{IsWayRound}
-use Rattle.directions_apart.specs.Rounding.{IsRounded, from_first, twice_more}
+use Rattle.directions_apart.specs.Rounding.{IsRounded, from_first, twice_more_than_direction}
 use Rattle.adjust_kernel.specs.declared.units.TheConstants.{CIRCLE}
 use Rattle.directions_apart.proofs.ApartLaws.{AreTurned}
 use Rattle.directions_apart.proofs.ArcLaws.{no_circle}
@@ -29,7 +29,8 @@ rounded_is c t step n x some whole way low high =
     let left = n * step % CIRCLE in
     let parts : d * (q * 400_000_000_000 + left) ≡ d * (n * step) = ap (λ m. d * m) (omega arith) in
     let there = way.there in
-    let is : twice_more c t left (pos q -ℤ way.turns) ≡ pos (2 * (n * (d * step))) -ℤ pos (2 * x) =
+    let is : twice_more_than_direction c t left (pos q -ℤ way.turns)
+    ≡ pos (2 * (n * (d * step))) -ℤ pos (2 * x) =
     simp products (omega (arith, ints, parts)) in
     record {
       whole = mod-mod_of_dvd step (n * step) (dvd_of_mod-eq-zero step whole) ∙ mul-mod_left n step;
@@ -72,7 +73,7 @@ one_rounded c t step a b positive some whole ra rb =
 pub rounded_of_0 : (c : Choice) (t step rounded : ℕ) → 1 ≤ c.denominator → 1 ≤ step
     → CIRCLE % step ≡ 0 → c.direction t ≡ pos 0 → IsRounded c t step rounded → rounded ≡ 0
 rounded_of_0 c t step rounded positive some whole at_0 r =
-    let here : twice_more c t 0 (pos 0) ≡ pos 0 = rw at_0 (omega (arith, ints)) in
+    let here : twice_more_than_direction c t 0 (pos 0) ≡ pos 0 = rw at_0 (omega (arith, ints)) in
     let large = mul-le-mul some positive in
     one_rounded c t step rounded 0 positive some whole r (record {
       whole = omega arith;
@@ -87,7 +88,8 @@ pub rounded_near : (targets step : ℕ) (c : Choice) (stated : ℕ → ℕ)
     → ((t : ℕ) → t < targets → IsRounded c t step (stated t))
     → AreBroughtNear targets c (λ t. pos (81 * stated t)) (81 * step)
 rounded_near targets step c stated each =
-    let known = chosen (λ t k. IsWithin (pos (step * c.denominator)) (twice_more c t (stated t) k))
+    let known = chosen (λ t k. IsWithin (pos (step * c.denominator))
+    (twice_more_than_direction c t (stated t) k))
     targets (λ t h. let low = (each t h).low in let high = (each t h).high in
     ((each t h).circles, omega (arith, ints))) in
     record {
@@ -154,8 +156,8 @@ as_rounded targets c other t step rounded some others steps inside s at_0 r =
     let d = c.denominator in
     let e = other.denominator in
     let circles = r.circles +ℤ (s.turns t -ℤ s.turns 0) in
-    let y = twice_more (from_first other) t rounded circles in
-    let z = twice_more c t rounded r.circles in
+    let y = twice_more_than_direction (from_first other) t rounded circles in
+    let z = twice_more_than_direction c t rounded r.circles in
     let f = simp products at (s.directions t inside) in
     let g = simp products at (s.directions 0 (omega (arith, inside))) in
     let first : pos e *ℤ c.direction 0 ≡ pos 0 =

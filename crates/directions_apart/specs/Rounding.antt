@@ -6,8 +6,8 @@ use Rattle.adjust_kernel.specs.declared.units.TheConstants.{CIRCLE, HALF_UNIT}
 
 -- twice what a rounded direction is more than a choice's, with so many full circles: in 0.000000001
 -- gon times the denominator
-abbrev pub twice_more : Choice → ℕ → ℕ → ℤ → ℤ
-twice_more c t rounded circles =
+abbrev pub twice_more_than_direction : Choice → ℕ → ℕ → ℤ → ℤ
+twice_more_than_direction c t rounded circles =
     pos 2 *ℤ ((pos c.denominator *ℤ pos rounded -ℤ pos HALF_UNIT *ℤ c.direction t)
     +ℤ pos (c.denominator * CIRCLE) *ℤ circles)
 
@@ -17,8 +17,8 @@ pub record IsRounded (c : Choice) (t step rounded : ℕ) : Type 0 where
   pub whole : rounded % step ≡ 0
   pub below : rounded < CIRCLE
   pub circles : ℤ
-  pub low : neg_ℤ (pos (step * c.denominator)) <ℤ twice_more c t rounded circles
-  pub high : twice_more c t rounded circles ≤ℤ pos (step * c.denominator)
+  pub low : neg_ℤ (pos (step * c.denominator)) <ℤ twice_more_than_direction c t rounded circles
+  pub high : twice_more_than_direction c t rounded circles ≤ℤ pos (step * c.denominator)
 
 -- a choice with its directions counted from that of the first target
 abbrev pub from_first : Choice → Choice

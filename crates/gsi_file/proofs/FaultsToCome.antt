@@ -24,14 +24,15 @@ next_at_fault before after room line used room' hand hand' false kind e fault =
 pub fault_to_come : (state : State) (count room room' : ℕ) (hand hand' rest : List ℕ)
     (before after : Told) (f : FoundLine) (kind : FileKind)
     → settled_in state ≡ false → count + 1 ≤ LONGEST_FILE
-    → FindsLine before after room hand hand' f.line f.used f.room f.last
-    → IsFileFault (take f.line hand') kind
+    → FindsLine before after room hand hand' f.line_length f.used f.room f.last
+    → IsFileFault (take f.line_length hand') kind
     → IfSome (comes_in state count room hand (Some before)).answers (λ a. FaultIsNext a kind)
     × ((comes_in state count room' rest (Some after)).number
     ≡ (comes_in state count room hand (Some before)).number)
     × ((comes_in state count room hand (Some before)).number + 1 ≤ LONGEST_FILE)
 fault_to_come Open count room room' hand hand' rest before after f kind unsettled fits found fault =
-    let next = next_at_fault before after room f.line f.used f.room hand hand' f.last kind found
+    let next = next_at_fault before after room f.line_length f.used f.room hand hand' f.last kind
+    found
     fault in (next, refl, fits)
 fault_to_come End count room room' hand hand' rest before after f kind unsettled fits found fault =
     cc

@@ -222,7 +222,7 @@ pub found_ended : (room left line used : ℕ) (printable : Bool) (h : List ℕ) 
     → (printable ≡ true → All IsLineByte (take line h)) → IsUsedUp line used h
     → Searching room left line h →
     IsFound room h (record {
-      line = line;
+      line_length = line;
       used = used;
       room = left - used;
       last = false;
@@ -263,7 +263,7 @@ finds_ended a b room h0 left line used h lt less inside fits end line_there next
 pub found_at_end : (b c : Told) (room left line : ℕ) (h h' : List ℕ) (n : ℕ) → line ≡ length h
     → is_line (take line h') ≡ true → Searching room left line h → Grows b c h h' n →
     IsFound room h' (record {
-      line = line;
+      line_length = line;
       used = line;
       room = 0;
       last = true;

@@ -16,11 +16,11 @@ answers_in room hand told = answers_within room (hand ++ told.bytes) told.fails
 -- may be taken, or all. Where it is not the last, a byte of those in hand ends it. Where its bytes
 -- are said to be printable, they are.
 pub record IsFound (room : ℕ) (hand : List ℕ) (f : FoundLine) : Type 0 where
-  pub line : f.line ≤ f.used
+  pub line : f.line_length ≤ f.used
   pub used : f.used ≤ length hand
-  pub ended : f.last ≡ false → f.line < f.used
+  pub ended : f.last ≡ false → f.line_length < f.used
   pub takes : (f.room + 1) / 2 < (room + 1) / 2
-  pub printable : f.printable ≡ true → All IsLineByte (take f.line hand)
+  pub printable : f.printable ≡ true → All IsLineByte (take f.line_length hand)
 
 -- The line found at the front of what is in hand is the first to come, and where it is the last the
 -- end comes after it.
@@ -34,7 +34,7 @@ FindsLine before after room hand hand' line used room' false =
 -- A line was found, or the end, or a fault of the file.
 abbrev pub Finds : Told → Told → ℕ → List ℕ → List ℕ → Result (Option FoundLine) FileKind → Type 0
 Finds before after room hand hand' (Ok (Some f)) =
-    FindsLine before after room hand hand' f.line f.used f.room f.last
+    FindsLine before after room hand hand' f.line_length f.used f.room f.last
 Finds before after room hand hand' (Ok None) = answers_in room hand before ≡ only None
 Finds before after room hand hand' (Err kind) = answers_in room hand before ≡ only (Some kind)
 

@@ -4,7 +4,7 @@ use Rattle.gsi_file.specs.declared.window.Window.{Window}
 
 -- The line that was found.
 abbrev pub line_in_window : Window → List ℕ
-line_in_window w = take w.line w.buffer
+line_in_window w = take w.line_length w.buffer
 
 -- The bytes that no line has used up.
 abbrev pub unused : Window → List ℕ

@@ -19,7 +19,7 @@ use byte_ends::Source;
 #[derive(Clone, Copy)]
 pub(crate) struct FoundLine {
     /// How many bytes it has.
-    pub(crate) line: usize,
+    pub(crate) line_length: usize,
     /// How many bytes are used up with it: the byte that ends it, too, and a line feed after that.
     pub(crate) used: usize,
     /// How many bytes of the file may be taken after it.
@@ -34,7 +34,7 @@ pub(crate) struct FoundLine {
 fn ended(end: LineEnd, used: usize, left: usize) -> FoundLine
     requires { used ≤ left }
     ensures { result ≡ record {
-      line = end.place;
+      line_length = end.place;
       used = used;
       room = left - used;
       last = false;
@@ -42,7 +42,7 @@ fn ended(end: LineEnd, used: usize, left: usize) -> FoundLine
     } }
 {
     FoundLine {
-        line: end.place,
+        line_length: end.place,
         used,
         room: left - used,
         last: false,
@@ -51,18 +51,18 @@ fn ended(end: LineEnd, used: usize, left: usize) -> FoundLine
 }
 
 /// A line that the source has ended with.
-fn at_end(line: usize) -> FoundLine
+fn at_end(line_length: usize) -> FoundLine
     ensures { result ≡ record {
-      line = line;
-      used = line;
+      line_length = line_length;
+      used = line_length;
       room = 0;
       last = true;
       printable = false;
     } }
 {
     FoundLine {
-        line,
-        used: line,
+        line_length,
+        used: line_length,
         room: 0,
         last: true,
         printable: false,

@@ -11,10 +11,10 @@ use crate::search::FoundLine;
 pub(crate) struct Window {
     pub(crate) buffer: Buffer,
     /// How many bytes the line has.
-    line: usize,
+    line_length: usize,
     /// How many bytes are used up with it.
     used: usize,
-    ghost inner: { line ≤ used },
+    ghost inner: { line_length ≤ used },
     ghost held: { used ≤ length buffer },
 }
 
@@ -29,7 +29,7 @@ impl Window {
     {
         Window {
             buffer,
-            line: 0,
+            line_length: 0,
             used: 0,
         }
     }
@@ -38,7 +38,7 @@ impl Window {
     pub(crate) fn line(&self) -> &[u8]
         ensures { result.now ≡ line_in_window self.now }
     {
-        self.buffer.front(self.line)
+        self.buffer.front(self.line_length)
     }
 
     /// Drops the line that was found, so that another can be.
@@ -47,19 +47,19 @@ impl Window {
         ensures none { self.new.used ≡ 0 }
     {
         self.buffer.drop_front(self.used);
-        self.line = 0;
+        self.line_length = 0;
         self.used = 0;
     }
 
     /// Sets the line that was found at the front.
     pub(crate) fn set_line(&mut self, found: FoundLine)
-        requires inner { found.line ≤ found.used }
+        requires inner { found.line_length ≤ found.used }
         requires held { found.used ≤ length self.old.buffer }
         ensures kept { self.new.buffer ≡ self.old.buffer }
-        ensures line { line_in_window self.new ≡ take found.line self.old.buffer }
+        ensures line { line_in_window self.new ≡ take found.line_length self.old.buffer }
         ensures unused { unused self.new ≡ drop found.used self.old.buffer }
     {
-        self.line = found.line;
+        self.line_length = found.line_length;
         self.used = found.used;
     }
 }

@@ -9,7 +9,7 @@ use Rattle.gsi_word.specs.declared.angle.AngleFault.{AngleFault}
 use Rattle.gsi_word.specs.declared.angle.AngleFault.TheVariants.{Unit as WrongUnit, InputMode, Sign}
 use Rattle.gsi_word.specs.declared.angle.AngleFault.TheVariants.{Digits, Range}
 use Rattle.gsi_word.specs.declared.angle.TheConstants.{LAST_UNIT}
-use Rattle.gsi_word.specs.Bytes.{zero_digit}
+use Rattle.gsi_word.specs.Bytes.{point, zero_digit}
 use Rattle.gsi_word.specs.Words.{GsiWord}
 
 -- The number that decimal digits write.
@@ -26,7 +26,7 @@ is_gon b = b == 50
 
 -- Whether this byte, the third of the information, is `.`, `0`, `2` or `3`.
 abbrev pub is_input_mode : ℕ → Bool
-is_input_mode b = (b == 46 || b == 48) || (b == 50 || b == 51)
+is_input_mode b = (b == point || b == zero_digit) || (b == 50 || b == 51)
 
 -- A number of units as an angle: below a full turn.
 abbrev pub angle_within_turn : Option ℕ → Result ℕ AngleFault

@@ -13,6 +13,10 @@ plus = 43
 abbrev pub minus : ℕ
 minus = 45
 
+-- The point, an input mode.
+abbrev pub point : ℕ
+point = 46
+
 -- The first digit, which fills a content from the left.
 abbrev pub zero_digit : ℕ
 zero_digit = 48

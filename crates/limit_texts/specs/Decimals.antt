@@ -4,6 +4,7 @@ use Rattle.std.specs.Prelude.{length, take, drop}
 use Rattle.std.specs.Char.{is_ascii_digit}
 use Rattle.std.specs.List.{list_all}
 use Rattle.std.specs.Str.Parse.{digits_value}
+use Rattle.sheet_format.specs.Numbers.{zero_digit}
 use Rattle.direction_table.specs.Gons.{decimals_part, whole_part}
 
 -- At most nine digits before the point or comma.
@@ -13,7 +14,8 @@ is_whole digits = nat_le (length digits) 9 && list_all is_ascii_digit digits
 -- Any number of digits after it, of which those after the third are 0.
 abbrev pub is_fraction : List ℕ → Bool
 is_fraction digits =
-    list_all is_ascii_digit (take 3 digits) && list_all (λ digit. digit == 48) (drop 3 digits)
+    list_all is_ascii_digit (take 3 digits)
+    && list_all (λ digit. digit == zero_digit) (drop 3 digits)
 
 -- A number without a sign: digits before its point or comma, after it or both (profile).
 abbrev pub is_number : List ℕ → Bool

@@ -5,6 +5,7 @@ ghost use Rattle.std.specs.Prelude.{IfSome, IfNone, OnSome};
 ghost use Rattle.std.specs.Char.{is_ascii_digit};
 ghost use Rattle.std.specs.List.{list_all, position};
 ghost use Rattle.std.specs.Str.Parse.{digits_value};
+ghost use Rattle.sheet_format.specs.Numbers.{zero_digit};
 ghost use Rattle.direction_table.specs.Gons as gons;
 ghost use Rattle.limit_texts.specs.Decimals as spec;
 
@@ -42,7 +43,7 @@ fn whole_of(digits: &[u8]) -> Option<u64>
 
 /// Whether these digits are all 0.
 fn are_zeros(digits: &[u8]) -> bool
-    ensures { result ≡ list_all (λ digit. digit == 48) digits.now }
+    ensures { result ≡ list_all (λ digit. digit == zero_digit) digits.now }
 {
     digits.iter().all(|digit| *digit == b'0')
 }

@@ -23,7 +23,8 @@ use Rattle.adjust_kernel.specs.declared.row.Orientation.{Orientation}
 use Rattle.sheet_format.specs.Numbers.{is_canonical, is_within, natural_of, value_of}
 use Rattle.sheet_format.specs.Faults.{is_set_number, is_circle_value, columns_fault, row_type_fault}
 use Rattle.sheet_format.specs.Faults.{obs_fault, row_fault, set_fault, sheet_row_fault}
-use Rattle.sheet_format.specs.Faults.{target_fault, unless, versioned_fault}
+use Rattle.sheet_format.specs.Faults.{target_fault, versioned_fault}
+use Rattle.sheet_format.specs.RowFaults.{unless}
 use Rattle.sheet_format.specs.Columns.{Fields}
 use Rattle.sheet_format.specs.Drafts.{DraftValue, blank, direction_of, header_of, last_of_draft}
 use Rattle.sheet_format.specs.Drafts.{obs_row_of, orientation_of, rows_of_draft, said_by_draft}

@@ -4,8 +4,7 @@ use Rattle.std.specs.Prelude.{◌⊎◌}
 use Rattle.std.proofs.Common.{◌≡◌, ℕ, ◌<◌, ◌≤◌, Bool, true, false, List, [], ◌∷◌, ◌++◌, length}
 use Rattle.std.proofs.Common.{Option, Some, None, All, get_or, refl, ap, sym, subst, ◌∙◌, arith}
 use Rattle.std.proofs.Common.{inl, inr, ◌==◌, length-append, append_assoc}
-use Rattle.std.proofs.Math.Seq.{drop-append_seam, take-append_seam}
-use Rattle.std.proofs.lemmas.Bool.{cases_Bool, eqb-false, eqb-true}
+use Rattle.std.proofs.lemmas.Bool.{eqb-true}
 use Rattle.std.proofs.lemmas.List.{append-nil}
 use Rattle.adjust_kernel.specs.declared.row.Direction.{Direction}
 use Rattle.adjust_kernel.specs.declared.row.Orientation.{Orientation}
@@ -13,8 +12,8 @@ use Rattle.adjust_kernel.specs.Sheets.{IsDirection, IsOrientation, IsSheet, Shee
 use Rattle.sheet_format.specs.Drafts.{DraftValue, IsOfDraft, HasParts, blank, header_rows}
 use Rattle.sheet_format.specs.Drafts.{last_of_draft, rows_of_draft, said_by_draft, sheet_of_draft}
 use Rattle.sheet_format.specs.Drafts.{version_of_header, with_row}
-use Rattle.sheet_format.specs.Faults.{Before, IsFirstFaultOfRows, NoFaultBefore, fault_at}
-use Rattle.sheet_format.specs.Faults.{fault_between, last_row_type, row_fault, said_by}
+use Rattle.sheet_format.specs.Faults.{Before, last_row_type, row_fault, said_by, sheet_rules}
+use Rattle.sheet_format.specs.RowFaults.{IsFirstFault, NoFaultBefore, fault_between}
 use Rattle.sheet_format.specs.RowTypes.{may_end}
 use Rattle.sheet_format.specs.Rows.{IsOfVersion, IsSheetText, body_rows, records_of, rows_of}
 use Rattle.sheet_format.specs.declared.entry.Header.{Header}
@@ -25,27 +24,8 @@ use Rattle.sheet_format.specs.declared.version.Version.{Version}
 use Rattle.sheet_format.proofs.DraftRows.{IsDirectionOf, IsDraft, IsVersionedHeader}
 use Rattle.sheet_format.proofs.DraftRows.{IsOrientationOf, blank-draft, none-or-some, row-taken}
 use Rattle.sheet_format.proofs.Ranges.{angle-below, denominator-below}
+use Rattle.sheet_format.proofs.RowFaultLaws.{faultless-more, first-here}
 use Rattle.sheet_format.proofs.SaidBy.{said}
-
--- Where rows part, their fault is the one between those before and those left.
-fault_at-seam : (before rest : List (List (List ℕ)))
-    → fault_at (before ++ rest) (length before) ≡ fault_between before rest
-fault_at-seam before rest = rw (take-append_seam before rest, drop-append_seam before rest) refl
-
--- With one more row that has no fault, no place up to it has one.
-faultless-more : (all before rest : List (List (List ℕ))) (row : List (List ℕ))
-    → all ≡ before ++ (row ∷ rest) → NoFaultBefore all (length before)
-    → row_fault (said_by before) row ≡ None
-    → NoFaultBefore all (length (before ++ (row ∷ [])))
-unfolding fault_between
-faultless-more all before rest row whole none here earlier below =
-    elim (cases_Bool (earlier == length before)) [
-      | inl same ↦ ap (fault_at all) (eqb-true _ _ same)
-          ∙ ap (λ (rows : List (List (List ℕ))). fault_at rows (length before)) whole
-          ∙ fault_at-seam before (row ∷ rest) ∙ here
-      | inr other ↦ none earlier (let not = eqb-false _ _ other in
-          omega (arith, not, below, length-append before (row ∷ [])))
-    ]
 
 -- The draft that rows make of a draft.
 abbrev pub drafted : DraftValue → List (List (List ℕ)) → DraftValue
@@ -57,7 +37,7 @@ pub record HasRead (all : List (List (List ℕ))) (d : DraftValue) (rest : List 
     Type 0 where
   pub draft : IsDraft d
   pub rows : all ≡ rows_of_draft d ++ rest
-  pub faultless : NoFaultBefore all (length (rows_of_draft d))
+  pub faultless : NoFaultBefore sheet_rules all (length (rows_of_draft d))
   pub made : drafted blank all ≡ drafted d rest
 
 -- Before the first row the blank draft is what was read, and all rows are left.
@@ -73,16 +53,21 @@ read-begin all = record {
 pub read-more : (all : List (List (List ℕ))) (d e : DraftValue) (row : List (List ℕ))
     (rest : List (List (List ℕ))) → HasRead all d (row ∷ rest)
     → row_fault (said_by_draft d) row ≡ None → e ≡ with_row d row → HasRead all e rest
+unfolding fault_between
 read-more all d e row rest read none same =
     let taken = row-taken d row read.draft none in
     let here : row_fault (said_by (rows_of_draft d)) row ≡ None =
     rw (said d read.draft.bare) none in
-    let more = faultless-more all (rows_of_draft d) rest row read.rows read.faultless here in
+    let more : NoFaultBefore sheet_rules all (length (rows_of_draft d ++ (row ∷ []))) =
+    λ earlier below. faultless-more sheet_rules all (rows_of_draft d) (row ∷ rest) read.rows
+    read.faultless here earlier
+    (omega (arith, below, length-append (rows_of_draft d) (row ∷ []))) in
     subst (λ (x : DraftValue). HasRead all x rest) (sym same) (record {
       draft = taken.draft;
       rows = read.rows ∙ sym (append_assoc (rows_of_draft d) (row ∷ []) rest)
           ∙ ap (λ (rows : List (List (List ℕ))). rows ++ rest) (sym taken.rows);
-      faultless = subst (λ (rows : List (List (List ℕ))). NoFaultBefore all (length rows))
+      faultless =
+          subst (λ (rows : List (List (List ℕ))). NoFaultBefore sheet_rules all (length rows))
           (sym taken.rows) more;
       made = read.made;
     })
@@ -91,16 +76,12 @@ read-more all d e row rest read none same =
 pub read-fault : (all : List (List (List ℕ))) (d : DraftValue) (row : List (List ℕ))
     (rest : List (List (List ℕ))) (k : RowKind) → HasRead all d (row ∷ rest)
     → row_fault (said_by_draft d) row ≡ Some k
-    → IsFirstFaultOfRows all (length (rows_of_draft d)) k
+    → IsFirstFault sheet_rules all (length (rows_of_draft d)) k
 unfolding fault_between
 read-fault all d row rest k read found =
     let here : row_fault (said_by (rows_of_draft d)) row ≡ Some k =
     rw (said d read.draft.bare) found in
-    record {
-      here = ap (λ (rows : List (List (List ℕ))). fault_at rows (length (rows_of_draft d)))
-          read.rows ∙ fault_at-seam (rows_of_draft d) (row ∷ rest) ∙ here;
-      before = read.faultless;
-    }
+    first-here sheet_rules all (rows_of_draft d) (row ∷ rest) read.rows read.faultless k here
 
 -- Directions within the range of a version are directions of a sheet.
 directions-below : (v : Version) (ds : List Direction) → All (IsDirectionOf v) ds
@@ -170,17 +151,14 @@ whole-or-not d ok = elim (none-or-some d.rows) [
 -- Where no sheet has the parts of the draft at the end, the end is the first fault.
 pub read-end : (all : List (List (List ℕ))) (d : DraftValue) → HasRead all d []
     → ((s : SheetValue) → IsOfDraft d s → IsSheet s → ⊥)
-    → IsFirstFaultOfRows all (length (rows_of_draft d)) Unfinished
+    → IsFirstFault sheet_rules all (length (rows_of_draft d)) Unfinished
 unfolding fault_between
 read-end all d read no_sheet =
     let unfinished : may_end (last_row_type (rows_of_draft d)) ≡ false =
     rw (ap (λ (b : Before). b.last) (said d read.draft.bare))
     (by (may_end (last_of_draft d)) refl) in
-    record {
-      here = ap (λ (rows : List (List (List ℕ))). fault_at rows (length (rows_of_draft d)))
-          read.rows ∙ fault_at-seam (rows_of_draft d) [] ∙ rw unfinished refl;
-      before = read.faultless;
-    }
+    first-here sheet_rules all (rows_of_draft d) [] read.rows read.faultless Unfinished
+    (rw unfinished refl)
   where
     by : (b : Bool) → may_end (last_of_draft d) ≡ b → may_end (last_of_draft d) ≡ false
     by false e = e

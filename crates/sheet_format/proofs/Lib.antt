@@ -9,6 +9,7 @@ pub mod NameTests
 pub mod Ranges
 pub mod SaidBy
 pub mod DraftRows
+pub mod RowFaultLaws
 pub mod FirstFaults
 pub mod SheetRows
 pub mod OneAnswer

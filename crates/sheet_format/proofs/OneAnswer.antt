@@ -1,16 +1,16 @@
 -- Bytes stand for at most one sheet, have at most one fault, and never both.
-use Rattle.std.proofs.Common.{◌≡◌, ℕ, ◌+◌, ◌<◌, ◌≤◌, true, false, List, [], ◌∷◌, ◌++◌, map, length}
+use Rattle.std.proofs.Common.{◌≡◌, ℕ, ◌+◌, ◌≤◌, true, false, List, [], ◌∷◌, ◌++◌, map, length}
 use Rattle.std.proofs.Common.{Option, Some, None, refl, ap, sym, ◌∙◌, arith, inl, inr, ◌==◌, Result}
 use Rattle.std.proofs.Common.{Ok, Err}
 use Rattle.std.specs.Prelude.{◌⊎◌, nat_lt, IfOk, IfErr}
 use Rattle.std.proofs.lemmas.Bool.{cases_Bool, cases_lt, ltb-false, ltb-true, ne_eqb}
-use Rattle.std.proofs.lemmas.List.{take_all, drop_all}
+use Rattle.std.proofs.lemmas.Option.{none-some}
 use Rattle.adjust_kernel.specs.Sheets.{IsSheet, SheetValue}
 use Rattle.sheet_format.specs.Drafts.{DraftValue, blank, last_of_draft, rows_of_draft}
 use Rattle.sheet_format.specs.Drafts.{said_by_draft, with_row}
-use Rattle.sheet_format.specs.Faults.{Before, IsFaultOrMemory, IsFirstFaultOfRows, IsSheetFault}
-use Rattle.sheet_format.specs.Faults.{fault_at}
-use Rattle.sheet_format.specs.Faults.{fault_between, last_row_type, row_fault}
+use Rattle.sheet_format.specs.Faults.{Before, IsSheetFaultOrMemory, IsSheetFault, last_row_type}
+use Rattle.sheet_format.specs.Faults.{row_fault, sheet_rules}
+use Rattle.sheet_format.specs.RowFaults.{fault_at}
 use Rattle.sheet_format.specs.RowTypes.{may_end}
 use Rattle.sheet_format.specs.Rows.{IsOfVersion, IsSheetText, body_rows, obs_fields, records_of}
 use Rattle.sheet_format.specs.Rows.{rows_of, set_fields, sheet_fields}
@@ -23,6 +23,7 @@ use Rattle.sheet_format.specs.declared.reading.TheConstants.{LONGEST_SHEET}
 use Rattle.sheet_format.specs.declared.version.Version.{Version}
 use Rattle.sheet_format.proofs.FirstFaults.{HasRead, drafted, read-begin, read-end, read-fault}
 use Rattle.sheet_format.proofs.FirstFaults.{read-more, read-whole, whole-or-not}
+use Rattle.sheet_format.proofs.RowFaultLaws.{past-end, same-kind, same-place}
 use Rattle.sheet_format.proofs.SaidBy.{said}
 use Rattle.sheet_format.proofs.SheetRows.{draft, obs-read, sets-read, sheet-row-clean, targets-read}
 
@@ -62,17 +63,12 @@ clean-end v s whole =
     rw (last, some) refl
 
 clean : (v : Version) (s : SheetValue) → IsSheet s → IsOfVersion v s → (place : ℕ)
-    → fault_at (rows_of v s) place ≡ None
-unfolding fault_between
+    → fault_at sheet_rules (rows_of v s) place ≡ None
 clean v s whole within place = elim (cases_Bool (nat_lt place (length (rows_of v s)))) [
   | inl before ↦ (sheet-read v s whole within).faultless place (ltb-true _ _ before)
   | inr after ↦ let past = ltb-false _ _ after in
-      rw (take_all place (rows_of v s) past, drop_all place (rows_of v s) past, clean-end v s whole)
-      refl
+      past-end sheet_rules (rows_of v s) place past ∙ rw (clean-end v s whole) refl
 ]
-
-none-some : {A : Type 0} (x : A) → None ≡ Some x → ⊥
-none-some x e = cc e
 
 -- Bytes that stand for a sheet have no fault.
 pub never-both : (bytes : List ℕ) (s : SheetValue) (f : SheetFault) → IsSheetText bytes s
@@ -84,27 +80,8 @@ never-both bytes s (Row number kind) text fault =
     let rows = text.rows in
     let within = text.within in
     none-some kind (sym (clean v s text.sheet within place)
-    ∙ ap (λ (all : List (List (List ℕ))). fault_at all place) (sym rows) ∙ found.here)
+    ∙ ap (λ (all : List (List (List ℕ))). fault_at sheet_rules all place) (sym rows) ∙ found.here)
 never-both bytes s Memory text fault = absurd fault
-
--- No first fault of rows stands before another.
-first-of-two : (rows : List (List (List ℕ))) (p q : ℕ) (j k : RowKind) → IsFirstFaultOfRows rows p j
-    → IsFirstFaultOfRows rows q k → p < q → ⊥
-first-of-two rows p q j k one two below = none-some j (sym (two.before p below) ∙ one.here)
-
--- Two first faults of rows stand at one place.
-same-place : (rows : List (List (List ℕ))) (p q : ℕ) (j k : RowKind) → IsFirstFaultOfRows rows p j
-    → IsFirstFaultOfRows rows q k → p ≡ q
-same-place rows p q j k one two =
-    let not_before : p < q → ⊥ = first-of-two rows p q j k one two in
-    let not_after : q < p → ⊥ = first-of-two rows q p k j two one in
-    omega (arith, not_before, not_after)
-
-same-kind : (rows : List (List (List ℕ))) (p q : ℕ) (j k : RowKind) → IsFirstFaultOfRows rows p j
-    → IsFirstFaultOfRows rows q k → p ≡ q → j ≡ k
-same-kind rows p q j k one two same =
-    let both : Some j ≡ Some k = sym one.here ∙ ap (fault_at rows) same ∙ two.here in
-    cc both
 
 -- Bytes have one fault at most.
 pub one-fault : (bytes : List ℕ) (f g : SheetFault) → IsSheetFault bytes f → IsSheetFault bytes g
@@ -116,9 +93,9 @@ one-fault bytes (Row n j) TooLong a b = absurd (omega (arith, b, a.0))
 one-fault bytes (Row n j) (Row m k) a b =
     let (short, p, at_p, one) = a in
     let (short2, q, at_q, two) = b in
-    let place = same-place (records_of bytes) p q j k one two in
+    let place = same-place sheet_rules (records_of bytes) p q j k one two in
     let number : n ≡ m = omega (arith, at_p, at_q, place) in
-    rw (number, same-kind (records_of bytes) p q j k one two place) refl
+    rw (number, same-kind sheet_rules (records_of bytes) p q j k one two place) refl
 one-fault bytes (Row n j) Memory a b = absurd b
 one-fault bytes Memory g a b = absurd a
 
@@ -158,7 +135,7 @@ one-sheet bytes s t a b = sym (made-of bytes s a) ∙ made-of bytes t b
 -- An answer that is right whenever it is a sheet or a fault is the one that the bytes have, or out
 -- of memory.
 pub answers-sheet : (bytes : List ℕ) (r : Result SheetValue SheetFault) → IfOk r (IsSheetText bytes)
-    → IfErr r (IsFaultOrMemory bytes) → (s : SheetValue) → IsSheetText bytes s → (r ≡ Ok s)
+    → IfErr r (IsSheetFaultOrMemory bytes) → (s : SheetValue) → IsSheetText bytes s → (r ≡ Ok s)
     ⊎ (r ≡ Err Memory)
 answers-sheet bytes (Ok t) ok err s text = inl
     (ap (λ (x : SheetValue). Ok x) (one-sheet bytes t s ok text))
@@ -169,7 +146,7 @@ answers-sheet bytes (Err f) ok err s text = elim err [
 
 -- Where the bytes have a fault, such an answer is that fault, or out of memory.
 pub answers-fault : (bytes : List ℕ) (r : Result SheetValue SheetFault) → IfOk r (IsSheetText bytes)
-    → IfErr r (IsFaultOrMemory bytes) → (f : SheetFault) → IsSheetFault bytes f → (r ≡ Err f)
+    → IfErr r (IsSheetFaultOrMemory bytes) → (f : SheetFault) → IsSheetFault bytes f → (r ≡ Err f)
     ⊎ (r ≡ Err Memory)
 answers-fault bytes (Ok t) ok err f fault = absurd (never-both bytes t f ok fault)
 answers-fault bytes (Err g) ok err f fault = elim err [

@@ -1,7 +1,7 @@
 -- The faults of a sheet: of a row by the rows before it, and the first of all.
-use Rattle.std.specs.Prelude.{◌≡◌, ℕ, ◌+◌, ◌<◌, ◌≤◌, Bool, ◌&&◌, ◌==◌, if◌then◌else◌, nat_lt}
-use Rattle.std.specs.Prelude.{nat_le, List, [], ◌∷◌, length, take, drop, ℤ, pos, Option, Some, None}
-use Rattle.std.specs.Prelude.{unwrap_or, option_and_then, ◌-◌, ◌⊎◌}
+use Rattle.std.specs.Prelude.{◌≡◌, ℕ, ◌+◌, ◌<◌, ◌≤◌, Bool, ◌&&◌, ◌==◌, nat_lt, nat_le, List, []}
+use Rattle.std.specs.Prelude.{◌∷◌, length, ℤ, pos, Option, Some, None, unwrap_or, option_and_then}
+use Rattle.std.specs.Prelude.{◌-◌, ◌⊎◌}
 use Rattle.std.specs.Int.{is_in_range}
 use Rattle.std.specs.List.{count_by, last_or, list_all}
 use Rattle.std.specs.Option.{option_map_or, option_or}
@@ -10,6 +10,7 @@ use Rattle.adjust_kernel.specs.declared.bounds.TheConstants.{LONGEST_NAME, MOST_
 use Rattle.adjust_kernel.specs.declared.bounds.TheConstants.{MOST_TARGETS, TURN}
 use Rattle.adjust_kernel.specs.declared.name.TheConstants.{FIRST_PRINTABLE, LAST_PRINTABLE}
 use Rattle.sheet_format.specs.Columns.{Fields, columns_of}
+use Rattle.sheet_format.specs.RowFaults.{IsFirstFault, RowRules, first_fault, unless}
 use Rattle.sheet_format.specs.RowTypes.{row_type_of, may_end, may_follow, names_row_type}
 use Rattle.sheet_format.specs.Numbers.{is_at_most, is_canonical, is_within, value_of}
 use Rattle.sheet_format.specs.Rows.{records_of}
@@ -23,15 +24,6 @@ use Rattle.sheet_format.specs.declared.row_type.RowType.TheVariants as row_type
 use Rattle.sheet_format.specs.declared.reading.TheConstants.{LONGEST_SHEET}
 use Rattle.sheet_format.specs.declared.version.Version.{Version}
 use Rattle.sheet_format.specs.declared.version.Version.TheVariants as version
-
--- a fault, where what is asked for is not so
-abbrev pub unless : Bool → RowKind → Option RowKind
-unless met fault = if met then None else Some fault
-
--- the first fault of a list of tests
-abbrev pub first_fault : List (Option RowKind) → Option RowKind
-first_fault [] = None
-first_fault (test ∷ later) = option_or test (first_fault later)
 
 -- whether a field has no byte
 abbrev pub is_empty : List ℕ → Bool
@@ -163,25 +155,12 @@ fields_fault b (Some c) = row_type_fault b (row_type_of c.kind) c
 unfoldable pub row_fault : Before → List (List ℕ) → Option RowKind
 row_fault b row = fields_fault b (columns_of row)
 
--- the fault at a place, by the rows before it and those from there on: of the row there, or of the
--- end
-unfoldable pub fault_between : List (List (List ℕ)) → List (List (List ℕ)) → Option RowKind
-fault_between before [] = unless (may_end (last_row_type before)) fault.Unfinished
-fault_between before (row ∷ others) = row_fault (said_by before) row
-
--- the fault at a place of the rows, counted from 0
-abbrev pub fault_at : List (List (List ℕ)) → ℕ → Option RowKind
-fault_at rows place = fault_between (take place rows) (drop place rows)
-
--- no place before this one has a fault
-abbrev pub NoFaultBefore : List (List (List ℕ)) → ℕ → Type 0
-NoFaultBefore rows place = (earlier : ℕ) → earlier < place → fault_at rows earlier ≡ None
-
--- a place has this fault, and none before it has one
-pub record IsFirstFaultOfRows (rows : List (List (List ℕ))) (place : ℕ)
-    (kind : RowKind) : Type 0 where
-  pub here : fault_at rows place ≡ Some kind
-  pub before : NoFaultBefore rows place
+-- what the rows of a sheet have to keep: each has no fault, and the last is that of an observation
+abbrev pub sheet_rules : RowRules (List (List ℕ)) RowKind
+sheet_rules = record {
+  of_row = λ before row. row_fault (said_by before) row;
+  of_end = λ before. unless (may_end (last_row_type before)) fault.Unfinished;
+}
 
 -- The fault of a sheet's bytes: too many of them; else the first row with a fault, counted from 1,
 -- where the row after the last is `Unfinished` if no observation was the last. That memory ran out
@@ -190,9 +169,9 @@ abbrev pub IsSheetFault : List ℕ → SheetFault → Type 0
 IsSheetFault bytes TooLong = LONGEST_SHEET < length bytes
 IsSheetFault bytes (Row number kind) =
     (length bytes ≤ LONGEST_SHEET) × (place : ℕ) × (number ≡ place + 1)
-    × IsFirstFaultOfRows (records_of bytes) place kind
+    × IsFirstFault sheet_rules (records_of bytes) place kind
 IsSheetFault bytes Memory = ⊥
 
 -- A refusal is the fault of the bytes, or that memory ran out.
-abbrev pub IsFaultOrMemory : List ℕ → SheetFault → Type 0
-IsFaultOrMemory bytes fault = IsSheetFault bytes fault ⊎ (fault ≡ Memory)
+abbrev pub IsSheetFaultOrMemory : List ℕ → SheetFault → Type 0
+IsSheetFaultOrMemory bytes fault = IsSheetFault bytes fault ⊎ (fault ≡ Memory)

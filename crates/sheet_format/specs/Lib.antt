@@ -5,6 +5,7 @@ pub mod Versions
 pub mod RowTypes
 pub mod Columns
 pub mod Rows
+pub mod RowFaults
 pub mod Faults
 pub mod FaultNames
 pub mod Texts

@@ -1,6 +1,7 @@
 //! Why bytes are no sheet, and why a sheet was not written.
 
 ghost use Rattle.std.specs.Prelude.{◌≡◌, ◌≤◌, length};
+ghost use Rattle.adjust_kernel.specs.declared.bounds.TheConstants.{LONGEST_FAULT_NAME};
 ghost use Rattle.sheet_format.specs.FaultNames.{row_kind_name, sheet_fault_name};
 ghost use Rattle.sheet_format.specs.declared.fault.WriteFault.TheVariants as write_fault;
 
@@ -48,7 +49,7 @@ impl RowKind {
     /// Its name, as the line of a refusal has it.
     pub fn name(self) -> &'static str
         ensures name { result.now ≡ row_kind_name self }
-        ensures short { length result.now ≤ 16 }
+        ensures short { length result.now ≤ LONGEST_FAULT_NAME }
     {
         match self {
             RowKind::Fields => "Fields",
@@ -84,7 +85,7 @@ impl SheetFault {
     /// Its name, as the line of a refusal has it.
     pub fn name(self) -> &'static str
         ensures name { result.now ≡ sheet_fault_name self }
-        ensures short { length result.now ≤ 16 }
+        ensures short { length result.now ≤ LONGEST_FAULT_NAME }
     {
         match self {
             SheetFault::TooLong => "TooLong",

@@ -7,7 +7,7 @@ ghost use Rattle.std.specs.Prelude.{◌≡◌, ◌≤◌, ◌⊎◌, length, Err
 ghost use Rattle.adjust_kernel.specs.Sheets.{SheetValue};
 ghost use Rattle.csv.specs.Reading.{error_kind};
 ghost use Rattle.sheet_format.specs.Errors.{IsMemoryOrInput};
-ghost use Rattle.sheet_format.specs.Faults.{IsFaultOrMemory, IsSheetFault};
+ghost use Rattle.sheet_format.specs.Faults.{IsSheetFaultOrMemory, IsSheetFault};
 ghost use Rattle.sheet_format.specs.Rows.{IsSheetText};
 ghost use Rattle.sheet_format.specs.declared.fault.SheetFault.TheVariants.{Memory};
 
@@ -25,7 +25,7 @@ pub const LONGEST_SHEET: usize = 1_048_576;
 /// Memory that is refused is answered as such, in place of either.
 pub fn read_sheet(alloc: Global, bytes: &[u8]) -> Result<Sheet, SheetFault>
     ensures sheet { IfOk result (λ sheet. IsSheetText bytes.now sheet) }
-    ensures fault { IfErr result (λ fault. IsFaultOrMemory bytes.now fault) }
+    ensures fault { IfErr result (λ fault. IsSheetFaultOrMemory bytes.now fault) }
 
     // Bytes that stand for a sheet, and bytes with a fault, get no other answer but out of memory.
     ensures stands { (sheet : SheetValue) → IsSheetText bytes.now sheet → (result ≡ Ok sheet)
@@ -43,7 +43,7 @@ pub fn read_sheet(alloc: Global, bytes: &[u8]) -> Result<Sheet, SheetFault>
 fn read_rows(alloc: Global, bytes: &[u8]) -> Result<Sheet, SheetFault>
     requires { length bytes.now ≤ LONGEST_SHEET }
     ensures sheet { IfOk result (λ sheet. IsSheetText bytes.now sheet) }
-    ensures fault { IfErr result (λ fault. IsFaultOrMemory bytes.now fault) }
+    ensures fault { IfErr result (λ fault. IsSheetFaultOrMemory bytes.now fault) }
 {
     let mut reader = ReaderBuilder::new()
         .has_headers(false)

@@ -21,6 +21,7 @@ impl RowType {
     pub(crate) fn parse(field: &[u8]) -> Option<RowType>
         ensures { result ≡ spec.row_type_of field.now }
     {
+        // No `match`: of its arms' bytes no proof is found.
         if field == b"sheet".as_slice() {
             Some(RowType::Sheet)
         } else if field == b"target".as_slice() {

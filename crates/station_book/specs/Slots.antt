@@ -18,17 +18,17 @@ use Rattle.station_book.specs.Pairs.{two_c, two_i, direction}
 
 -- the reading of a face
 abbrev pub face_reading : Face → Slot → Option Angles
-face_reading One s = s.first
-face_reading Two s = s.second
+face_reading One s = s.one
+face_reading Two s = s.two
 
 -- the slot with a reading in this face
 abbrev pub with_face_reading : Face → Angles → Slot → Slot
-with_face_reading One v s = record s { first = Some v }
-with_face_reading Two v s = record s { second = Some v }
+with_face_reading One v s = record s { one = Some v }
+with_face_reading Two v s = record s { two = Some v }
 
 -- no reading in either face
 abbrev pub empty_slot : Slot
-empty_slot = record { first = None; second = None }
+empty_slot = record { one = None; two = None }
 
 -- the faults of a reading of a target that has this slot
 abbrev pub slot_faults : FaceLimits → Slot → Reading → List (Option BookKind)
@@ -48,11 +48,11 @@ pair_fault limits a b = first_of
 
 -- whether there is no reading in either face
 abbrev pub is_unread : Slot → Bool
-is_unread s = is_none s.first && is_none s.second
+is_unread s = is_none s.one && is_none s.two
 
 -- whether there is a reading in one face alone
 abbrev pub is_single : Slot → Bool
-is_single s = (is_some s.first && is_none s.second) || (is_none s.first && is_some s.second)
+is_single s = (is_some s.one && is_none s.two) || (is_none s.one && is_some s.two)
 
 -- the faults of a set that ends
 abbrev pub closing_faults : List Slot → List (Option BookKind)
@@ -63,7 +63,7 @@ closing_faults slots =
 
 -- its readings are on the circle
 abbrev pub IsKeptSlot : Slot → Type 0
-IsKeptSlot s = (IfSome s.first AreOnCircle) × (IfSome s.second AreOnCircle)
+IsKeptSlot s = (IfSome s.one AreOnCircle) × (IfSome s.two AreOnCircle)
 
 -- the observation of two readings
 abbrev pub observation_of : ℕ → ℕ → Option Angles → Option Angles → Option Obs
@@ -74,7 +74,7 @@ observation_of set target None b = None
 
 -- the observation of the slot at this place, where it has both readings
 abbrev pub obs_at : ℕ → ℕ × Slot → Option Obs
-obs_at set p = observation_of set p.0 p.1.first p.1.second
+obs_at set p = observation_of set p.0 p.1.one p.1.two
 
 -- the observations of a set, in the order of the targets
 abbrev pub obs_of : ℕ → List Slot → List Obs
@@ -88,7 +88,7 @@ compared None b = None
 
 -- the face differences of a slot, where it has both readings
 abbrev pub faces_at : Slot → Option Faces
-faces_at s = compared s.first s.second
+faces_at s = compared s.one s.two
 
 -- the face differences of a set, in the order of the targets
 abbrev pub faces_of : List Slot → List Faces

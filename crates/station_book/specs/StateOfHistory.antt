@@ -27,8 +27,8 @@ angles_of o = option_map angles_at o
 -- the angles of a target's readings, among these
 abbrev pub slot_of : List Place → List ℕ → Slot
 slot_of rs name = record {
-  first = angles_of (reading_in One name rs);
-  second = angles_of (reading_in Two name rs);
+  one = angles_of (reading_in One name rs);
+  two = angles_of (reading_in Two name rs);
 }
 
 -- the slots of these targets, in their order

@@ -51,8 +51,8 @@ pub(crate) fn has_no_two_c(limit: u32, first: Angles, second: Angles) -> bool
     requires second_in { AreOnCircle second }
     ensures { result ≡ has_no_two_c limit first second }
 {
-    let apart = (second.hz + CIRCLE + HALF_CIRCLE - first.hz) % CIRCLE;
-    limit < apart && apart < CIRCLE - limit
+    let two_c = (second.hz + CIRCLE + HALF_CIRCLE - first.hz) % CIRCLE;
+    limit < two_c && two_c < CIRCLE - limit
 }
 
 /// Whether no 2i is within this limit.

@@ -24,8 +24,10 @@ use std::alloc::AllocError;
 /// The readings of one target in a set.
 #[derive(Clone, Copy, Debug, PartialEq, Eq, Drop)]
 pub(crate) struct Slot {
-    pub first: Option<Angles>,
-    pub second: Option<Angles>,
+    /// In face I.
+    pub one: Option<Angles>,
+    /// In face II.
+    pub two: Option<Angles>,
 }
 
 /// A target without a reading.
@@ -33,8 +35,8 @@ pub(crate) fn empty_slot() -> Slot
     ensures { result ≡ empty_slot }
 {
     Slot {
-        first: None,
-        second: None,
+        one: None,
+        two: None,
     }
 }
 
@@ -44,8 +46,8 @@ impl Slot {
         ensures { result ≡ face_reading face self }
     {
         match face {
-            Face::One => self.first,
-            Face::Two => self.second,
+            Face::One => self.one,
+            Face::Two => self.two,
         }
     }
 
@@ -55,12 +57,12 @@ impl Slot {
     {
         match face {
             Face::One => Slot {
-                first: Some(angles),
-                second: self.second,
+                one: Some(angles),
+                two: self.two,
             },
             Face::Two => Slot {
-                first: self.first,
-                second: Some(angles),
+                one: self.one,
+                two: Some(angles),
             },
         }
     }
@@ -101,14 +103,14 @@ fn pair_fault(limits: Limits, first: Angles, second: Angles) -> Option<BookKind>
 fn is_unread(slot: &Slot) -> bool
     ensures { result ≡ is_unread slot.now }
 {
-    slot.first.is_none() && slot.second.is_none()
+    slot.one.is_none() && slot.two.is_none()
 }
 
 /// Whether the target has a reading of one face alone.
 fn is_single(slot: &Slot) -> bool
     ensures { result ≡ is_single slot.now }
 {
-    slot.first.is_some() != slot.second.is_some()
+    slot.one.is_some() != slot.two.is_some()
 }
 
 /// Whether no target has a reading.
@@ -150,7 +152,7 @@ fn push_pair(set: u32, target: u32, slot: Slot, obs: &mut Vec<Obs>, faces: &mut 
     ensures obs_capacity { vec_capacity obs.old ≤ vec_capacity obs.new }
     ensures faces_capacity { vec_capacity faces.old ≤ vec_capacity faces.new }
 {
-    let (Some(first), Some(second)) = (slot.first, slot.second) else {
+    let (Some(first), Some(second)) = (slot.one, slot.two) else {
         return;
     };
     let one = Obs {

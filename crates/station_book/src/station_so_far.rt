@@ -58,7 +58,7 @@ impl Model for StationSoFar {
 
 impl StationSoFar {
     /// The station of a first set.
-    pub(crate) fn first(alloc: Global, number: u16) -> Result<StationSoFar, AllocError>
+    pub(crate) fn begun(alloc: Global, number: u16) -> Result<StationSoFar, AllocError>
         requires { IsSetNumber number }
         ensures { IfOk result (λ e. e ≡ begun number) }
     {

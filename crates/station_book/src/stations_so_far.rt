@@ -1,11 +1,8 @@
 //! The stations that have sets, by name.
 
-ghost use Rattle.std.specs.Prelude.{◌≡◌, ◌<◌, ◌≤◌, ◌+◌, ◌++◌, ◌∷◌, [], false, length, None, IfErr};
-ghost use Rattle.std.specs.Prelude.{IfOk, OnOk, OnErr, reverse, ◌==◌};
-ghost use Rattle.std.specs.List.{list_any};
-ghost use Rattle.std.specs.Str.{bytes_eq};
+ghost use Rattle.std.specs.Prelude.{◌≡◌, ◌<◌, ◌+◌, ◌++◌, ◌∷◌, [], false, length, None, IfErr};
+ghost use Rattle.std.specs.Prelude.{IfOk, OnOk, OnErr, reverse};
 ghost use Rattle.adjust_kernel.specs.Sheets.{IsSetNumber};
-ghost use Rattle.adjust_kernel.specs.declared.bounds.TheConstants.{MOST_SETS};
 ghost use Rattle.station_book.specs.StationStates.{none_so_far, surveys_of, with_station};
 ghost use Rattle.station_book.specs.StationStates.{LastMayEnd, first_set_faults, last_of};
 ghost use Rattle.station_book.specs.StationStates.{change_last, is_known, more_set_faults};
@@ -98,10 +95,7 @@ impl StationsSoFar {
         requires { 0 < length self.now }
         ensures { result.now ≡ last_of self.now }
     {
-        match &self.last {
-            Some((_, station)) => station,
-            None => unreachable!(),
-        }
+        &self.last.as_ref().unwrap().1
     }
 
     /// The fault of the last set, if it ends here.
@@ -122,8 +116,8 @@ impl StationsSoFar {
     {
         match &mut self.last {
             None => {
-                let first = StationSoFar::first(self.alloc, number)?;
-                self.last = Some((name, first));
+                let begun = StationSoFar::begun(self.alloc, number)?;
+                self.last = Some((name, begun));
             }
             Some((last, station)) => {
                 self.earlier.reserve(1)?;
@@ -133,22 +127,6 @@ impl StationsSoFar {
             }
         }
         Ok(())
-    }
-
-    /// A further set of the last station.
-    fn add_set(&mut self, number: u16) -> Result<(), AllocError>
-        requires some { 0 < length self.old }
-        requires room { length (last_of self.old).sets < MOST_SETS }
-        requires may_end { MayEnd (last_of self.old) }
-        requires new { list_any (λ m. m == number) (last_of self.old).sets ≡ false }
-        requires number { IsSetNumber number }
-        ensures ok { OnOk result (self.new ≡ change_last (with_set number) self.old) }
-        ensures unchanged { OnErr result (self.new ≡ self.old) }
-    {
-        match &mut self.last {
-            Some((_, station)) => station.add_set(number),
-            None => unreachable!(),
-        }
     }
 
     /// Opens the first set of a station.
@@ -181,10 +159,11 @@ impl StationsSoFar {
             (ExplainsRefusal (first_of (more_set_faults (last_of self.old) number))) }
         ensures unchanged { OnErr result (self.new ≡ self.old) }
     {
-        if let Some(kind) = self.last().set_fault(number) {
+        let (_, station) = self.last.as_mut().unwrap();
+        if let Some(kind) = station.set_fault(number) {
             return Err(Refusal::Fault(kind));
         }
-        self.add_set(number)?;
+        station.add_set(number)?;
         Ok(())
     }
 
@@ -200,10 +179,8 @@ impl StationsSoFar {
             (λ kind. first_of (state_faults limits (last_of self.old) reading) ≡ Some kind) }
         ensures unchanged { OnErr result (self.new ≡ self.old) }
     {
-        match &mut self.last {
-            Some((_, station)) => station.take_reading(limits, reading),
-            None => unreachable!(),
-        }
+        let (_, station) = self.last.as_mut().unwrap();
+        station.take_reading(limits, reading)
     }
 
     /// All stations by name, the last one among them.

@@ -106,11 +106,11 @@ station_found limits file name its small has =
     }
 
 -- A sheet that was judged well is accepted.
-pub acceptance : (limits : FaceLimits) (most : Option ℕ) (file : FileAnswers) (told : Told)
+pub acceptance : (limits : FaceLimits) (limit : Option ℕ) (file : FileAnswers) (told : Told)
     (stations : List SurveyedStation) (a : Accepted) → AreLimits limits
-    → IsSurvey limits file stations → IsJudgedSheet stations most told (Ok a)
-    → IsAccepted limits most file told a
-acceptance limits most file told stations a small survey judged =
+    → IsSurvey limits file stations → IsJudgedSheet stations limit told (Ok a)
+    → IsAccepted limits limit file told a
+acceptance limits limit file told stations a small survey judged =
     let blocks = survey.blocks in
     let its = judged.judged.its in
     let name = judged.sheet.name in
@@ -155,16 +155,16 @@ acceptance limits most file told stations a small survey judged =
           (sym judged.judged.matches.rows) by_name;
       least = judged.judged.squares.0.least;
       unique = judged.judged.squares.0.unique;
-      limited = accepted_keeps_limit its.station judged.sheet most (a, judged.judged.verdict);
+      limited = accepted_keeps_limit its.station judged.sheet limit (a, judged.judged.verdict);
       over_turns = judged.judged.squares.1;
       says = judged.judged.verdict.1;
     }
 
 -- So a well judged answer of a check is an acceptance.
 pub accepted_so : (limits : FaceLimits) → AreLimits limits
-    → (most : Option ℕ) (file : FileAnswers) (told : Told) (stations : List SurveyedStation)
+    → (limit : Option ℕ) (file : FileAnswers) (told : Told) (stations : List SurveyedStation)
     (r : Result Accepted Fault) → IsSurvey limits file stations
-    → IfKernels (IsJudgedSheet stations most told) r → IfOk r (IsAccepted limits most file told)
-accepted_so limits small most file told stations (Ok a) s j =
-    acceptance limits most file told stations a small s j
-accepted_so limits small most file told stations (Err fault) s j = tt
+    → IfKernels (IsJudgedSheet stations limit told) r → IfOk r (IsAccepted limits limit file told)
+accepted_so limits small limit file told stations (Ok a) s j =
+    acceptance limits limit file told stations a small s j
+accepted_so limits small limit file told stations (Err fault) s j = tt

@@ -22,64 +22,65 @@ use Rattle.station_check.proofs.OneVerdict.{only_verdict}
 use Rattle.station_check.proofs.Refusals.{refused_so, told_of_file, none_first, first}
 
 -- The whole verdict on a sheet that was checked by a file's stations.
-verdict_of : (limits : FaceLimits) (most : Option ℕ) (file : FileAnswers) (stated : Told)
+verdict_of : (limits : FaceLimits) (limit : Option ℕ) (file : FileAnswers) (stated : Told)
     (stations : List SurveyedStation) (r : Result Accepted Fault) → IsSurvey limits file stations
-    → IsChecked stations most stated r → AnswersVerdict limits most file stated r
-verdict_of limits most file stated stations r s c = by_checked c.verdict where
-  by_checked : (r ≡ Err Memory) ⊎ IsSheetVerdict stations most (input_within LONGEST_SHEET stated) r
-      → AnswersVerdict limits most file stated r
+    → IsChecked stations limit stated r → AnswersVerdict limits limit file stated r
+verdict_of limits limit file stated stations r s c = by_checked c.verdict where
+  by_checked : (r ≡ Err Memory)
+      ⊎ IsSheetVerdict stations limit (input_within LONGEST_SHEET stated) r
+      → AnswersVerdict limits limit file stated r
   by_checked (inl e) = inl e
   by_checked (inr h) =
       inr (record { came = Ok s.blocks; comes = s.file; verdict = (stations, s.stations_are, h) })
 
 -- The promise, where the field file has stations.
 pub promise_by_sheet : (limits : FaceLimits) → AreLimits limits
-    → (most : Option ℕ) (file : FileAnswers) (stated : Told) (stations : List SurveyedStation)
+    → (limit : Option ℕ) (file : FileAnswers) (stated : Told) (stations : List SurveyedStation)
     (r : Result Accepted Fault) → IsSurvey limits file stations → IfErr r IsOfSheet
-    → IsChecked stations most stated r
-    → KeepsPromise limits most file stated r
-promise_by_sheet limits small most file stated stations r s o c =
-    let verdict = verdict_of limits most file stated stations r s c in
+    → IsChecked stations limit stated r
+    → KeepsPromise limits limit file stated r
+promise_by_sheet limits small limit file stated stations r s o c =
+    let verdict = verdict_of limits limit file stated stations r s c in
     record {
-      accepted = accepted_so limits small most file stated stations r s c.judged;
-      refused = refused_so limits most file stated stations r s o c.judged c.verdict;
+      accepted = accepted_so limits small limit file stated stations r s c.judged;
+      refused = refused_so limits limit file stated stations r s o c.judged c.verdict;
       verdict = verdict;
-      no_other = only_verdict limits most file stated r small verdict;
+      no_other = only_verdict limits limit file stated r small verdict;
       file_first = none_first limits file stations r s;
     }
 
 -- The whole verdict, where the field file has a fault.
-file_verdict : (limits : FaceLimits) (most : Option ℕ) (file : FileAnswers) (stated : Told)
+file_verdict : (limits : FaceLimits) (limit : Option ℕ) (file : FileAnswers) (stated : Told)
     (fault : Fault) → Surveys limits file (Err fault)
-    → AnswersVerdict limits most file stated (Err fault)
-file_verdict limits most file stated Memory h = inl refl
-file_verdict limits most file stated (Gsi fault) h =
+    → AnswersVerdict limits limit file stated (Err fault)
+file_verdict limits limit file stated Memory h = inl refl
+file_verdict limits limit file stated (Gsi fault) h =
     inr (record { came = Err (Gsi fault); comes = h; verdict = refl })
-file_verdict limits most file stated (Book fault) h =
+file_verdict limits limit file stated (Book fault) h =
     inr (record { came = Err (Book fault); comes = h; verdict = refl })
-file_verdict limits most file stated SheetRead h =
+file_verdict limits limit file stated SheetRead h =
     inr (record { came = Err SheetRead; comes = h; verdict = refl })
-file_verdict limits most file stated (Sheet fault) h =
+file_verdict limits limit file stated (Sheet fault) h =
     inr (record { came = Err (Sheet fault); comes = h; verdict = refl })
-file_verdict limits most file stated NoStation h =
+file_verdict limits limit file stated NoStation h =
     inr (record { came = Err NoStation; comes = h; verdict = refl })
-file_verdict limits most file stated (Means fault) h =
+file_verdict limits limit file stated (Means fault) h =
     inr (record { came = Err (Means fault); comes = h; verdict = refl })
-file_verdict limits most file stated (Kernel fault) h =
+file_verdict limits limit file stated (Kernel fault) h =
     inr (record { came = Err (Kernel fault); comes = h; verdict = refl })
-file_verdict limits most file stated Write h =
+file_verdict limits limit file stated Write h =
     inr (record { came = Err Write; comes = h; verdict = refl })
 
 -- The promise, where the field file has a fault.
 pub promise_by_file : (limits : FaceLimits) → AreLimits limits
-    → (most : Option ℕ) (file : FileAnswers) (stated : Told) (fault : Fault) → IsOfFile fault
-    → Surveys limits file (Err fault) → KeepsPromise limits most file stated (Err fault)
-promise_by_file limits small most file stated fault o h =
-    let verdict = file_verdict limits most file stated fault h in
+    → (limit : Option ℕ) (file : FileAnswers) (stated : Told) (fault : Fault) → IsOfFile fault
+    → Surveys limits file (Err fault) → KeepsPromise limits limit file stated (Err fault)
+promise_by_file limits small limit file stated fault o h =
+    let verdict = file_verdict limits limit file stated fault h in
     record {
       accepted = tt;
-      refused = told_of_file limits most file stated fault o h;
+      refused = told_of_file limits limit file stated fault o h;
       verdict = verdict;
-      no_other = only_verdict limits most file stated (Err fault) small verdict;
+      no_other = only_verdict limits limit file stated (Err fault) small verdict;
       file_first = first limits file fault h;
     }

@@ -42,47 +42,49 @@ by_kernel_alone fault (Ok a) e = cc
 by_kernel_alone fault (Err k) e = (k, cc)
 
 -- A refusal by the station is that there is none, or the kernel's.
-by_station_alone : (its : Option SurveyedStation) (sheet : SheetValue) (most : Option ℕ)
-    (fault : Fault) → IsStationVerdict its sheet most (Err fault)
+by_station_alone : (its : Option SurveyedStation) (sheet : SheetValue) (limit : Option ℕ)
+    (fault : Fault) → IsStationVerdict its sheet limit (Err fault)
     → ((its ≡ None) × (fault ≡ NoStation)) ⊎ ((k : KernelFault) × (fault ≡ Kernel k))
-by_station_alone None sheet most fault h = inl (refl, cc)
-by_station_alone (Some its) sheet most fault h = inr (by_kernel_alone fault h.0 h.2)
+by_station_alone None sheet limit fault h = inl (refl, cc)
+by_station_alone (Some its) sheet limit fault h = inr (by_kernel_alone fault h.0 h.2)
 
 -- The verdict by a sheet is no failed read, and no fault of the sheet's bytes.
-no_read : (its : Option SurveyedStation) (sheet : SheetValue) (most : Option ℕ)
+no_read : (its : Option SurveyedStation) (sheet : SheetValue) (limit : Option ℕ)
     → ((its ≡ None) × (SheetRead ≡ NoStation)) ⊎ ((k : KernelFault) × (SheetRead ≡ Kernel k)) → ⊥
-no_read its sheet most (inl h) = let e = h.1 in cc
-no_read its sheet most (inr h) = let e = h.1 in cc
+no_read its sheet limit (inl h) = let e = h.1 in cc
+no_read its sheet limit (inr h) = let e = h.1 in cc
 
-no_text : (its : Option SurveyedStation) (sheet : SheetValue) (most : Option ℕ) (fault : SheetFault)
+no_text : (its : Option SurveyedStation) (sheet : SheetValue) (limit : Option ℕ)
+    (fault : SheetFault)
     → ((its ≡ None) × (Sheet fault ≡ NoStation)) ⊎ ((k : KernelFault) × (Sheet fault ≡ Kernel k))
     → ⊥
-no_text its sheet most fault (inl h) = let e = h.1 in cc
-no_text its sheet most fault (inr h) = let e = h.1 in cc
+no_text its sheet limit fault (inl h) = let e = h.1 in cc
+no_text its sheet limit fault (inr h) = let e = h.1 in cc
 
 -- Where a read failed, the sheet's reader broke off.
-read_says : (stations : List SurveyedStation) (most : Option ℕ) (input : Input)
-    → IsSheetVerdict stations most input (Err SheetRead)
+read_says : (stations : List SurveyedStation) (limit : Option ℕ) (input : Input)
+    → IsSheetVerdict stations limit input (Err SheetRead)
     → (bytes : List ℕ) × (input ≡ BrokeOff bytes)
-read_says stations most (BrokeOff bytes) h = (bytes, refl)
-read_says stations most RanPast h = cc
-read_says stations most (Ended bytes) (inl h) = let e = h.answer in cc
-read_says stations most (Ended bytes) (inr h) =
-    absurd (no_read (station_named h.sheet.name stations) h.sheet most
-    (by_station_alone (station_named h.sheet.name stations) h.sheet most SheetRead h.verdict))
+read_says stations limit (BrokeOff bytes) h = (bytes, refl)
+read_says stations limit RanPast h = cc
+read_says stations limit (Ended bytes) (inl h) = let e = h.answer in cc
+read_says stations limit (Ended bytes) (inr h) =
+    absurd (no_read (station_named h.sheet.name stations) h.sheet limit
+    (by_station_alone (station_named h.sheet.name stations) h.sheet limit SheetRead h.verdict))
 
 -- A fault of the sheet's bytes is theirs.
-text_says : (stations : List SurveyedStation) (most : Option ℕ) (input : Input) (fault : SheetFault)
-    → IsSheetVerdict stations most input (Err (Sheet fault)) → IsFaultOfInput input fault
-text_says stations most (BrokeOff bytes) fault h = cc
-text_says stations most RanPast fault h = cc
-text_says stations most (Ended bytes) fault (inl h) =
+text_says : (stations : List SurveyedStation) (limit : Option ℕ) (input : Input)
+    (fault : SheetFault)
+    → IsSheetVerdict stations limit input (Err (Sheet fault)) → IsFaultOfInput input fault
+text_says stations limit (BrokeOff bytes) fault h = cc
+text_says stations limit RanPast fault h = cc
+text_says stations limit (Ended bytes) fault (inl h) =
     let e = h.answer in
     let same : h.fault ≡ fault = cc in
     subst (λ (f : SheetFault). IsSheetFault bytes f) same h.stands
-text_says stations most (Ended bytes) fault (inr h) =
-    absurd (no_text (station_named h.sheet.name stations) h.sheet most fault
-    (by_station_alone (station_named h.sheet.name stations) h.sheet most (Sheet fault) h.verdict))
+text_says stations limit (Ended bytes) fault (inr h) =
+    absurd (no_text (station_named h.sheet.name stations) h.sheet limit fault
+    (by_station_alone (station_named h.sheet.name stations) h.sheet limit (Sheet fault) h.verdict))
 
 -- No station was found by the name of the sheet of these bytes.
 record FindsNone (stations : List SurveyedStation) (input : Input) : Type 0 where
@@ -98,18 +100,18 @@ none_found : (its : Option SurveyedStation)
 none_found its (inl h) = h.0
 none_found its (inr h) = let e = h.1 in cc
 
-name_says : (stations : List SurveyedStation) (most : Option ℕ) (input : Input)
-    → IsSheetVerdict stations most input (Err NoStation) → FindsNone stations input
-name_says stations most (BrokeOff bytes) h = cc
-name_says stations most RanPast h = cc
-name_says stations most (Ended bytes) (inl h) = let e = h.answer in cc
-name_says stations most (Ended bytes) (inr h) = record {
+name_says : (stations : List SurveyedStation) (limit : Option ℕ) (input : Input)
+    → IsSheetVerdict stations limit input (Err NoStation) → FindsNone stations input
+name_says stations limit (BrokeOff bytes) h = cc
+name_says stations limit RanPast h = cc
+name_says stations limit (Ended bytes) (inl h) = let e = h.answer in cc
+name_says stations limit (Ended bytes) (inr h) = record {
   bytes = bytes;
   whole = refl;
   sheet = h.sheet;
   states = h.text;
   none = none_found (station_named h.sheet.name stations)
-      (by_station_alone (station_named h.sheet.name stations) h.sheet most NoStation h.verdict);
+      (by_station_alone (station_named h.sheet.name stations) h.sheet limit NoStation h.verdict);
 }
 
 -- A sheet of a name that no station has is refused so.
@@ -131,10 +133,10 @@ unnamed limits file told stations survey found =
     }
 
 -- A sheet that was judged badly is refused so.
-judged_badly : (limits : FaceLimits) (most : Option ℕ) (file : FileAnswers) (told : Told)
+judged_badly : (limits : FaceLimits) (limit : Option ℕ) (file : FileAnswers) (told : Told)
     (stations : List SurveyedStation) (fault : KernelFault) → IsSurvey limits file stations
-    → IsJudgedSheet stations most told (Err fault) → IsRefusedByKernel limits most file told fault
-judged_badly limits most file told stations fault survey judged = record {
+    → IsJudgedSheet stations limit told (Err fault) → IsRefusedByKernel limits limit file told fault
+judged_badly limits limit file told stations fault survey judged = record {
   stations = stations;
   survey = survey;
   sheet = judged.sheet;
@@ -146,77 +148,77 @@ judged_badly limits most file told stations fault survey judged = record {
 }
 
 -- What a refusal from the sheet on says.
-pub refusal : (limits : FaceLimits) (most : Option ℕ) (file : FileAnswers) (told : Told)
+pub refusal : (limits : FaceLimits) (limit : Option ℕ) (file : FileAnswers) (told : Told)
     (stations : List SurveyedStation) (fault : Fault) → IsSurvey limits file stations
     → IsOfSheet fault
-    → IfKernels (IsJudgedSheet stations most told) (Err fault)
-    → IsSheetVerdict stations most (input_within LONGEST_SHEET told) (Err fault)
-    → TellsOfRefusal limits most file told fault
-refusal limits most file told stations (Gsi fault) s o j h = absurd o
-refusal limits most file told stations (Book fault) s o j h = absurd o
-refusal limits most file told stations SheetRead s o j h =
+    → IfKernels (IsJudgedSheet stations limit told) (Err fault)
+    → IsSheetVerdict stations limit (input_within LONGEST_SHEET told) (Err fault)
+    → TellsOfRefusal limits limit file told fault
+refusal limits limit file told stations (Gsi fault) s o j h = absurd o
+refusal limits limit file told stations (Book fault) s o j h = absurd o
+refusal limits limit file told stations SheetRead s o j h =
     record {
       stations = stations;
       survey = s;
       broke_off =
-          read_says stations most (input_within LONGEST_SHEET told) h;
+          read_says stations limit (input_within LONGEST_SHEET told) h;
     }
-refusal limits most file told stations (Sheet fault) s o j h =
+refusal limits limit file told stations (Sheet fault) s o j h =
     record {
       stations = stations;
       survey = s;
       first =
-          text_says stations most (input_within LONGEST_SHEET told) fault h;
+          text_says stations limit (input_within LONGEST_SHEET told) fault h;
     }
-refusal limits most file told stations NoStation s o j h =
+refusal limits limit file told stations NoStation s o j h =
     unnamed limits file told stations s
-    (name_says stations most (input_within LONGEST_SHEET told) h)
-refusal limits most file told stations (Means fault) s o j h = absurd o
-refusal limits most file told stations (Kernel fault) s o j h =
-    judged_badly limits most file told stations fault s j
-refusal limits most file told stations Write s o j h = absurd o
-refusal limits most file told stations Memory s o j h = tt
+    (name_says stations limit (input_within LONGEST_SHEET told) h)
+refusal limits limit file told stations (Means fault) s o j h = absurd o
+refusal limits limit file told stations (Kernel fault) s o j h =
+    judged_badly limits limit file told stations fault s j
+refusal limits limit file told stations Write s o j h = absurd o
+refusal limits limit file told stations Memory s o j h = tt
 
 -- The answer by a sheet is its verdict, or that there was no memory.
 abbrev pub AnswersSheet : List SurveyedStation → Option ℕ → Told → Result Accepted Fault → Type 0
-AnswersSheet stations most told r =
-    (r ≡ Err Memory) ⊎ IsSheetVerdict stations most (input_within LONGEST_SHEET told) r
+AnswersSheet stations limit told r =
+    (r ≡ Err Memory) ⊎ IsSheetVerdict stations limit (input_within LONGEST_SHEET told) r
 
-by_answer : (limits : FaceLimits) (most : Option ℕ) (file : FileAnswers) (told : Told)
+by_answer : (limits : FaceLimits) (limit : Option ℕ) (file : FileAnswers) (told : Told)
     (stations : List SurveyedStation) (fault : Fault) → IsSurvey limits file stations
     → IsOfSheet fault
-    → IfKernels (IsJudgedSheet stations most told) (Err fault)
+    → IfKernels (IsJudgedSheet stations limit told) (Err fault)
     → (◌≡◌ {A = Result Accepted Fault} (Err fault) (Err Memory))
-    ⊎ IsSheetVerdict stations most (input_within LONGEST_SHEET told) (Err fault)
-    → TellsOfRefusal limits most file told fault
-by_answer limits most file told stations fault s o j (inl e) =
+    ⊎ IsSheetVerdict stations limit (input_within LONGEST_SHEET told) (Err fault)
+    → TellsOfRefusal limits limit file told fault
+by_answer limits limit file told stations fault s o j (inl e) =
     let same : Memory ≡ fault = cc in
-    subst (λ (f : Fault). TellsOfRefusal limits most file told f) same tt
-by_answer limits most file told stations fault s o j (inr h) =
-    refusal limits most file told stations fault s o j h
+    subst (λ (f : Fault). TellsOfRefusal limits limit file told f) same tt
+by_answer limits limit file told stations fault s o j (inr h) =
+    refusal limits limit file told stations fault s o j h
 
 -- A refusal of a sheet says so.
-pub refused_so : (limits : FaceLimits) (most : Option ℕ) (file : FileAnswers) (told : Told)
+pub refused_so : (limits : FaceLimits) (limit : Option ℕ) (file : FileAnswers) (told : Told)
     (stations : List SurveyedStation) (r : Result Accepted Fault) → IsSurvey limits file stations
-    → IfErr r IsOfSheet → IfKernels (IsJudgedSheet stations most told) r
-    → AnswersSheet stations most told r → IfErr r (TellsOfRefusal limits most file told)
-refused_so limits most file told stations (Ok a) s o j h = tt
-refused_so limits most file told stations (Err fault) s o j h =
-    by_answer limits most file told stations fault s o j h
+    → IfErr r IsOfSheet → IfKernels (IsJudgedSheet stations limit told) r
+    → AnswersSheet stations limit told r → IfErr r (TellsOfRefusal limits limit file told)
+refused_so limits limit file told stations (Ok a) s o j h = tt
+refused_so limits limit file told stations (Err fault) s o j h =
+    by_answer limits limit file told stations fault s o j h
 
 -- A fault of the field file is told.
-pub told_of_file : (limits : FaceLimits) (most : Option ℕ) (file : FileAnswers) (told : Told)
+pub told_of_file : (limits : FaceLimits) (limit : Option ℕ) (file : FileAnswers) (told : Told)
     (fault : Fault) → IsOfFile fault → Surveys limits file (Err fault)
-    → TellsOfRefusal limits most file told fault
-told_of_file limits most file told (Gsi fault) o h = is_first limits file (Gsi fault) h
-told_of_file limits most file told (Book fault) o h = is_first limits file (Book fault) h
-told_of_file limits most file told SheetRead o h = absurd o
-told_of_file limits most file told (Sheet fault) o h = absurd o
-told_of_file limits most file told NoStation o h = absurd o
-told_of_file limits most file told (Means fault) o h = absurd o
-told_of_file limits most file told (Kernel fault) o h = absurd o
-told_of_file limits most file told Write o h = absurd o
-told_of_file limits most file told Memory o h = tt
+    → TellsOfRefusal limits limit file told fault
+told_of_file limits limit file told (Gsi fault) o h = is_first limits file (Gsi fault) h
+told_of_file limits limit file told (Book fault) o h = is_first limits file (Book fault) h
+told_of_file limits limit file told SheetRead o h = absurd o
+told_of_file limits limit file told (Sheet fault) o h = absurd o
+told_of_file limits limit file told NoStation o h = absurd o
+told_of_file limits limit file told (Means fault) o h = absurd o
+told_of_file limits limit file told (Kernel fault) o h = absurd o
+told_of_file limits limit file told Write o h = absurd o
+told_of_file limits limit file told Memory o h = tt
 
 -- A file that ended without a fault comes to none.
 pub none_first : (limits : FaceLimits) (file : FileAnswers) (stations : List SurveyedStation)
@@ -247,18 +249,18 @@ first limits file Memory h = λ other k. inl refl
 
 -- The kernel's fault by the station of the sheet's name is never that the sheet is of another.
 pub of_its_station : (stations : List SurveyedStation) (its : SurveyedStation) (sheet : SheetValue)
-    (most : Option ℕ) (fault : KernelFault) → station_named sheet.name stations ≡ Some its
-    → IsVerdict its.station sheet most (Err fault) → IsOfSheet (Kernel fault)
-of_its_station stations its sheet most kernel.Name e v =
+    (limit : Option ℕ) (fault : KernelFault) → station_named sheet.name stations ≡ Some its
+    → IsVerdict its.station sheet limit (Err fault) → IsOfSheet (Kernel fault)
+of_its_station stations its sheet limit kernel.Name e v =
     absurd (v.0 (sym (has_name sheet.name stations its e)))
-of_its_station stations its sheet most (kernel.TargetRow n) e v = tt
-of_its_station stations its sheet most (kernel.SetRow n) e v = tt
-of_its_station stations its sheet most (kernel.ObsRow n) e v = tt
-of_its_station stations its sheet most kernel.Datum e v = tt
-of_its_station stations its sheet most (kernel.TargetSum n) e v = tt
-of_its_station stations its sheet most (kernel.SetSum n) e v = tt
-of_its_station stations its sheet most kernel.NotConnected e v = tt
-of_its_station stations its sheet most (kernel.Residual n) e v = tt
+of_its_station stations its sheet limit (kernel.TargetRow n) e v = tt
+of_its_station stations its sheet limit (kernel.SetRow n) e v = tt
+of_its_station stations its sheet limit (kernel.ObsRow n) e v = tt
+of_its_station stations its sheet limit kernel.Datum e v = tt
+of_its_station stations its sheet limit (kernel.TargetSum n) e v = tt
+of_its_station stations its sheet limit (kernel.SetSum n) e v = tt
+of_its_station stations its sheet limit kernel.NotConnected e v = tt
+of_its_station stations its sheet limit (kernel.Residual n) e v = tt
 
 -- What comes from the sheet on may be answered by a check.
 pub of_check : (r : Result Accepted Fault) → IfErr r IsOfSheet → IfErr r IsOfCheck

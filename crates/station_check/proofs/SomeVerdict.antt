@@ -37,49 +37,49 @@ AreObserved stations =
     (name : List ℕ) (s : SurveyedStation) → station_named name stations ≡ Some s
     → 1 ≤ length s.station.obs
 
-by_station : (its : Option SurveyedStation) (sheet : SheetValue) (most : Option ℕ)
+by_station : (its : Option SurveyedStation) (sheet : SheetValue) (limit : Option ℕ)
     → ((s : SurveyedStation) → its ≡ Some s → 1 ≤ length s.station.obs)
-    → (r : Result Accepted Fault) × IsStationVerdict its sheet most r
-by_station None sheet most observed = (Err NoStation, refl)
-by_station (Some s) sheet most observed =
-    let verdict = kernel.some_verdict s.station sheet most (observed s refl) in
+    → (r : Result Accepted Fault) × IsStationVerdict its sheet limit r
+by_station None sheet limit observed = (Err NoStation, refl)
+by_station (Some s) sheet limit observed =
+    let verdict = kernel.some_verdict s.station sheet limit (observed s refl) in
     (by_kernel verdict.0, (verdict.0, verdict.1, refl))
 
-by_bytes : (stations : List SurveyedStation) (most : Option ℕ) (bytes : List ℕ)
+by_bytes : (stations : List SurveyedStation) (limit : Option ℕ) (bytes : List ℕ)
     → AreObserved stations → IsSheetOrFault bytes
-    → (r : Result Accepted Fault) × IsSheetVerdict stations most (Ended bytes) r
-by_bytes stations most bytes observed (inl stated) =
+    → (r : Result Accepted Fault) × IsSheetVerdict stations limit (Ended bytes) r
+by_bytes stations limit bytes observed (inl stated) =
     let verdict =
-    by_station (station_named stated.0.name stations) stated.0 most (observed stated.0.name) in
+    by_station (station_named stated.0.name stations) stated.0 limit (observed stated.0.name) in
     (verdict.0, inr (record { sheet = stated.0; text = stated.1; verdict = verdict.1 }))
-by_bytes stations most bytes observed (inr refused) =
+by_bytes stations limit bytes observed (inr refused) =
     (Err (Sheet refused.0), inl (record { fault = refused.0; stands = refused.1; answer = refl }))
 
-by_sheet : (stations : List SurveyedStation) (most : Option ℕ) (input : Input)
-    → AreObserved stations → (r : Result Accepted Fault) × IsSheetVerdict stations most input r
-by_sheet stations most (BrokeOff bytes) observed = (Err SheetRead, refl)
-by_sheet stations most RanPast observed = (Err (Sheet sheet.TooLong), refl)
-by_sheet stations most (Ended bytes) observed =
-    by_bytes stations most bytes observed (sheets_of.some_answer bytes)
+by_sheet : (stations : List SurveyedStation) (limit : Option ℕ) (input : Input)
+    → AreObserved stations → (r : Result Accepted Fault) × IsSheetVerdict stations limit input r
+by_sheet stations limit (BrokeOff bytes) observed = (Err SheetRead, refl)
+by_sheet stations limit RanPast observed = (Err (Sheet sheet.TooLong), refl)
+by_sheet stations limit (Ended bytes) observed =
+    by_bytes stations limit bytes observed (sheets_of.some_answer bytes)
 
 by_file : (limits : FaceLimits) → AreLimits limits
-    → (most : Option ℕ) (file : FileAnswers) (told : Told) (came : Result History Fault)
+    → (limit : Option ℕ) (file : FileAnswers) (told : Told) (came : Result History Fault)
     → FileComesTo limits file came
-    → (r : Result Accepted Fault) × IsFileVerdict limits most came told r
-by_file limits small most file told (Err fault) h = (Err fault, refl)
-by_file limits small most file told (Ok blocks) h =
+    → (r : Result Accepted Fault) × IsFileVerdict limits limit came told r
+by_file limits small limit file told (Err fault) h = (Err fault, refl)
+by_file limits small limit file told (Ok blocks) h =
     let well = came_well limits [] file.lines file.last blocks tt h in
     let survey = book.some_survey limits blocks small well.faultless in
-    let verdict = by_sheet survey.0 most (input_within LONGEST_SHEET told) (λ name s e.
+    let verdict = by_sheet survey.0 limit (input_within LONGEST_SHEET told) (λ name s e.
     book.some_observation limits blocks survey.0 s
     (record { blocks = well.faultless; ending = well.closed }) survey.1
     ((book.its_station limits blocks survey.0 name s well.faultless survey.1).0 e).0) in
     (verdict.0, (survey.0, survey.1, verdict.1))
 
 -- What came of two readers has a verdict.
-pub some_verdict : (limits : FaceLimits) (most : Option ℕ) (file : FileAnswers) (told : Told)
-    → AreLimits limits → (r : Result Accepted Fault) × IsWholeVerdict limits most file told r
-some_verdict limits most file told small =
+pub some_verdict : (limits : FaceLimits) (limit : Option ℕ) (file : FileAnswers) (told : Told)
+    → AreLimits limits → (r : Result Accepted Fault) × IsWholeVerdict limits limit file told r
+some_verdict limits limit file told small =
     let came = some_end limits [] file.lines file.last in
-    let verdict = by_file limits small most file told came.0 came.1 in
+    let verdict = by_file limits small limit file told came.0 came.1 in
     (verdict.0, record { came = came.0; comes = came.1; verdict = verdict.1 })

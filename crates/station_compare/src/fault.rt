@@ -1,5 +1,6 @@
 //! Why stated directions don't agree, or aren't compared.
 ghost use Rattle.std.specs.Prelude.{◌≡◌, ◌≤◌, length};
+ghost use Rattle.adjust_kernel.specs.declared.bounds.TheConstants.{LONGEST_FAULT_NAME};
 ghost use Rattle.station_compare.specs.FaultNames as names;
 ghost use Rattle.station_compare.specs.Faults.{of_adjust, of_file, of_input, of_table};
 ghost use Rattle.station_compare.specs.declared.fault.CompareFault.TheVariants.{Memory, Write};
@@ -43,7 +44,7 @@ impl CompareFault {
     /// Its name, as the line of a refusal has it.
     pub fn name(self) -> &'static str
         ensures name { result.now ≡ names.compare_fault_name self }
-        ensures short { length result.now ≤ 16 }
+        ensures short { length result.now ≤ LONGEST_FAULT_NAME }
     {
         match self {
             CompareFault::File(fault) => fault.name(),
@@ -60,7 +61,7 @@ impl CompareFault {
 /// The name of why a station has no adjustment.
 fn adjust_fault_name(fault: AdjustFault) -> &'static str
     ensures name { result.now ≡ names.adjust_fault_name fault }
-    ensures short { length result.now ≤ 16 }
+    ensures short { length result.now ≤ LONGEST_FAULT_NAME }
 {
     match fault {
         AdjustFault::NotConnected => "NotConnected",

@@ -15,15 +15,16 @@ use Rattle.station_differences.specs.declared.compared.TargetDifference.{TargetD
 
 -- twice what so many units of 0.001 mgon are more than a way less half a spread, in parts times the
 -- denominator
-abbrev pub twice_more : ℕ → ℕ → ℕ → ℤ → ℤ
-twice_more denominator way spread units =
+abbrev pub twice_more_than_way : ℕ → ℕ → ℕ → ℤ → ℤ
+twice_more_than_way denominator way spread units =
     pos 2 *ℤ (pos denominator *ℤ (pos (PARTS * UNIT) *ℤ units)) -ℤ (pos 2 *ℤ pos way -ℤ pos spread)
 
 -- A way from the start of an arc, counted from the arc's middle and rounded to 0.001 mgon: the
 -- units are within half of that, and what lies in the middle of two is rounded up.
 pub record IsRoundedFromMiddle (denominator way spread : ℕ) (units : ℤ) : Type 0 where
-  pub low : neg_ℤ (pos (PARTS * UNIT * denominator)) <ℤ twice_more denominator way spread units
-  pub high : twice_more denominator way spread units ≤ℤ pos (PARTS * UNIT * denominator)
+  pub low : neg_ℤ (pos (PARTS * UNIT * denominator))
+      <ℤ twice_more_than_way denominator way spread units
+  pub high : twice_more_than_way denominator way spread units ≤ℤ pos (PARTS * UNIT * denominator)
 
 -- The angle at a place after the rotation that brings the middle of an arc to 0, in units of 0.001
 -- mgon: the way from the angle at which the arc begins onward to it, less half the spread, rounded.

@@ -124,7 +124,8 @@ pub adjusted_is : (c : Choice) (o : TurnedObservation) (units : ℤ) (adjusted :
     → IsWayRound CIRCLE (pos 0) (pos (5_000 * o.value) +ℤ pos 1_000 *ℤ units) adjusted
     → IsRounded (seen_in c o.set) o.target UNIT adjusted
 adjusted_is c o units adjusted r way =
-    let e : rounding.twice_more (seen_in c o.set) o.target adjusted (o.turn -ℤ way.turns)
+    let e : rounding.twice_more_than_direction (seen_in c o.set) o.target adjusted
+    (o.turn -ℤ way.turns)
     ≡ twice_more c o units =
     same_off c.denominator o.value adjusted (c.direction o.target) (c.orientation o.set) o.turn
     units way.turns way.there in

@@ -194,7 +194,7 @@ fn a_name_is_read_as_it_stands_where_a_target_has_it(rt: HostRuntime) -> Result<
 }
 
 /// Tables of A and B in gon, and the limit that is usual for their coarsest row.
-const GON_LIMITS: [(&str, u32); 9] = [
+const GON_LIMITS: [(&str, u32); 12] = [
     ("A,0\nB,50\n", 10),
     ("A,0\nB,50.00003\n", 10),
     ("A,0.000000\nB,50.000030\n", 10),
@@ -203,17 +203,21 @@ const GON_LIMITS: [(&str, u32); 9] = [
     ("A;0,00\nB;50,0000\n", 5_001),
     ("A 1.5\nB 50.00003\n", 50_001),
     ("A,7.\nB,50.0003\n", 51),
+    ("A,0.0\nB,50.0001\n", 51),
+    ("A,0.0\nB,50.0\n", 10),
+    ("A,0.00\nB,50.0001\n", 5_001),
     ("A,0.000000000000\nB,400.0000000000\n", 10),
 ];
 
 /// Tables in degrees: half a second is 154.3.. units, half of 0.1 degrees 55555.5.. units.
-const DEGREE_LIMITS: [(&str, u32); 8] = [
+const DEGREE_LIMITS: [(&str, u32); 9] = [
     ("A,0-00-00\nB,50.00003\n", 156),
     ("A,0-00-00.0000\nB,50-00-00\n", 156),
     ("A,0-00-00.0\nB,50-00-00.00\n", 17),
     ("A,0-00-00.00\nB,50-00-00.000\n", 10),
     ("A,0\nB,50\n", 10),
-    ("A,0.0\nB,50\n", 55_557),
+    ("A,0.0\nB,50\n", 10),
+    ("A,0.0\nB,50.5\n", 55_557),
     ("A,0.0000\nB,50-00-00.0\n", 57),
     ("A,0.00000\nB,50.0000000000\n", 10),
 ];

@@ -79,7 +79,7 @@ fn tables_lie_beside_the_least_directions(rt: HostRuntime) -> Result<(), Fail> {
 
 #[test]
 fn where_nothing_is_stated_the_coarsest_row_tells_the_limit(rt: HostRuntime) -> Result<(), Fail> {
-    let cases: [(&[u8], Result<u32, CompareFault>); 11] = [
+    let cases: [(&[u8], Result<u32, CompareFault>); 12] = [
         // Five decimals or more, and whole gon alone: 10.
         (b"A,0\nB,50.00001\n", Ok(10)),
         (b"A,0\nB,50.000009\n", Err(CompareFault::Apart(11))),
@@ -92,8 +92,10 @@ fn where_nothing_is_stated_the_coarsest_row_tells_the_limit(rt: HostRuntime) -> 
         (b"A,0.000\nB,50.001032\n", Ok(501)),
         (b"A,0.000\nB,50.001033\n", Err(CompareFault::Apart(502))),
         (b"A,0.00\nB,50.0001\n", Ok(35)),
-        (b"A,0.0\nB,50.100032\n", Ok(50_001)),
-        (b"A,0.0\nB,50.100033\n", Err(CompareFault::Apart(50_002))),
+        (b"A,0.1\nB,50.200032\n", Ok(50_001)),
+        (b"A,0.1\nB,50.200033\n", Err(CompareFault::Apart(50_002))),
+        // As Python writes a whole number: 10 again.
+        (b"A,0.0\nB,50.000132\n", Err(CompareFault::Apart(51))),
     ];
     for (table, want) in cases {
         assert_eq!(rt; compared(&rt, rt.alloc(), S1, b"S1", table, None), want);

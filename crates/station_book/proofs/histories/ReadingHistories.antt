@@ -42,8 +42,8 @@ pub record Says (s : Reading) (r : Place) : Type 0 where
 slot_other : (r : Place) (name : List ℕ) (rs : List Place) → bytes_eq (target_at r) name ≡ false
     → slot_of (r ∷ rs) name ≡ slot_of rs name
 slot_other r name rs e = λ i. record {
-  first = angles_of (found_other One r name rs e i);
-  second = angles_of (found_other Two r name rs e i);
+  one = angles_of (found_other One r name rs e i);
+  two = angles_of (found_other Two r name rs e i);
 }
 
 -- its own takes the reading of the face
@@ -52,12 +52,12 @@ slot_own : (f : Face) (v : Angles) (r : Place) (name : List ℕ) (rs : List Plac
     → bytes_eq (target_at r) name ≡ true
     → slot_of (r ∷ rs) name ≡ with_face_reading f v (slot_of rs name)
 slot_own One v r name rs s f g e = λ i. record {
-  first = (ap angles_of (found_here One r name rs e f) ∙ ap Some (sym s)) i;
-  second = angles_of (found_not Two r name rs g i);
+  one = (ap angles_of (found_here One r name rs e f) ∙ ap Some (sym s)) i;
+  two = angles_of (found_not Two r name rs g i);
 }
 slot_own Two v r name rs s f g e = λ i. record {
-  first = angles_of (found_not One r name rs g i);
-  second = (ap angles_of (found_here Two r name rs e f) ∙ ap Some (sym s)) i;
+  one = angles_of (found_not One r name rs g i);
+  two = (ap angles_of (found_here Two r name rs e f) ∙ ap Some (sym s)) i;
 }
 
 -- targets are all different
@@ -69,8 +69,8 @@ distinct_different (name ∷ older) = elim (cases_Bool (is_among (distinct older
       (absent_name name (distinct older) e))
 ]
 
-apart : (a b : List ℕ) → a ≢ b → bytes_eq a b ≡ false
-apart a b ne = false_from_ne_true (bytes_eq a b) (λ e. ne ((bytes_eq-Decides a b).0 e))
+not_named : (a b : List ℕ) → a ≢ b → bytes_eq a b ≡ false
+not_named a b ne = false_from_ne_true (bytes_eq a b) (λ e. ne ((bytes_eq-Decides a b).0 e))
 
 -- a name that is no target has no reading
 no_reading_of : (name : List ℕ) (readings : List Place)
@@ -80,7 +80,7 @@ no_reading_of name [] e = tt
 no_reading_of name (r ∷ rs) e = elim (cases_Bool (is_among (targets_in rs) (target_at r))) [
   | inl t ↦
       let out : is_among (targets_in rs) name ≡ false = rw t at e in (
-        apart (target_at r) name (λ same. false≢true (sym out
+        not_named (target_at r) name (λ same. false≢true (sym out
             ∙ ap (is_among (targets_in rs)) (sym same) ∙ t)),
         no_reading_of name rs out,
       )
@@ -108,8 +108,8 @@ none_read f name (r ∷ rs) all = found_other f r name rs all.0 ∙ none_read f 
 empty_of : (name : List ℕ) (rs : List Place)
     → AllByRecursion (λ r. bytes_eq (target_at r) name ≡ false) rs → slot_of rs name ≡ empty_slot
 empty_of name rs all = λ i. record {
-  first = angles_of (none_read One name rs all i);
-  second = angles_of (none_read Two name rs all i);
+  one = angles_of (none_read One name rs all i);
+  two = angles_of (none_read Two name rs all i);
 }
 
 -- an empty slot at the end gives nothing
@@ -218,7 +218,7 @@ existing targets i f v r rs inside here different s g n = ext_get_or empty_slot
       at k lt (inr ne) =
           get_or-set_other (slots_of targets rs) i k new empty_slot ne ∙ slot_get targets rs k [] lt
           ∙ sym (slot_other r (get_or targets k []) rs
-          (apart (target_at r) (get_or targets k [])
+          (not_named (target_at r) (get_or targets k [])
           (λ e. other_name k lt ne (cases_lt k i) (here ∙ e))))
           ∙ sym (slot_get targets (r ∷ rs) k [] lt)
 
@@ -227,7 +227,7 @@ others_stay : (targets : List (List ℕ)) (r : Place) (rs : List Place)
 others_stay [] r rs e = refl
 others_stay (t ∷ ts) r rs e =
     let p = or_parts (bytes_eq t (target_at r)) (is_among ts (target_at r)) e in
-    let q : bytes_eq (target_at r) t ≡ false = apart (target_at r) t
+    let q : bytes_eq (target_at r) t ≡ false = not_named (target_at r) t
     (λ same. false≢true (sym p.0 ∙ (bytes_eq-Decides t (target_at r)).1 (sym same))) in
     λ i. slot_other r t rs q i ∷ others_stay ts r rs p.1 i
 

@@ -69,11 +69,11 @@ empty_list [] e = refl
 empty_list (x ∷ xs) e = cc
 
 -- The stations of a file without fault have different names.
-pub apart : (limits : FaceLimits) (h : History) → IsWithoutFault limits h
+pub names_differ : (limits : FaceLimits) (h : History) → IsWithoutFault limits h
     → Pairwise AreApart (stations_of h)
-apart limits [] clean = tt
-apart limits (b ∷ past) clean =
-    let older = apart limits past clean.1 in elim (cases_Bool (opens_set b)) [
+names_differ limits [] clean = tt
+names_differ limits (b ∷ past) clean =
+    let older = names_differ limits past clean.1 in elim (cases_Bool (opens_set b)) [
       | inr s ↦ rw s older
       | inl s ↦ elim (cases_Bool (is_empty (open_sets past))) [
         | inr n ↦ rw (s, n) older
@@ -130,7 +130,7 @@ different_stations : (limits : FaceLimits) (h : History) (stations : List Survey
     → IsWithoutFault limits h → AreStations limits h stations → Pairwise HaveTwoNames stations
 unfolding AreStations
 different_stations limits h stations clean are =
-    two_names limits h (stations_of h) stations (apart limits h clean) are
+    two_names limits h (stations_of h) stations (names_differ limits h clean) are
 
 -- No two stations of a file without fault have one name.
 pub different_names : (limits : FaceLimits) (h : History) (stations : List SurveyedStation)

@@ -23,7 +23,7 @@ use Rattle.station_book.proofs.lists.Elements.{In, in_contains, contains_in, IsA
 use Rattle.station_book.proofs.lists.Elements.{of_map, in_filter, in_reverse, zip_left, zip_right}
 use Rattle.station_book.proofs.lists.Elements.{matched}
 use Rattle.station_book.proofs.two_faces.OnePair.{one_two_face}
-use Rattle.station_book.proofs.names.StationNames.{apart}
+use Rattle.station_book.proofs.names.StationNames.{names_differ}
 use Rattle.station_book.proofs.readings.OneReading.{is_of}
 use Rattle.station_book.proofs.places.FilePlaces.{OfFile, station_placed, set_station}
 use Rattle.station_book.proofs.places.FilePlaces.{set_of_reading, listed_station, one_named}
@@ -202,7 +202,7 @@ observed_key limits h st s k small clean listed surveyed r =
 
     set_station_is : station (before r.set) ≡ st
     set_station_is = one_named s.station.name (stations_of h) (station (before r.set)) st
-        (apart limits h clean) (set_station h r.set set_placed set_is) listed
+        (names_differ limits h clean) (set_station h r.set set_placed set_is) listed
         (ap name_at (sym first_station) ∙ r.face_one.of_station) surveyed.name
 
     one : IsRead h st r.set k.target One r.first

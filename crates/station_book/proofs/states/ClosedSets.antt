@@ -54,7 +54,7 @@ cons_of set m top a b rest le all = from_lower set m top rest all
 all_of : (set m top : ℕ) (slots : List Slot) → m + length slots ≡ top
     → All (IsOf set m top) (observed set m slots)
 all_of set m top [] e = λ k d lt. absurd (omega arith)
-all_of set m top (s ∷ slots) e = cons_of set m top s.first s.second (observed set (m + 1) slots)
+all_of set m top (s ∷ slots) e = cons_of set m top s.one s.two (observed set (m + 1) slots)
     (omega arith) (all_of set (m + 1) top slots (omega arith))
 
 cons_pairs : (set m top : ℕ) (a b : Option Angles) (rest : List Obs)
@@ -71,7 +71,7 @@ cons_pairs set m top a b rest all pairs = pairs
 in_order : (set m top : ℕ) (slots : List Slot) → m + length slots ≡ top
     → AllPairs IsBefore (observed set m slots)
 in_order set m top [] e = λ i j d lt inside. absurd (omega arith)
-in_order set m top (s ∷ slots) e = cons_pairs set m top s.first s.second
+in_order set m top (s ∷ slots) e = cons_pairs set m top s.one s.two
     (observed set (m + 1) slots) (all_of set (m + 1) top slots (omega arith))
     (in_order set (m + 1) top slots (omega arith))
 
@@ -102,12 +102,12 @@ read_is_observed set m t [] lt e f = absurd (omega arith)
 read_is_observed set m zero (s ∷ slots) lt e f =
     let n : m ≡ m + 0 = omega arith in
     subst (λ (k : ℕ). Any (IsAt set k) (observed set m (s ∷ slots))) n
-    (both_read set m s.first s.second (observed set (m + 1) slots) e
+    (both_read set m s.one s.two (observed set (m + 1) slots) e
     (or_parts (is_single s) (list_any is_single slots) f).0)
 read_is_observed set m (suc t) (s ∷ slots) lt e f =
     let n : (m + 1) + t ≡ m + suc t = omega arith in
     subst (λ (k : ℕ). Any (IsAt set k) (observed set m (s ∷ slots))) n
-    (any_cons (IsAt set ((m + 1) + t)) (observation_of set m s.first s.second)
+    (any_cons (IsAt set ((m + 1) + t)) (observation_of set m s.one s.two)
     (observed set (m + 1) slots)
     (read_is_observed set (m + 1) t slots (omega arith) e
     (or_parts (is_single s) (list_any is_single slots) f).1))

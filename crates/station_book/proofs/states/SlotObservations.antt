@@ -75,7 +75,7 @@ one_more set n a b os fs e = e
 from_place : (set n : ℕ) (slots : List Slot)
     → length (faces_of slots) ≡ length (filter_map (obs_at set) (enumerate_from n slots))
 from_place set n [] = refl
-from_place set n (s ∷ slots) = one_more set n s.first s.second
+from_place set n (s ∷ slots) = one_more set n s.one s.two
     (filter_map (obs_at set) (enumerate_from (n + 1) slots)) (faces_of slots)
     (from_place set (n + 1) slots)
 

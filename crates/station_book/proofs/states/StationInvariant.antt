@@ -146,7 +146,7 @@ set_is_state n e h may new few number = record {
 
 read_now : (f : Face) (v : Angles) (s : Slot) → is_unread (with_face_reading f v s) ≡ false
 read_now One v s = refl
-read_now Two v s = and_right (is_none s.first) false refl
+read_now Two v s = and_right (is_none s.one) false refl
 
 kept_reading : (f : Face) (v : Angles) (s : Slot) → AreOnCircle v → IsKeptSlot s
     → IsKeptSlot (with_face_reading f v s)
@@ -177,14 +177,14 @@ reading_is_state s e i h inside low = record {
     each_set = h.so_far.each_set;
     each_target = λ t lt. by t
         (h.so_far.each_target t (let l = length-set e.slots i new in omega (arith, l, lt)))
-        (apart t);
+        (same_or_other t);
   };
 } where
   new : Slot
   new = with_face_reading s.face s.angles (slot_at e.slots i)
 
-  apart : (t : ℕ) → (t ≡ i) ⊎ (t ≢ i)
-  apart t = cases_eq t i
+  same_or_other : (t : ℕ) → (t ≡ i) ⊎ (t ≢ i)
+  same_or_other t = cases_eq t i
 
   by : (t : ℕ) → Any (λ o. o.target ≡ t) e.obs ⊎ (is_unread (slot_at e.slots t) ≡ false)
       → (t ≡ i) ⊎ (t ≢ i) → Any (λ o. o.target ≡ t) e.obs

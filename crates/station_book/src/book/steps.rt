@@ -1,15 +1,12 @@
 //! What each block does to a book, by what the book keeps.
 
 ghost use Rattle.std.specs.Prelude.{◌≡◌, ◌<◌, ◌+◌, None, Some, if◌then◌else◌, OnOk, OnErr, IfErr};
-ghost use Rattle.std.specs.Prelude.{IfOk, IfSome, length};
-ghost use Rattle.station_book.specs.StationState.{with_set};
-ghost use Rattle.station_book.specs.StationStates.{none_so_far, with_station, last_of, change_last};
-ghost use Rattle.station_book.specs.StationStates.{first_set_faults, more_set_faults, surveys_of};
+ghost use Rattle.std.specs.Prelude.{IfOk, IfSome};
+ghost use Rattle.station_book.specs.StationStates.{none_so_far, surveys_of};
 ghost use Rattle.adjust_kernel.specs.Sheets.{IsSetNumber};
 ghost use Rattle.gsi_word.specs.BlockViews.{block_of};
 ghost use Rattle.station_book.specs.Blocks.{role_of, named, number, opens_set};
 ghost use Rattle.station_book.specs.Readings.{read};
-ghost use Rattle.station_book.specs.Faults.{first_of};
 ghost use Rattle.station_book.specs.State.{ending, opening_fault, opened, at_station};
 ghost use Rattle.station_book.specs.State.{closed_stage, has_open_set, with_measured};
 ghost use Rattle.station_book.specs.State.{station_fault_of, set_fault_of, measurement_fault_of};
@@ -26,7 +23,6 @@ use crate::role::{Role, role_of};
 use crate::stage::Stage;
 use crate::stations::Stations;
 use crate::stations_so_far::StationsSoFar;
-use adjust_kernel::Name;
 use gsi_word::Block;
 use std::alloc::Global;
 
@@ -156,54 +152,16 @@ impl Book {
     {
         let stage = self.stage;
         match stage {
-            Stage::Outside => Err(Refusal::Fault(BookKind::SetOutside)),
-            Stage::Station(name) => match number {
-                Some(number) => self.open_first(name, number),
-                None => Err(Refusal::Fault(BookKind::SetNumber)),
-            },
-            Stage::BetweenSets | Stage::InSet => match number {
-                Some(number) => self.open_further(number),
-                None => Err(Refusal::Fault(BookKind::SetNumber)),
-            },
+            Stage::Outside => return Err(Refusal::Fault(BookKind::SetOutside)),
+            Stage::Station(name) => {
+                let number = number.ok_or(BookKind::SetNumber)?;
+                self.stations.open_first(name, number)?;
+            }
+            Stage::BetweenSets | Stage::InSet => {
+                let number = number.ok_or(BookKind::SetNumber)?;
+                self.stations.open_further(number)?;
+            }
         }
-    }
-
-    /// Opens the first set of the station that is open.
-    fn open_first(&mut self, name: Name, number: u16) -> Result<(), Refusal>
-        requires may_end { ending self.old.stage self.old.stations ≡ None }
-        requires number { IsSetNumber number }
-        ensures clean { OnOk result (first_of (first_set_faults name self.old.stations) ≡ None) }
-        ensures ok { OnOk result
-            (self.new ≡ record self.old {
-              stage = InSet;
-              stations = with_station name number self.old.stations;
-            }) }
-        ensures fault { IfErr result
-            (ExplainsRefusal (first_of (first_set_faults name self.old.stations))) }
-        ensures unchanged { OnErr result (self.new ≡ self.old) }
-    {
-        self.stations.open_first(name, number)?;
-        self.stage = Stage::InSet;
-        Ok(())
-    }
-
-    /// Opens a further set of the last station.
-    fn open_further(&mut self, number: u16) -> Result<(), Refusal>
-        requires some { 0 < length self.old.stations }
-        requires may_end { ending self.old.stage self.old.stations ≡ None }
-        requires number { IsSetNumber number }
-        ensures clean { OnOk result
-            (first_of (more_set_faults (last_of self.old.stations) number) ≡ None) }
-        ensures ok { OnOk result
-            (self.new ≡ record self.old {
-              stage = InSet;
-              stations = change_last (with_set number) self.old.stations;
-            }) }
-        ensures fault { IfErr result
-            (ExplainsRefusal (first_of (more_set_faults (last_of self.old.stations) number))) }
-        ensures unchanged { OnErr result (self.new ≡ self.old) }
-    {
-        self.stations.open_further(number)?;
         self.stage = Stage::InSet;
         Ok(())
     }

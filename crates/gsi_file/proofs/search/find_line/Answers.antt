@@ -1,4 +1,4 @@
-use Rattle.std.proofs.Common.{ap, false, true, not, sym, subst, ◌∙◌, arith, rules}
+use Rattle.std.proofs.Common.{◌≤◌, ap, false, true, not, sym, subst, ◌∙◌, arith, rules}
 use Rattle.byte_ends.proofs.Coming.{at_last, through_so, through_then}
 use Rattle.gsi_file.specs.declared.search.FoundLine.{FoundLine}
 use Rattle.gsi_file.specs.Finding.{FindsLine, IsFound}
@@ -7,15 +7,23 @@ use Rattle.gsi_file.proofs.Finding.{Searching, further, ends_by, fails, file_too
 use Rattle.gsi_file.proofs.Finding.{line_too_long, passes, none_plain, found_ended, finds_ended}
 use Rattle.gsi_file.proofs.Finding.{found_at_end, still_same, goes_on}
 use Rattle.gsi_file.proofs.search.find_line.Goals as goal
+use Rattle.gsi_file.proofs.search.find_line.Given.{Over}
+use Rattle.gsi_file.proofs.search.find_line.Goals.{After-line_end-end}
+
+-- Up to the place that was looked at now, no line has ended.
+searched : (g : Over) (c : After-line_end-end g) → c.line_end-end.result.place ≤ 1024
+    → Searching c.args.room c.search.left c.line_end-end.result.place c.search.buffer
+searched g c short =
+    further c.args.room c.search.left c.search.searched c.line_end-end.result.place c.search.buffer
+    short (omega arith) (omega arith)
+    (rw c.bytes.ensures at c.line_end-end.ensures.plain) c.search.invariant.searching
 
 pub returns-then-not-is_blank-clause-found : goal.returns-then-not-is_blank-clause-found
 returns-then-not-is_blank-clause-found g c =
     let line = c.line_end-end.result.place in
     let h = c.search.buffer in
-    let s : Searching c.args.room c.search.left line h =
-    further c.args.room c.search.left c.search.searched line h (omega arith) (omega arith)
-    (omega arith) (rw c.bytes.ensures at c.line_end-end.ensures.plain)
-    c.search.invariant.searching in
+    let s = searched g (goal.at.returns-then-not-is_blank-clause-found g c).After-line_end-end
+    (omega arith) in
     subst (λ (f : FoundLine). IsFound c.args.room h f) (sym c.ended.ensures)
     (found_ended c.args.room c.search.left line c.next_line_start-used.result
     c.line_end-end.result.printable h (omega (arith, c.next_line_start-used.ensures.within))
@@ -29,14 +37,12 @@ pub returns-then-not-is_blank-clause-through : goal.returns-then-not-is_blank-cl
 returns-then-not-is_blank-clause-through g c =
     let line = c.line_end-end.result.place in
     let h = c.search.buffer in
-    let s : Searching c.args.room c.search.left line h =
-    further c.args.room c.search.left c.search.searched line h (omega arith) (omega arith)
-    (omega arith) (rw c.bytes.ensures at c.line_end-end.ensures.plain)
-    c.search.invariant.searching in
+    let s = searched g (goal.at.returns-then-not-is_blank-clause-through g c).After-line_end-end
+    (omega arith) in
     through_so _ _ _ c.search.invariant.through
     (λ before after same.
-    subst (λ (f : FoundLine). FindsLine before after c.args.room c.args.buffer.now h f.line f.used
-    f.room f.last) (sym c.ended.ensures)
+    subst (λ (f : FoundLine). FindsLine before after c.args.room c.args.buffer.now h
+    f.line_length f.used f.room f.last) (sym c.ended.ensures)
     (finds_ended before after c.args.room c.args.buffer.now c.search.left line
     c.next_line_start-used.result h (omega arith) (omega arith)
     (omega (arith, c.next_line_start-used.ensures.within))
@@ -50,10 +56,8 @@ pub search-preserved-then-searched-seen : goal.search-preserved-then-searched-se
 search-preserved-then-searched-seen g c =
     let line = c.line_end-end.result.place in
     let h = c.search.buffer in
-    let s : Searching c.args.room c.search.left line h =
-    further c.args.room c.search.left c.search.searched line h (omega arith) (omega arith)
-    (omega arith) (rw c.bytes.ensures at c.line_end-end.ensures.plain)
-    c.search.invariant.searching in
+    let s = searched g (goal.at.search-preserved-then-searched-seen g c).After-line_end-end
+    (omega arith) in
     record {
       searching = record {
         short = omega arith;
@@ -85,10 +89,8 @@ pub returns-then-searched-len-clause-through : goal.returns-then-searched-len-cl
 returns-then-searched-len-clause-through g c =
     let line = c.line_end-end.result.place in
     let h = c.search.buffer in
-    let s : Searching c.args.room c.search.left line h =
-    further c.args.room c.search.left c.search.searched line h (omega arith) (omega arith)
-    (omega arith) (rw c.bytes.ensures at c.line_end-end.ensures.plain)
-    c.search.invariant.searching in
+    let s = searched g (goal.at.returns-then-searched-len-clause-through g c).After-line_end-end
+    (omega arith) in
     through_so _ _ _ c.search.invariant.through
     (λ before after same.
     file_too_long before after c.args.room c.args.buffer.now c.search.left line h (omega arith)
@@ -98,10 +100,8 @@ pub returns-then-not-is_blank-2-clause-found : goal.returns-then-not-is_blank-2-
 returns-then-not-is_blank-2-clause-found g c =
     let line = c.line_end-end.result.place in
     let h = c.search.buffer in
-    let s : Searching c.args.room c.search.left line h =
-    further c.args.room c.search.left c.search.searched line h (omega arith) (omega arith)
-    (omega arith) (rw c.bytes.ensures at c.line_end-end.ensures.plain)
-    c.search.invariant.searching in
+    let s = searched g (goal.at.returns-then-not-is_blank-2-clause-found g c).After-line_end-end
+    (omega arith) in
     let grown = at_last _ _ c.in-Ok-eq0.ensures.through in
     subst (λ (f : FoundLine). IsFound c.args.room c.fill.new.self f) (sym c.at_end.ensures)
     (found_at_end grown.1.0 grown.0 c.args.room c.search.left line h c.fill.new.self
@@ -113,10 +113,8 @@ pub returns-then-not-is_blank-2-clause-through : goal.returns-then-not-is_blank-
 returns-then-not-is_blank-2-clause-through g c =
     let line = c.line_end-end.result.place in
     let h = c.search.buffer in
-    let s : Searching c.args.room c.search.left line h =
-    further c.args.room c.search.left c.search.searched line h (omega arith) (omega arith)
-    (omega arith) (rw c.bytes.ensures at c.line_end-end.ensures.plain)
-    c.search.invariant.searching in
+    let s = searched g
+    (goal.at.returns-then-not-is_blank-2-clause-through g c).After-line_end-end (omega arith) in
     let told = g.R.Source.told in
     let failed = g.R.Source.failed in
     let gave = g.R.Source.gave in
@@ -124,7 +122,7 @@ returns-then-not-is_blank-2-clause-through g c =
     c.in-Ok-eq0.ensures.through
     (λ before between after same filled.
     subst (λ (f : FoundLine). FindsLine before after c.args.room c.args.buffer.now c.fill.new.self
-    f.line f.used f.room f.last) (sym c.at_end.ensures)
+    f.line_length f.used f.room f.last) (sym c.at_end.ensures)
     (ends_by before between after c.args.room c.args.buffer.now c.search.left line h
     c.fill.new.self c.in-Ok-eq0.field-0 true (omega arith) c.in-Ok-eq0.field-0-test
     (ap not (sym (c.is_blank-in-Ok-eq0.ensures ∙ ap is_blank c.front-in-Ok-eq0.ensures)
@@ -134,10 +132,8 @@ pub returns-in-Ok-eq0-clause-through : goal.returns-in-Ok-eq0-clause-through
 returns-in-Ok-eq0-clause-through g c =
     let line = c.line_end-end.result.place in
     let h = c.search.buffer in
-    let s : Searching c.args.room c.search.left line h =
-    further c.args.room c.search.left c.search.searched line h (omega arith) (omega arith)
-    (omega arith) (rw c.bytes.ensures at c.line_end-end.ensures.plain)
-    c.search.invariant.searching in
+    let s = searched g (goal.at.returns-in-Ok-eq0-clause-through g c).After-line_end-end
+    (omega arith) in
     let told = g.R.Source.told in
     let failed = g.R.Source.failed in
     let gave = g.R.Source.gave in
@@ -153,10 +149,8 @@ pub returns-in-Err-clause-through : goal.returns-in-Err-clause-through
 returns-in-Err-clause-through g c =
     let line = c.line_end-end.result.place in
     let h = c.search.buffer in
-    let s : Searching c.args.room c.search.left line h =
-    further c.args.room c.search.left c.search.searched line h (omega arith) (omega arith)
-    (omega arith) (rw c.bytes.ensures at c.line_end-end.ensures.plain)
-    c.search.invariant.searching in
+    let s = searched g (goal.at.returns-in-Err-clause-through g c).After-line_end-end
+    (omega arith) in
     let told = g.R.Source.told in
     let failed = g.R.Source.failed in
     let gave = g.R.Source.gave in

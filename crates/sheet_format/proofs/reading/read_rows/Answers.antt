@@ -1,6 +1,7 @@
 use Rattle.std.proofs.Common.{◌∙◌, ◌+◌, ◌∷◌, Bor, List, ℕ, Some, refl, subst, inl, inr, arith}
-use Rattle.std.proofs.Common.{length}
-use Rattle.csv.specs.Reading.{default_config, records_from, strip_bom}
+use Rattle.std.proofs.Common.{length, ◌≡◌, ◌<◌, false}
+use Rattle.csv.specs.Machine.{ends_at_end}
+use Rattle.csv.specs.Reading.{default_config, records_from, source_of, strip_bom}
 use Rattle.csv.specs.Records.{fields_of}
 use Rattle.csv.proofs.ReadFacts.{rows-end}
 use Rattle.sheet_format.specs.Rows.{records_of}
@@ -11,6 +12,7 @@ use Rattle.sheet_format.proofs.FirstFaults.{HasRead, read-begin, read-end, read-
 use Rattle.sheet_format.proofs.FirstFaults.{read-whole}
 use Rattle.sheet_format.proofs.RecordFacts.{records-end, records-step, row-read}
 use Rattle.sheet_format.proofs.reading.read_rows.Goals as goal
+use Rattle.sheet_format.proofs.reading.read_rows.Goals.{After-take_row}
 
 pub rows-init : goal.rows-init
 rows-init c =
@@ -30,8 +32,18 @@ rows-init c =
       rw e at fr.flexible,
     )
 
-pub rows-preserved : goal.rows-preserved
-rows-preserved c =
+-- The text that is left after a row, and its rows, which with that row were left before.
+record RowsLeft (c : After-take_row) : Type 0 where
+  text : List ℕ
+  source : source_of (λ (b : Bor (List ℕ)). Some b.now) c.read_byte_record.new.self ≡ Some text
+  count : ℕ
+  room : length text < count
+  well : ends_at_end c.read_byte_record.new.self.state ≡ false
+  read : HasRead (records_of c.args.bytes.now) c.rows.draft (fields_of c.read_byte_record.new.row
+      ∷ records_from default_config count c.read_byte_record.new.self.state text)
+
+rows_left : (c : After-take_row) → RowsLeft c
+rows_left c =
     let (trim, ready, config, well, y, source, n, room, read, flexible) = c.rows.invariant in
     let got = rw c.if-not-found.false at (c.in-Ok.ensures.reads trim ready) in
     let row = fields_of c.read_byte_record.new.row in
@@ -40,37 +52,44 @@ rows-preserved c =
     let (m, more, room2, well2) = records-step n c.rows.reader.state y
     (row, c.read_byte_record.new.self.state, z) next well room in
     let rest = records_from default_config m c.read_byte_record.new.self.state z in
-    let here = subst (HasRead (records_of c.args.bytes.now) c.rows.draft) {y = row ∷ rest} more
-    read in
-    let after = read-more (records_of c.args.bytes.now) c.rows.draft c.take_row.new.self row rest
-    here c.in-Ok-take_row.ensures.faultless c.in-Ok-take_row.ensures.taken in (
+    record {
+      text = z;
+      source = at_z;
+      count = m;
+      room = room2;
+      well = well2;
+      read = subst (HasRead (records_of c.args.bytes.now) c.rows.draft) {y = row ∷ rest} more read;
+    }
+
+pub rows-preserved : goal.rows-preserved
+rows-preserved c =
+    let (trim, ready, config, well, y, source, n, room, read, flexible) = c.rows.invariant in
+    let got = rw c.if-not-found.false at (c.in-Ok.ensures.reads trim ready) in
+    let left = rows_left (goal.at.rows-preserved c).After-take_row in
+    let rest = records_from default_config left.count c.read_byte_record.new.self.state left.text in
+    let after = read-more (records_of c.args.bytes.now) c.rows.draft c.take_row.new.self
+    (fields_of c.read_byte_record.new.row) rest left.read c.in-Ok-take_row.ensures.faultless
+    c.in-Ok-take_row.ensures.taken in (
       got.3 ∙ trim,
       inl (c.in-Ok.ensures.ready trim),
       got.2 ∙ config,
-      well2,
-      z,
-      at_z,
-      m,
-      room2,
+      left.well,
+      left.text,
+      left.source,
+      left.count,
+      left.room,
       after,
       c.in-Ok.ensures.flexible ∙ flexible,
     )
 
 pub returns-in-Err-Fault-clause-fault : goal.returns-in-Err-Fault-clause-fault
 returns-in-Err-Fault-clause-fault c =
-    let (trim, ready, config, well, y, source, n, room, read, flexible) = c.rows.invariant in
-    let got = rw c.if-not-found.false at (c.in-Ok.ensures.reads trim ready) in
-    let row = fields_of c.read_byte_record.new.row in
-    let (z, at_z, next) = row-read (λ (b : Bor (List ℕ)). Some b.now) c.rows.reader
-    c.read_byte_record.new.self row y config source got in
-    let (m, more, room2, well2) = records-step n c.rows.reader.state y
-    (row, c.read_byte_record.new.self.state, z) next well room in
-    let rest = records_from default_config m c.read_byte_record.new.self.state z in
-    let here = subst (HasRead (records_of c.args.bytes.now) c.rows.draft) {y = row ∷ rest} more
-    read in
+    let left = rows_left (goal.at.returns-in-Err-Fault-clause-fault c).After-take_row in
+    let rest = records_from default_config left.count c.read_byte_record.new.self.state left.text in
     let refused = rw c.in-Err-Fault.is at c.take_row.ensures.fault in
-    let found = read-fault (records_of c.args.bytes.now) c.rows.draft row rest c.in-Err-Fault.kind
-    here (rw c.in-Err-Fault.field-0-is at refused) in
+    let found = read-fault (records_of c.args.bytes.now) c.rows.draft
+    (fields_of c.read_byte_record.new.row) rest c.in-Err-Fault.kind left.read
+    (rw c.in-Err-Fault.field-0-is at refused) in
     rw (c.taken-number.ensures, c.in-Err-Fault.kind-is) (inl (c.requires, _, refl, found))
 
 pub returns-in-None-clause-fault : goal.returns-in-None-clause-fault
@@ -97,20 +116,13 @@ returns-in-Some-clause-sheet c =
 
 pub rows-smaller : goal.rows-smaller
 rows-smaller c =
-    let (trim, ready, config, well, y, source, n, room, read, flexible) = c.rows.invariant in
-    let got = rw c.if-not-found.false at (c.in-Ok.ensures.reads trim ready) in
     let row = fields_of c.read_byte_record.new.row in
-    let (z, at_z, next) = row-read (λ (b : Bor (List ℕ)). Some b.now) c.rows.reader
-    c.read_byte_record.new.self row y config source got in
-    let (m, more, room2, well2) = records-step n c.rows.reader.state y
-    (row, c.read_byte_record.new.self.state, z) next well room in
-    let rest = records_from default_config m c.read_byte_record.new.self.state z in
-    let here = subst (HasRead (records_of c.args.bytes.now) c.rows.draft) {y = row ∷ rest} more
-    read in
-    let taken = row-taken c.rows.draft row here.draft c.in-Ok-take_row.ensures.faultless in
+    let left = rows_left (goal.at.rows-smaller c).After-take_row in
+    let rest = records_from default_config left.count c.read_byte_record.new.self.state left.text in
+    let taken = row-taken c.rows.draft row left.read.draft c.in-Ok-take_row.ensures.faultless in
     rw (c.in-Ok-take_row.ensures.taken, taken.rows) (omega (
       arith,
-      ap (λ (all : List (List (List ℕ))). length all) here.rows,
+      ap (λ (all : List (List (List ℕ))). length all) left.read.rows,
       length-append (rows_of_draft c.rows.draft) (row ∷ rest),
       length-append (rows_of_draft c.rows.draft) (row ∷ []),
     ))

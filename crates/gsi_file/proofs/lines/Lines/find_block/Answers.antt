@@ -12,13 +12,13 @@ returns-in-Err-clause-through g c =
     let f = c.in-Some.found in
     let found : IsFound self.room c.find_line.new.buffer f =
     rw c.in-Some.is at c.in_ok-found.ensures.found in
-    let fault : IsFileFault (take f.line c.find_line.new.buffer) c.in-Err.kind =
+    let fault : IsFileFault (take f.line_length c.find_line.new.buffer) c.in-Err.kind =
     subst (λ (line : List ℕ). IsFileFault line c.in-Err.kind) (c.line.ensures
     ∙ c.set_line.ensures.line) c.in-Err.ensures.fault in
     through_so _ _ _ c.in_ok-found.ensures.through
     (λ before after finds.
-    let next : FindsLine before after self.room (unused self.window) c.find_line.new.buffer f.line
-    f.used f.room f.last = rw (c.in-Some.is, c.drop_line.ensures.buffer) at finds in
+    let next : FindsLine before after self.room (unused self.window) c.find_line.new.buffer
+    f.line_length f.used f.room f.last = rw (c.in-Some.is, c.drop_line.ensures.buffer) at finds in
     fault_to_come self.state self.count self.room f.room (unused self.window)
     c.find_line.new.buffer (unused c.set_line.new.self) before after f c.in-Err.kind c.requires
     (omega (arith, self.counted, found.takes)) next fault)
