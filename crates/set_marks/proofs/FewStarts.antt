@@ -2,14 +2,14 @@
 use Rattle.std.proofs.Common.{◌≡◌, ℕ, zero, suc, ◌+◌, ◌<◌, ◌≤◌, Bool, true, false, List, [], ◌∷◌, ◌++◌}
 use Rattle.std.proofs.Common.{length, take, Option, Some, None, refl, sym, ap, ◌∙◌, arith, inl, inr}
 use Rattle.std.specs.Prelude.{nat_le, nat_lt, slice_get, ◌&&◌, if◌then◌else◌}
-use Rattle.std.proofs.lemmas.Bool.{cases_lt, le-leb, lt-ltb, le-ltb}
+use Rattle.std.proofs.lemmas.Bool.{cases_lt, le-leb, le-ltb}
 use Rattle.std.proofs.lemmas.List.{append-nil, take_all, take-append-le}
 use Rattle.adjust_kernel.specs.declared.bounds.TheConstants.{MOST_SETS}
 use Rattle.station_book.specs.Faults.{first_of}
 use Rattle.set_marks.specs.declared.flaw.Flaw.{Flaw}
 use Rattle.set_marks.specs.declared.fault.MarkKind.TheVariants as kinds
 use Rattle.set_marks.specs.declared.sight.Sight.{Sight}
-use Rattle.set_marks.specs.Divisions.{sets_flaw, set_flaw, first_set, end_by, part, next_of}
+use Rattle.set_marks.specs.Divisions.{sets_flaw, set_flaw, first_set, end_by, part}
 use Rattle.set_marks.specs.Divisions.{flaw_at, flaw_when, starts_from, starts_of, is_of, end_in}
 use Rattle.set_marks.specs.Divisions.{rest_flaw}
 

@@ -5,7 +5,7 @@ use Rattle.std.proofs.Common.{arith, get_or, inl, inr, refl, All, drop-cons, add
 use Rattle.std.specs.Prelude.{slice_get, slice_index, if◌then◌else◌, None, Some}
 use Rattle.std.proofs.lemmas.Bool.{ne_eqb}
 use Rattle.std.proofs.lemmas.List.{append-nil, drop-drop, get_or-drop, length-take, length-drop}
-use Rattle.std.proofs.lemmas.List.Elements.{All-cons, All-nil, All-append, All-head, All-tail}
+use Rattle.std.proofs.lemmas.List.Elements.{All-cons, All-nil, All-append}
 use Rattle.gsi_file.specs.Parts.{parts, is_line, is_line_end}
 use Rattle.set_marks.specs.declared.mark.BlockMark.{BlockMark}
 use Rattle.set_marks.specs.declared.mark.Mark.{Mark}

@@ -1,7 +1,7 @@
 -- The parts of a file are taken one by one: what is to come after each, and what is kept.
 use Rattle.std.proofs.Common.{◌≡◌, ℕ, zero, suc, ◌+◌, ◌*◌, ◌-◌, ◌<◌, ◌≤◌, Bool, true, false, cond, List, []}
 use Rattle.std.proofs.Common.{◌∷◌, ◌++◌, length, take, drop, Option, Some, None, refl, sym, ap}
-use Rattle.std.proofs.Common.{subst, ◌∙◌, arith, inl, inr, length-take, length-drop, drop-cons}
+use Rattle.std.proofs.Common.{subst, ◌∙◌, arith, inl, inr, length-take, drop-cons}
 use Rattle.std.proofs.Common.{drop-drop, add-one}
 use Rattle.std.specs.Prelude.{slice_index, Ok, Err}
 use Rattle.std.proofs.lemmas.List.{take-append-drop, take-take, append-nil}
@@ -13,9 +13,9 @@ use Rattle.gsi_file.specs.Parts.{is_line, is_line_end, HasNoEnd}
 use Rattle.gsi_file.specs.ToCome.{ToCome, GivesLine, GivesEnd, only}
 use Rattle.gsi_file.specs.declared.bounds.TheConstants.{LONGEST_FILE}
 use Rattle.gsi_file.specs.declared.file_fault.FileKind.{FileKind}
-use Rattle.gsi_file.specs.declared.file_fault.FileKind.TheVariants.{FileTooLong, LineTooLong, Read}
+use Rattle.gsi_file.specs.declared.file_fault.FileKind.TheVariants.{FileTooLong, LineTooLong}
 use Rattle.gsi_file.specs.declared.file_fault.FileFault.TheVariants as file
-use Rattle.gsi_file.proofs.FirstBytes.{with_line, answers_line, answers_end, answers_failed}
+use Rattle.gsi_file.proofs.FirstBytes.{with_line, answers_line, answers_end}
 use Rattle.gsi_file.proofs.Finding.{file_too_long, line_too_long}
 use Rattle.set_marks.specs.declared.fault.MarkFault.{MarkFault}
 use Rattle.set_marks.specs.declared.fault.MarkFault.TheVariants.{File, Reading, At, Memory}

@@ -2,7 +2,6 @@
 use Rattle.std.specs.Prelude.{◌≡◌, ℕ, ◌+◌, Bool, true, false, List, [], ◌∷◌, ◌++◌, None, ⊤}
 use Rattle.std.specs.Prelude.{Result, Ok, Err}
 use Rattle.gsi_word.specs.Blocks.{GsiBlock, IsBlock}
-use Rattle.gsi_file.specs.Parts.{is_line}
 use Rattle.gsi_file.specs.ToCome.{IsFileFault}
 use Rattle.gsi_file.specs.declared.file_fault.FileFault.TheVariants as file
 use Rattle.station_book.specs.Blocks.{role_of}

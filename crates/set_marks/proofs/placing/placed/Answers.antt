@@ -1,4 +1,4 @@
-use Rattle.std.proofs.Common.{◌≡◌, ◌≤◌, ◌<◌, ◌+◌, ◌-◌, ◌∷◌, ◌++◌, [], ℕ, List, Some, None, length, drop, sym, ap}
+use Rattle.std.proofs.Common.{◌≡◌, ◌<◌, ◌+◌, ◌-◌, ◌∷◌, ◌++◌, [], ℕ, List, Some, None, length, drop, sym, ap}
 use Rattle.std.proofs.Common.{subst, ◌∙◌, arith, rules}
 use Rattle.std.specs.Prelude.{slice_get, slice_index}
 use Rattle.std.proofs.lemmas.List.{append-nil}
@@ -6,8 +6,8 @@ use Rattle.std.proofs.lemmas.List.Elements.{All-nil, All-drop}
 use Rattle.gsi_file.specs.Parts.{parts}
 use Rattle.set_marks.specs.declared.mark.BlockMark.{BlockMark}
 use Rattle.set_marks.specs.declared.mark.Mark.{Mark}
-use Rattle.set_marks.specs.Copies.{AreOrdered, BeginsAt, BeginsLine}
-use Rattle.set_marks.specs.LinePlaces.{AreAscending, placed_by}
+use Rattle.set_marks.specs.Copies.{BeginsAt, BeginsLine}
+use Rattle.set_marks.specs.LinePlaces.{placed_by}
 use Rattle.set_marks.specs.Placing.{marks_after, placed}
 use Rattle.set_marks.proofs.LinePlaces.{placed_is, placed_none, placed_past, placed_beyond}
 use Rattle.set_marks.proofs.LinePlaces.{next_placed, at_place, first_is, none_first}

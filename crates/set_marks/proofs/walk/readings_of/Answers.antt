@@ -1,17 +1,14 @@
-use Rattle.std.proofs.Common.{◌≡◌, ◌≤◌, ◌<◌, ◌+◌, ◌-◌, ◌*◌, ℕ, List, Option, None, Some, Ok, Err, true, false}
-use Rattle.std.proofs.Common.{length, drop, take, refl, sym, ap, subst, ◌∙◌, arith, rules, All, inl, Bool}
+use Rattle.std.proofs.Common.{◌≡◌, ◌≤◌, ◌<◌, ◌+◌, ◌-◌, ℕ, List, Option, None, Err}
+use Rattle.std.proofs.Common.{length, drop, take, refl, sym, ap, subst, ◌∙◌, arith, rules, inl, Bool}
 use Rattle.std.proofs.lemmas.List.{length-drop, take_all}
 use Rattle.std.proofs.lemmas.List.Elements.{All-nil}
 use Rattle.std.proofs.lemmas.List.Splits.{slice_split_none}
-use Rattle.gsi_file.specs.FileAnswers.{FileAnswers, answers_within, file_answers}
+use Rattle.gsi_file.specs.FileAnswers.{answers_within, file_answers}
 use Rattle.gsi_file.specs.Parts.{is_line, is_line_end, HasNoEnd}
 use Rattle.gsi_file.specs.ToCome.{only}
 use Rattle.gsi_file.specs.declared.bounds.TheConstants.{LONGEST_FILE}
-use Rattle.gsi_file.specs.declared.file_fault.FileFault.TheVariants as file
 use Rattle.gsi_file.specs.declared.file_fault.FileKind.TheVariants.{Read}
 use Rattle.gsi_file.proofs.FirstBytes.{answers_failed, with_line}
-use Rattle.set_marks.specs.declared.fault.MarkFault.TheVariants.{File}
-use Rattle.set_marks.specs.declared.walk.Walk.{Walk}
 use Rattle.set_marks.specs.Copies.{BeginsAt}
 use Rattle.set_marks.specs.Keeping.{AnswersReadings}
 use Rattle.set_marks.specs.Taking.{TakesPart, readings_in}
