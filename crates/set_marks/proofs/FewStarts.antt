@@ -112,8 +112,7 @@ bounded : (x r : Sight) (rs : List Sight) (starts : List ℕ) (o : Option Flaw)
 bounded x r rs starts o first are told =
     let same : r ≡ x = cc in
     let all : starts ≡ take (suc MOST_SETS) (starts_of (x ∷ rs)) = are
-    ∙ ap (λ (s : Sight). take (MOST_SETS + 1) (starts_from s.target true 0 (x ∷ rs))) same in
-    (
+    ∙ ap (λ (s : Sight). take (MOST_SETS + 1) (starts_from s.target true 0 (x ∷ rs))) same in (
       all,
       told ∙ ap (λ (l : List ℕ). sets_flaw (first_set l (x ∷ rs)) 0 (end_by l (x ∷ rs)) l (x ∷ rs))
           all ∙ same_flaw (starts_of (x ∷ rs)) (x ∷ rs),

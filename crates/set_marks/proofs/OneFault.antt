@@ -82,8 +82,7 @@ one_file_fault answers n m a b p h =
     let last : p.left.last ≡ h.left.last = ap (λ (x : FileAnswers). x.last) split in
     let same = one_place p.lines h.lines p.left.lines h.left.lines (reverse p.blocks)
     (reverse h.blocks) h.left.last a b p.each h.each lines
-    (subst (λ (o : Option FileKind). FaultBefore p.left.lines o a) last p.fault) h.fault in
-    (
+    (subst (λ (o : Option FileKind). FaultBefore p.left.lines o a) last p.fault) h.fault in (
       p.counted ∙ ap (λ n. n + 1) (sym (length-reverse p.blocks) ∙ same.0
           ∙ length-reverse h.blocks) ∙ sym h.counted,
       same.1,

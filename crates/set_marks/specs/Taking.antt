@@ -2,7 +2,7 @@
 use Rattle.std.specs.Prelude.{◌≡◌, ℕ, ◌+◌, Bool, true, false, List, [], ◌∷◌, ◌++◌, None, ⊤}
 use Rattle.std.specs.Prelude.{Result, Ok, Err}
 use Rattle.gsi_word.specs.Blocks.{GsiBlock, IsBlock}
-use Rattle.gsi_file.specs.ToCome.{IsFileFault}
+use Rattle.gsi_file.specs.ToCome as to_come
 use Rattle.gsi_file.specs.declared.file_fault.FileFault.TheVariants as file
 use Rattle.station_book.specs.Blocks.{role_of}
 use Rattle.station_book.specs.Faults.{first_of}
@@ -32,7 +32,7 @@ TakesPart false stated at part old new = new ≡ old
 -- Why a line of this number is not taken: it is no block, and this is its fault; or there was no
 -- memory.
 abbrev pub IsLineRefusal : List ℕ → ℕ → MarkFault → Type 0
-IsLineRefusal line number (File (file.At n kind)) = (n ≡ number) × IsFileFault line kind
+IsLineRefusal line number (File (file.At n kind)) = (n ≡ number) × to_come.IsFileFault line kind
 IsLineRefusal line number (File file.Memory) = ⊥
 IsLineRefusal line number (Reading n kind) = ⊥
 IsLineRefusal line number (At n kind) = ⊥

@@ -11,7 +11,7 @@ ghost use Rattle.gsi_word.specs.Blocks.{IsBlock};
 ghost use Rattle.gsi_word.specs.Words.{IsLineByte};
 ghost use Rattle.gsi_file.specs.FileAnswers.{file_answers};
 ghost use Rattle.gsi_file.specs.Parts.{is_line};
-ghost use Rattle.gsi_file.specs.ToCome.{IsFileFault};
+ghost use Rattle.gsi_file.specs.ToCome as to_come;
 ghost use Rattle.gsi_file.specs.declared.bounds.TheConstants.{LONGEST_FILE, LONGEST_LINE};
 ghost use Rattle.gsi_file.specs.declared.file_fault.FileFault.TheVariants.{At};
 ghost use Rattle.gsi_file.specs.declared.file_fault.FileKind.TheVariants.{FileTooLong, LineTooLong};
@@ -50,7 +50,7 @@ pub(crate) struct Walk {
 fn read_line(line: &[u8], printable: bool) -> Result<Block<'_>, FileKind>
     requires { printable ≡ true → All IsLineByte line.now }
     ensures block { IfOk result (λ b. IsBlock line.now (block_of b)) }
-    ensures fault { IfErr result (IsFileFault line.now) }
+    ensures fault { IfErr result (to_come.IsFileFault line.now) }
 {
     if !printable {
         if let Err(at) = check_printable(line) {
