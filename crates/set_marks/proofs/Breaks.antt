@@ -1,7 +1,8 @@
 -- Where the first line of some bytes ends.
-use Rattle.std.proofs.Common.{◌≡◌, ℕ, suc, ◌+◌, ◌<◌, ◌≤◌, true, false, List, [], ◌∷◌, length, take}
+use Rattle.std.proofs.Common.{◌≡◌, ℕ, suc, ◌+◌, ◌<◌, ◌≤◌, true, false, List, ◌∷◌, length, take}
 use Rattle.std.proofs.Common.{drop, get_or, not, Option, Some, None, refl, sym, ap, subst, ◌∙◌}
-use Rattle.std.proofs.Common.{arith, inl, inr}
+use Rattle.std.proofs.Common.{All, arith, inl, inr, length-take}
+use Rattle.std.proofs.lemmas.List.{get_or-take}
 use Rattle.std.specs.Prelude.{cond}
 use Rattle.std.specs.List.{position, position_or_len}
 use Rattle.std.proofs.lemmas.Bool.{cases_lt, lt-ltb, le-ltb, false_from_ne_true, false≢true, ne_eqb}
@@ -9,10 +10,16 @@ use Rattle.std.proofs.lemmas.List.Elements.{All-from_get_or}
 use Rattle.std.proofs.lemmas.List.Sums.{fails_before_first, passes_at_first, prefix_len_is}
 use Rattle.std.specs.Prelude.{slice_index, ◌==◌}
 use Rattle.memchr.specs.Find.{IsFirstByte, is_byte2}
-use Rattle.std.proofs.lemmas.List.Splits.{slice_split_first, slice_split_none}
+use Rattle.std.proofs.lemmas.List.Splits.{slice_split_first}
 use Rattle.gsi_word.specs.Words.{IsLineByte}
-use Rattle.gsi_file.specs.Parts.{is_line_end, parts}
-use Rattle.set_marks.specs.Placing.{IsEmptyPart, IsFirstEnd}
+use Rattle.gsi_file.specs.Parts.{is_line_end, parts, HasNoEnd}
+
+-- The first byte that ends a line stands at this place, and the first part is before it.
+pub record IsFirstEnd (bytes : List ℕ) (n : ℕ) : Type 0 where
+  pub inside : n < length bytes
+  pub some : parts bytes ≡ take n bytes ∷ parts (drop (suc n) bytes)
+  pub plain : HasNoEnd (take n bytes)
+  pub end : is_line_end (slice_index bytes n) ≡ true
 
 abbrev place : List ℕ → ℕ
 place bytes = position_or_len is_line_end bytes
@@ -32,6 +39,11 @@ at_place bytes lt =
       inside = lt;
       some = slice_split_first is_line_end bytes 0 lt
           ∙ ap (λ (k : ℕ). take (place bytes) bytes ∷ parts (drop k bytes)) step;
+      plain = All-from_get_or (λ b. is_line_end b ≡ false) (take (place bytes) bytes) 0
+          (λ k low. let inside : k < place bytes =
+          omega (arith, length-take (place bytes) bytes, low) in
+          ap is_line_end (get_or-take (place bytes) bytes k 0 inside)
+          ∙ fails_before_first is_line_end bytes k 0 inside);
       end = passes_at_first is_line_end bytes 0 lt;
     }
 
@@ -44,12 +56,11 @@ some_end bytes n e = elim (cases_lt (place bytes) (length bytes)) [
 ]
 
 -- Where none is.
-pub no_end : (bytes : List ℕ) → None ≡ position is_line_end bytes → parts bytes ≡ bytes ∷ []
+pub no_end : (bytes : List ℕ) → None ≡ position is_line_end bytes → HasNoEnd bytes
 no_end bytes e = elim (cases_lt (place bytes) (length bytes)) [
   | inl lt ↦ let f : None ≡ Some (place bytes) = e ∙ found bytes lt in cc
-  | inr le ↦ slice_split_none is_line_end bytes
-      (All-from_get_or (λ b. is_line_end b ≡ false) bytes 0
-      (λ k lt. fails_before_first is_line_end bytes k 0 (omega arith)))
+  | inr le ↦ All-from_get_or (λ b. is_line_end b ≡ false) bytes 0
+      (λ k lt. fails_before_first is_line_end bytes k 0 (omega arith))
 ]
 
 -- The first byte of two is the first that ends a line.
@@ -92,9 +103,16 @@ printable_position bytes at printable inside e = is_position bytes (Some at) (
   e,
 )
 
--- A line feed at the front ends an empty part.
-pub feed_first : (bytes : List ℕ) → 0 < length bytes → slice_index bytes 0 ≡ 10
-    → IsEmptyPart bytes 1
-feed_first bytes lt e =
-    let end : is_line_end (slice_index bytes 0) ≡ true = rw e refl in
-    inr (refl, some_end bytes 0 (printable_position bytes 0 (λ k lt. absurd (omega arith)) lt end))
+-- A byte at the front that ends a line ends an empty part.
+pub first_at_front : (bytes : List ℕ) → 0 < length bytes
+    → is_line_end (slice_index bytes 0) ≡ true → IsFirstEnd bytes 0
+first_at_front bytes lt end =
+    some_end bytes 0 (printable_position bytes 0 (λ k lt. absurd (omega arith)) lt end)
+
+-- All bytes before a place are printable.
+pub all_printable : (bytes : List ℕ) (at : ℕ)
+    → ((k : ℕ) → k < at → IsLineByte (slice_index bytes k)) → at ≤ length bytes
+    → All IsLineByte (take at bytes)
+all_printable bytes at printable inside = All-from_get_or IsLineByte (take at bytes) 0
+    (λ k low. let lt : k < at = omega (arith, length-take at bytes, low) in
+    subst IsLineByte (sym (get_or-take at bytes k 0 lt)) (printable k lt))

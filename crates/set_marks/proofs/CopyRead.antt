@@ -36,7 +36,8 @@ history_of : (bs : List GsiBlock) → reverse (grown [] bs) ≡ bs
 history_of bs = ap (λ (cs : List GsiBlock). reverse cs) (grown_is [] bs ∙ append-nil (reverse bs))
     ∙ reverse-reverse bs
 
-one_each : (lines : List (List ℕ)) (bs cs : List GsiBlock) → AllZip IsBlock lines bs
+-- Lines are blocks of one list.
+pub one_each : (lines : List (List ℕ)) (bs cs : List GsiBlock) → AllZip IsBlock lines bs
     → AllZip IsBlock lines cs → bs ≡ cs
 one_each [] [] [] a b = refl
 one_each [] [] (y ∷ cs) a b = absurd b

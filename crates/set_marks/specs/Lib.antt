@@ -19,3 +19,5 @@ pub mod MarkedFile
 pub mod Leading
 pub mod Searching
 pub mod Keeping
+pub mod LinePlaces
+pub mod Taking

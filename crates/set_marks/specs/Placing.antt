@@ -1,7 +1,6 @@
 -- Where the code lines of a file's blocks are put in.
-use Rattle.std.specs.Prelude.{◌≡◌, ℕ, suc, ◌+◌, ◌<◌, ◌==◌, true, List, [], ◌∷◌, ◌++◌, length, map}
-use Rattle.std.specs.Prelude.{take, drop, slice_index, if◌then◌else◌, ◌⊎◌}
-use Rattle.gsi_file.specs.Parts.{parts, is_line, is_line_end}
+use Rattle.std.specs.Prelude.{ℕ, suc, ◌+◌, ◌==◌, List, [], ◌∷◌, ◌++◌, length, map, if◌then◌else◌}
+use Rattle.gsi_file.specs.Parts.{parts, is_line}
 use Rattle.set_marks.specs.declared.mark.BlockMark.{BlockMark}
 use Rattle.set_marks.specs.declared.mark.Mark.{Mark}
 use Rattle.set_marks.specs.Lines.{end_beside}
@@ -37,13 +36,3 @@ placed_from bytes at number ms (part ∷ rest) =
 -- The code lines of a file, each where the line of its block begins.
 abbrev pub placed : List ℕ → List BlockMark → List Mark
 placed bytes ms = placed_from bytes 0 0 ms (parts bytes)
-
--- The first byte that ends a line stands at this place, and the first part is before it.
-pub record IsFirstEnd (bytes : List ℕ) (n : ℕ) : Type 0 where
-  pub inside : n < length bytes
-  pub some : parts bytes ≡ take n bytes ∷ parts (drop (suc n) bytes)
-  pub end : is_line_end (slice_index bytes n) ≡ true
-
--- So many bytes are none; or one, which ends an empty part.
-abbrev pub IsEmptyPart : List ℕ → ℕ → Type 0
-IsEmptyPart bytes n = (n ≡ 0) ⊎ ((n ≡ 1) × IsFirstEnd bytes 0)

@@ -1,5 +1,4 @@
--- How targets are looked for without comparing each with all, and lines passed over that get no
--- code lines: what the code finds on the way.
+-- How targets are looked for without comparing each with all: what the code finds on the way.
 use Rattle.std.specs.Prelude.{◌≡◌, ℕ, Bool, true, false, ◌&&◌, List, [], ◌∷◌, if◌then◌else◌}
 use Rattle.std.specs.List.{list_any}
 use Rattle.station_book.specs.Places.{is_among}
@@ -7,9 +6,7 @@ use Rattle.set_marks.specs.declared.known.Known.{Known}
 use Rattle.set_marks.specs.declared.known.Known.TheVariants.{Few, Many}
 use Rattle.set_marks.specs.declared.faces.Faces.{Faces}
 use Rattle.set_marks.specs.declared.sight.Sight.{Sight}
-use Rattle.set_marks.specs.declared.mark.BlockMark.{BlockMark}
 use Rattle.set_marks.specs.Divisions.{is_of, is_again}
-use Rattle.set_marks.specs.Placing.{marks_of_block, marks_after}
 
 -- A set repeats another: it reads the same targets in the same faces, in the same order.
 abbrev pub repeats : List Sight → List Sight → Bool
@@ -35,8 +32,3 @@ names_in second faces = if second then faces.twos else faces.ones
 abbrev pub KeepsFaces : List Sight → Faces → Type 0
 KeepsFaces rs faces =
     (r : Sight) → is_among (names_in r.second faces) r.target ≡ list_any (is_again r) rs
-
--- None of these code lines comes first that is of the block of this number.
-pub record HasNoMark (number : ℕ) (ms : List BlockMark) : Type 0 where
-  pub none : marks_of_block number ms ≡ []
-  pub all : marks_after number ms ≡ ms

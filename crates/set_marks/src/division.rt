@@ -1,6 +1,7 @@
 //! The division of a station's readings into sets.
 
-ghost use Rattle.std.specs.Prelude.{◌≡◌, ◌≤◌, List, IfOk, Some, length, drop, not, ◌&&◌};
+ghost use Rattle.std.specs.Prelude.{◌≡◌, ◌≤◌, List, IfOk, None, Some, length, drop, nat_lt};
+ghost use Rattle.std.specs.Prelude.{not, true, ◌&&◌};
 ghost use Rattle.std.specs.Bool.{OnTrue};
 ghost use Rattle.std.specs.Str.{bytes_eq};
 ghost use Rattle.std.specs.List.{list_any};
@@ -176,6 +177,13 @@ fn sets_flaw(alloc: Global, starts: &[usize], sights: &[Sight]) -> Result<Option
     Ok(None)
 }
 
+/// Whether readings stand outside before a single set.
+fn is_lone(leading: usize, starts: &[usize]) -> bool
+    ensures { result ≡ (nat_lt 0 leading && nat_lt (length starts.now) 2) }
+{
+    leading > 0 && starts.len() < 2
+}
+
 /// What is wrong first where so many leading readings stand outside, and the rest are sets.
 fn flaw_of(alloc: Global, sights: &[Sight], leading: usize) -> Result<Option<Flaw>, AllocError>
     ensures { IfOk result (λ o. o ≡ flaw_of sights.now leading) }
@@ -187,11 +195,12 @@ fn flaw_of(alloc: Global, sights: &[Sight], leading: usize) -> Result<Option<Fla
             kind: MarkKind::OneSet,
         }));
     };
-    let starts = starts(alloc, &opening.target, rest)?;
+    // One more than a station may have tells that it has too many.
+    let starts = starts(alloc, &opening.target, rest, MOST_SETS + 1)?;
     if let Some(flaw) = sets_flaw(alloc, &starts, rest)? {
         return Ok(Some(flaw));
     }
-    if leading > 0 && starts.len() < 2 {
+    if is_lone(leading, &starts) {
         return Ok(Some(flaw_at(MarkKind::OneSet, Some(opening))));
     }
     Ok(None)
@@ -275,6 +284,7 @@ fn count_known(known: &mut Known, set: &[Sight]) -> usize
     ensures known { (first : List Sight) → KnowsTargetsOf first known.old
         → result ≡ length (known_in first set.now) }
     ensures bound { result ≤ length set.now }
+    ensures unchanged { known.new ≡ known.old }
 {
     let mut count = 0;
     let mut left = set;
@@ -287,15 +297,44 @@ fn count_known(known: &mut Known, set: &[Sight]) -> usize
     count
 }
 
-/// Whether most targets of a set are targets of the first.
-fn is_mostly_known(alloc: Global, first: &[Sight], set: &[Sight]) -> Result<bool, AllocError>
-    ensures { IfOk result (λ b. b ≡ is_mostly_known first.now set.now) }
+/// Whether a set repeats the first. Then all its targets are targets of the first.
+fn repeats_first(first: &[Sight], set: &[Sight]) -> bool
+    ensures { OnTrue result (is_mostly_known first.now set.now ≡ true) }
 {
-    if !set.is_empty() && repeats(first, set) {
-        return Ok(true);
+    !set.is_empty() && repeats(first, set)
+}
+
+/// Whether most targets of a set are targets of the first, which are known.
+fn is_mostly_known(first: &[Sight], known: &mut Known, set: &[Sight]) -> bool
+    requires known { KnowsTargetsOf first.now known.old }
+    ensures value { result ≡ is_mostly_known first.now set.now }
+    ensures unchanged { known.new ≡ known.old }
+{
+    if repeats_first(first, set) {
+        return true;
     }
-    let mut known = Known::of(alloc, first)?;
-    Ok(set.len() < 2 * count_known(&mut known, set))
+    set.len() < 2 * count_known(known, set)
+}
+
+/// Whether all sets that begin at these places repeat the first. Then none has other targets.
+fn all_repeat(
+    alloc: Global,
+    first: &[Sight],
+    starts: &[usize],
+    sights: &[Sight],
+) -> Result<bool, AllocError>
+    ensures { IfOk result (λ b. OnTrue b (stranger_among first.now
+        (parts_at (end_by starts.now sights.now) starts.now sights.now) ≡ None)) }
+{
+    let mut left = starts;
+    'sets: while let Some((from, rest)) = left.split_first() {
+        let to = end_of_set(alloc, rest, starts, sights)?;
+        if !repeats_first(first, part(*from, to, sights)) {
+            return Ok(false);
+        }
+        left = rest;
+    }
+    Ok(true)
 }
 
 /// The first set that has other targets than the first, by its first reading.
@@ -309,11 +348,16 @@ fn strangers_flaw(
         (parts_at (end_by starts.now sights.now) starts.now sights.now))) }
 {
     let first = first_set(starts, sights);
+    // Mostly no table of its targets is needed.
+    if all_repeat(alloc, first, starts, sights)? {
+        return Ok(None);
+    }
+    let mut known = Known::of(alloc, first)?;
     let mut left = starts;
     'sets: while let Some((from, rest)) = left.split_first() {
         let to = end_of_set(alloc, rest, starts, sights)?;
         let set = part(*from, to, sights);
-        if !is_mostly_known(alloc, first, set)? {
+        if !is_mostly_known(first, &mut known, set) {
             return Ok(flaw_found(MarkKind::OtherTargets, sight_at(set, 0)));
         }
         left = rest;

@@ -27,6 +27,7 @@ mod recognized;
 mod set;
 mod sight;
 mod starts;
+mod walk;
 
 pub use bounds::MOST_READINGS;
 pub use copy::marked_copy;

@@ -1,6 +1,6 @@
 //! How lines end.
 
-ghost use Rattle.std.specs.Prelude.{◌≡◌, ◌<◌, ℕ, slice_index};
+ghost use Rattle.std.specs.Prelude.{◌≡◌, ◌<◌, ℕ, All, IfSome, option_map, slice_index, take, true};
 ghost use Rattle.std.specs.List.{position};
 ghost use Rattle.gsi_word.specs.Words.{IsLineByte};
 ghost use Rattle.gsi_file.specs.Parts.{is_line_end};
@@ -32,6 +32,15 @@ impl LineEnd {
             LineEnd::Both => b"\r\n",
         }
     }
+}
+
+/// Where a part of some bytes ends.
+#[derive(Clone, Copy)]
+pub(crate) struct PartEnd {
+    /// The place of the byte that ends it.
+    pub(crate) place: usize,
+    /// Whether all bytes before it were found to be printable.
+    pub(crate) printable: bool,
 }
 
 /// The byte at a place, or 0 where there is none.
@@ -102,16 +111,40 @@ fn search_end(bytes: &[u8]) -> Option<usize>
     memchr2(LINE_FEED, CARRIAGE_RETURN, bytes)
 }
 
-/// The place of the first byte that ends a line.
+/// Where the first part of some bytes ends, if a byte ends one.
+///
+/// The loads that look for it test each byte whole, so that a part that is found by them needs no
+/// other test of its bytes.
 #[inline(always)]
-pub(crate) fn place_of_end(bytes: &[u8]) -> Option<usize>
-    ensures { result ≡ position is_line_end bytes.now }
+pub(crate) fn part_end(bytes: &[u8]) -> Option<PartEnd>
+    ensures place { option_map (λ end. end.place) result ≡ position is_line_end bytes.now }
+    ensures printable { IfSome result (λ end. end.printable ≡ true
+        → All IsLineByte (take end.place bytes.now)) }
 {
     let at = pass_printable(bytes);
     if at < bytes.len() && is_line_end(bytes[at]) {
-        return Some(at);
+        return Some(PartEnd {
+            place: at,
+            printable: true,
+        });
     }
-    search_end(bytes)
+    match search_end(bytes) {
+        Some(place) => Some(PartEnd {
+            place,
+            printable: false,
+        }),
+        None => None,
+    }
+}
+
+/// The place of the first byte that ends a line.
+fn place_of_end(bytes: &[u8]) -> Option<usize>
+    ensures { result ≡ position is_line_end bytes.now }
+{
+    match part_end(bytes) {
+        Some(end) => Some(end.place),
+        None => None,
+    }
 }
 
 /// Whether a byte ends a line.

@@ -6,8 +6,8 @@ ghost use Rattle.set_marks.specs.Markings.{AnswersMark};
 use crate::fault::MarkFault;
 use crate::mark::Mark;
 use crate::placing::placed;
-use crate::reading::readings_of;
 use crate::recognized::Recognized;
+use crate::walk::readings_of;
 use adjust_kernel::Name;
 use std::alloc::Global;
 
@@ -41,9 +41,9 @@ pub fn mark_file(
     ensures { AnswersMark station bytes.now
         (file_answers (record { bytes = bytes.now; fails = fails })) result }
 {
-    let readings = readings_of(alloc, bytes, fails, station)?;
-    let marking = readings.finish(alloc)?;
-    let marks = placed(alloc, bytes, &marking.marks)?;
+    let walk = readings_of(alloc, bytes, fails, station)?;
+    let marking = walk.readings.finish(alloc)?;
+    let marks = placed(alloc, bytes, &walk.begins, &marking.marks)?;
     Ok(Marked {
         marks,
         stations: marking.stations,

@@ -4,10 +4,6 @@ ghost use Rattle.std.specs.Prelude.{◌≡◌, ◌≤◌, ◌++◌, ◌∷◌, [
 ghost use Rattle.std.specs.Prelude.{not, nat_lt, ◌&&◌};
 ghost use Rattle.station_book.specs.declared.bounds.TheConstants.{CIRCLE, HALF_CIRCLE};
 ghost use Rattle.gsi_word.specs.BlockViews.{block_of};
-ghost use Rattle.gsi_file.specs.FileAnswers.{file_answers};
-ghost use Rattle.byte_ends.specs.Came.{BytesCame};
-ghost use Rattle.byte_ends.specs.Source.{Told, reader_change};
-ghost use Rattle.gsi_file.specs.Standing.{gives, reader_of, to_come};
 ghost use Rattle.gsi_file.specs.declared.bounds.TheConstants.{LONGEST_FILE};
 ghost use Rattle.set_marks.specs.declared.fault.MarkFault.TheVariants.{Memory};
 ghost use Rattle.station_book.specs.Blocks.{lacks, role_of};
@@ -17,20 +13,15 @@ ghost use Rattle.adjust_kernel.specs.Names.{IsName};
 ghost use Rattle.gsi_word.specs.Names.{name_of};
 ghost use Rattle.set_marks.specs.Marks.{IsRoomy};
 ghost use Rattle.set_marks.specs.Stations.{fault_as, has_set_up_word, tells_set_up};
-ghost use Rattle.set_marks.specs.Keeping.{Adds, AnswersReadings, Ends, IsMemoryOr, Keeps, begun_in};
+ghost use Rattle.set_marks.specs.Keeping.{Adds, Ends, IsMemoryOr, Keeps, begun_in};
 
 use crate::fault::{MarkFault, MarkKind};
 use crate::readings::Readings;
 use crate::sight::Sight;
 use adjust_kernel::Name;
-use byte_ends::{Script, Source};
-use gsi_file::Lines;
 use gsi_word::{Block, Found, VERTICAL_ANGLE};
 use station_book::{CIRCLE, HALF_CIRCLE, Reading, Role, read, role_of, target};
 use std::alloc::{AllocError, Global};
-
-/// Bytes that are read at a time.
-const PIECE: usize = 4_096;
 
 /// The index of a slope distance.
 const SLOPE_DISTANCE: u8 = 31;
@@ -89,7 +80,7 @@ fn bare(name: &Name) -> Name
 
 /// No readings: of a station, where its name is stated.
 #[tactic(auto, using(crate::proofs::EndedStations::none_kept))]
-fn no_readings(alloc: Global, station: Option<Name>) -> Readings
+pub(crate) fn no_readings(alloc: Global, station: Option<Name>) -> Readings
     ensures keeps { Keeps station [] result }
     ensures room { All IsRoomy result.marking.marks.items }
 {
@@ -101,7 +92,7 @@ fn no_readings(alloc: Global, station: Option<Name>) -> Readings
 
 impl Readings {
     /// Takes the block of this number, unless there is a fault already, or notes its fault.
-    fn take_unless(
+    pub(crate) fn take_unless(
         &mut self,
         alloc: Global,
         fault: &mut Option<MarkFault>,
@@ -247,50 +238,5 @@ impl Readings {
             second: is_second(reading.angles.zenith),
         })?;
         Ok(())
-    }
-}
-
-/// The stations and the readings of a field file, of these bytes and then an end, or a failed read.
-pub(crate) fn readings_of(
-    alloc: Global,
-    bytes: &[u8],
-    fails: bool,
-    station: Option<Name>,
-) -> Result<Readings, MarkFault>
-    ensures answers { AnswersReadings station
-        (file_answers (record { bytes = bytes.now; fails = fails })) result }
-    ensures room { IfOk result (λ r. All IsRoomy r.marking.marks.items) }
-{
-    let mut lines = Lines::new(alloc, Script::new(bytes, PIECE, fails))?;
-    read_lines(alloc, &mut lines, station)
-}
-
-/// What `readings_of` answers, of the lines that are still to come.
-fn read_lines<R: Source>(
-    alloc: Global,
-    lines: &mut Lines<R>,
-    station: Option<Name>,
-) -> Result<Readings, MarkFault>
-    requires { (told : Told) → to_come (gives told) lines.old
-        ≡ record { number = 0; answers = Some (file_answers told) } }
-    ensures answers { BytesCame
-        (reader_change R.told R.failed R.gave (reader_of lines.old) (reader_of lines.new))
-        (λ came. AnswersReadings station (file_answers came) result) }
-    ensures room { IfOk result (λ r. All IsRoomy r.marking.marks.items) }
-{
-    let mut readings = no_readings(alloc, station);
-    let mut fault = None;
-    'lines: while let Some(line) = lines.next()? {
-        readings.take_unless(
-            alloc,
-            &mut fault,
-            line.number,
-            &line.block,
-            station.is_some(),
-        )?;
-    }
-    match fault {
-        Some(fault) => Err(fault),
-        None => Ok(readings),
     }
 }

@@ -9,8 +9,8 @@ pub struct Sight {
     pub block: u32,
     /// Whether its line is GSI-16.
     pub wide: bool,
-    /// What is read.
-    pub target: Name,
     /// Whether it is read in face II.
     pub second: bool,
+    /// What is read. Last, so that a reading takes 32 bytes and not 40.
+    pub target: Name,
 }

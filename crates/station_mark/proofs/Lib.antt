@@ -2,3 +2,4 @@ pub mod PastLimits
 pub mod Givings
 pub mod Telling
 pub mod Copying
+pub mod AnswerLaws

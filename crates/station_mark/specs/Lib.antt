@@ -3,5 +3,6 @@ pub mod Answers
 pub mod Notes
 pub mod FaultTexts
 pub mod Runs
+pub mod OneAnswer
 -- The inside: what is kept of a reader. No public contract cites it.
 pub mod Giving

@@ -15,6 +15,7 @@
 mod copy;
 mod fault;
 mod given;
+pub mod laws;
 mod mark;
 mod marked_file;
 mod notes;

@@ -10,5 +10,5 @@ returns-in_err-marking c =
     let fault = c.in_err-marking.field-0.0 in
     let is_its : Err fault ≡ c.from_residual-in_err-marking.result = search rules in
     subst (λ (r : _). AnswersMark c.args.station c.args.bytes.now answers r) is_its
-    (refused_after c.args.station c.args.bytes.now answers c.in_ok-readings.readings fault
-    c.in_ok-readings.ensures.answers c.in_err-marking.ensures.fault)
+    (refused_after c.args.station c.args.bytes.now answers c.in_ok-walk.walk.readings fault
+    c.in_ok-walk.ensures.answers c.in_err-marking.ensures.fault)

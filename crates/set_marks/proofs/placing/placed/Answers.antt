@@ -1,64 +1,133 @@
-use Rattle.std.proofs.Common.{◌≡◌, ◌+◌, ◌-◌, ◌++◌, ℕ, List, length, drop, ap, ◌∙◌, arith}
-use Rattle.std.proofs.lemmas.List.{length-drop}
+use Rattle.std.proofs.Common.{◌≡◌, ◌<◌, ◌+◌, ◌-◌, ◌∷◌, ◌++◌, [], ℕ, List, Some, None, length, drop, sym, ap}
+use Rattle.std.proofs.Common.{subst, ◌∙◌, arith, rules}
+use Rattle.std.specs.Prelude.{slice_get, slice_index}
+use Rattle.std.proofs.lemmas.List.{append-nil}
+use Rattle.std.proofs.lemmas.List.Elements.{All-nil, All-drop}
 use Rattle.gsi_file.specs.Parts.{parts}
-use Rattle.set_marks.specs.Placing.{placed_from}
-use Rattle.set_marks.proofs.Walking.{next_value, last_value, next_begins, next_rest, over_empty}
-use Rattle.set_marks.proofs.Walking.{empty_inside, rest_of_empty, begins_after_empty}
+use Rattle.set_marks.specs.declared.mark.BlockMark.{BlockMark}
+use Rattle.set_marks.specs.declared.mark.Mark.{Mark}
+use Rattle.set_marks.specs.Copies.{BeginsAt, BeginsLine}
+use Rattle.set_marks.specs.LinePlaces.{placed_by}
+use Rattle.set_marks.specs.Placing.{marks_after, placed}
+use Rattle.set_marks.proofs.LinePlaces.{placed_is, placed_none, placed_past, placed_beyond}
+use Rattle.set_marks.proofs.LinePlaces.{next_placed, at_place, first_is, none_first}
+use Rattle.set_marks.proofs.LinePlaces.{up_to_end}
 use Rattle.set_marks.proofs.Ordering.{up_to}
 use Rattle.set_marks.proofs.placing.placed.Goals as goal
+use Rattle.set_marks.proofs.placing.placed.Goals.{then-block-number-via-then-block-number}
+use Rattle.set_marks.proofs.placing.placed.Goals.{then-block-number-via-else-block-number+then-block-number-2}
 
-pub parts-preserved : goal.parts-preserved
-parts-preserved c =
-    let n = c.in-Some.length in
-    let k = c.empty_part-empty.result in
-    let old = c.parts.rest.now in
-    let at = c.parts.at + (n + 1) in
-    let next = c.after-rest.result.now in
-    let end = c.in-Some.ensures.some in
-    let rest : next ≡ drop (n + 1) old = c.after-rest.ensures in
-    let left : length next ≡ length old - (n + 1) =
-    ap (λ (l : List ℕ). length l) rest ∙ length-drop (n + 1) old in
-    let last : c.after-rest-in-Some.result.now ≡ drop k next = c.after-rest-in-Some.ensures in
-    let last_left : length c.after-rest-in-Some.result.now ≡ length next - k =
-    ap (λ (l : List ℕ). length l) last ∙ length-drop k next in
-    let few = empty_inside next k c.empty_part-empty.ensures in
-    let inside = end.inside in
-    let place = c.parts.invariant.place in
-    let counted = c.in_ok-next.ensures.bound in
-    let before = c.parts.invariant.few in
-    let found = c.place_part.new.placed.items in
-    let next_is : next ≡ drop at c.args.bytes.now =
-    rest ∙ next_rest c.args.bytes.now old c.parts.at n c.parts.invariant.rest in
+pub marks-init : goal.marks-init
+marks-init c =
+    let bytes = c.args.bytes.now in
+    let none = c.in_ok-found.ensures.items in
     record {
-      value = ap (λ (l : List _). found ++ placed_from c.args.bytes.now (at + k)
-          c.in_ok-next.next.0 c.in_ok-next.next.1.now (parts l)) last
-          ∙ over_empty c.args.bytes.now next at c.in_ok-next.next.0 k c.in_ok-next.next.1.now found
-          _
-          c.empty_part-empty.ensures
-          (ap (λ (l : List _). found ++ placed_from c.args.bytes.now at
-          c.in_ok-next.next.0 c.in_ok-next.next.1.now (parts l)) rest
-          ∙ next_value c.args.bytes.now old c.parts.at c.parts.number c.in_ok-next.next.0 n
-          c.parts.left.now c.in_ok-next.next.1.now c.parts.found.items found _
-          end.inside end.some c.in_ok-next.ensures.value c.parts.invariant.value);
-      place = omega (arith, left, last_left, few, place, inside);
-      rest = last ∙ rest_of_empty c.args.bytes.now next at k next_is;
-      few = omega (arith, counted, before);
-      line = begins_after_empty c.args.bytes.now next at k next_is c.empty_part-empty.ensures
-          (next_begins c.args.bytes.now old c.parts.at n c.parts.invariant.rest end.end);
-      room = c.in_ok-next.ensures.room;
-      ordered = up_to 0 c.parts.at (at + k) found
-          c.in_ok-next.ensures.ordered (omega arith);
-      begin = c.in_ok-next.ensures.begin;
+      value = rw none (ap (λ (l : List ℕ). placed_by bytes 0 l c.args.marks.now)
+          c.requires.begins.places ∙ sym (placed_is bytes 0 0 c.args.marks.now (parts bytes)));
+      room = c.requires.room;
+      ordered = (0, rw none (omega arith), c.requires.begins.ordered);
+      begins = c.requires.begins.begin;
+      begin = rw none (All-nil (BeginsLine bytes));
     }
+
+pub marks-preserved : goal.marks-preserved
+marks-preserved c =
+    let bytes = c.args.bytes.now in
+    let m = c.in-Some.mark.now in
+    let block = m.block in
+    let number = c.marks.number in
+    let bs = c.marks.rest.now in
+    let k = block - number - 1 in
+    let past = c.if-block-number.false in
+    let among = c.if-block-number-2.false in
+    let at_first : slice_get c.marks.left.now 0 ≡ Some m = search rules in
+    let split = first_is c.marks.left.now m at_first in
+    let ms = drop 1 c.marks.left.now in
+    let inside : k < length bs = omega (arith, past, among) in
+    let step : k + 1 ≡ block - number = omega (arith, past) in
+    let rest : c.later-rest.result.now ≡ drop (k + 1) bs =
+    c.later-rest.ensures ∙ ap (λ (n : ℕ). drop n bs) (sym step) in
+    let order = c.marks.invariant.ordered in
+    let place = at_place order.0 (length bytes) k bs order.2 inside in
+    record {
+      value = rw (c.in_ok-left.ensures.rest, rest) (subst (λ (l : List BlockMark).
+          c.place_block.new.placed.items ++ placed_by bytes block (drop (k + 1) bs)
+          (marks_after block l) ≡ placed bytes c.args.marks.now) (sym split)
+          (next_placed bytes number k block bs m ms c.marks.found.items
+          c.place_block.new.placed.items (placed bytes c.args.marks.now) (omega (arith, past)) (search rules) inside
+          (rw split at c.in_ok-left.ensures.value) (rw split at c.marks.invariant.value)));
+      room = c.in_ok-left.ensures.room;
+      ordered = (
+        slice_index bs k,
+        c.in_ok-left.ensures.ordered,
+        rw rest place.2,
+      );
+      begins = rw rest (All-drop (BeginsAt bytes) (k + 1) bs c.marks.invariant.begins);
+      begin = c.in_ok-left.ensures.begin;
+    }
+
+pub place_block-requires-clause-ordered : goal.place_block-requires-clause-ordered
+place_block-requires-clause-ordered c =
+    let block = c.in-Some.mark.now.block in
+    let k = block - c.marks.number - 1 in
+    let past = c.if-block-number.false in
+    let among = c.if-block-number-2.false in
+    let order = c.marks.invariant.ordered in
+    let place = at_place order.0 (length c.args.bytes.now) k c.marks.rest.now order.2
+    (omega (arith, past, among)) in
+    up_to 0 order.0 (slice_index c.marks.rest.now k) c.marks.found.items order.1 place.0
+
+pub place_block-requires-clause-inside : goal.place_block-requires-clause-inside
+place_block-requires-clause-inside c =
+    let block = c.in-Some.mark.now.block in
+    let k = block - c.marks.number - 1 in
+    let past = c.if-block-number.false in
+    let among = c.if-block-number-2.false in
+    let order = c.marks.invariant.ordered in
+    let place = at_place order.0 (length c.args.bytes.now) k c.marks.rest.now order.2
+    (omega (arith, past, among)) in
+    place.1
+
+pub returns-then-block-number-clause-value : goal.returns-then-block-number-clause-value
+returns-then-block-number-clause-value c =
+    let bytes = c.args.bytes.now in
+    let m = c.in-Some.mark.now in
+    let number = c.marks.number in
+    let bs = c.marks.rest.now in
+    let found = c.marks.found.items in
+    let ms = drop 1 c.marks.left.now in
+    let at_first : slice_get c.marks.left.now 0 ≡ Some m = search rules in
+    let split = first_is c.marks.left.now m at_first in
+    let none : placed_by bytes number bs (m ∷ ms) ≡ [] =
+    elim c.then-block-number.branch [
+      | then-block-number-via-then-block-number w ↦
+          placed_past bytes number bs m ms w.if-block-number.true
+      | then-block-number-via-else-block-number+then-block-number-2 w ↦
+          let past = w.if-block-number.false in
+          let beyond = w.if-block-number-2.true in
+          placed_beyond bytes number bs m ms (omega (arith, past, beyond))
+    ] in
+    sym (append-nil found) ∙ ap (λ (l : List Mark). found ++ l) (sym none)
+    ∙ ap (λ (l : List BlockMark). found ++ placed_by bytes number bs l) (sym split)
+    ∙ c.marks.invariant.value
+
+pub returns-then-block-number-clause-ordered : goal.returns-then-block-number-clause-ordered
+returns-then-block-number-clause-ordered c =
+    let order = c.marks.invariant.ordered in
+    up_to_end order.0 (length c.args.bytes.now) c.marks.found.items c.marks.rest.now order.1 order.2
 
 pub returns-clause-value : goal.returns-clause-value
 returns-clause-value c =
-    last_value c.args.bytes.now c.parts.rest.now c.parts.at c.parts.number _ c.parts.left.now _
-    c.parts.found.items _ _ c.in_default.ensures.none c.in_ok-place_part.ensures.value
-    c.parts.invariant.value
+    let bytes = c.args.bytes.now in
+    let found = c.marks.found.items in
+    let no_first : slice_get c.marks.left.now 0 ≡ None = search rules in
+    let none = none_first c.marks.left.now no_first in
+    sym (append-nil found) ∙ ap (λ (l : List Mark). found ++ l)
+    (sym (placed_none bytes c.marks.number c.marks.rest.now))
+    ∙ ap (λ (l : List BlockMark). found ++ placed_by bytes c.marks.number c.marks.rest.now l)
+    (sym none) ∙ c.marks.invariant.value
 
 pub returns-clause-ordered : goal.returns-clause-ordered
 returns-clause-ordered c =
-    let place = c.parts.invariant.place in
-    up_to 0 c.parts.at (length c.args.bytes.now) _ c.in_ok-place_part.ensures.ordered
-    (omega (arith, place))
+    let order = c.marks.invariant.ordered in
+    up_to_end order.0 (length c.args.bytes.now) c.marks.found.items c.marks.rest.now order.1 order.2

@@ -1,0 +1,216 @@
+//! The lines of a field file whose bytes lie in memory, one by one.
+//!
+//! They are the lines that `gsi_file::Lines` finds, with the same faults. That one reads through a
+//! buffer, to which it copies what it reads. Here a line is tested where it lies, and the place where
+//! it begins is known, so that the place of a code line need not be looked for.
+
+ghost use Rattle.std.specs.Prelude.{◌≡◌, ◌<◌, ◌≤◌, ◌+◌, ◌++◌, ◌∷◌, [], All, IfErr, IfOk, None, OnOk};
+ghost use Rattle.std.specs.Prelude.{drop, length, true};
+ghost use Rattle.gsi_word.specs.BlockViews.{block_of};
+ghost use Rattle.gsi_word.specs.Blocks.{IsBlock};
+ghost use Rattle.gsi_word.specs.Words.{IsLineByte};
+ghost use Rattle.gsi_file.specs.FileAnswers.{file_answers};
+ghost use Rattle.gsi_file.specs.Parts.{is_line};
+ghost use Rattle.gsi_file.specs.ToCome as to_come;
+ghost use Rattle.gsi_file.specs.declared.bounds.TheConstants.{LONGEST_FILE, LONGEST_LINE};
+ghost use Rattle.gsi_file.specs.declared.file_fault.FileFault.TheVariants.{At};
+ghost use Rattle.gsi_file.specs.declared.file_fault.FileKind.TheVariants.{FileTooLong, LineTooLong};
+ghost use Rattle.set_marks.specs.declared.fault.MarkFault.TheVariants.{File};
+ghost use Rattle.set_marks.specs.Marks.{IsRoomy};
+ghost use Rattle.set_marks.specs.Keeping.{AnswersReadings, Keeps};
+ghost use Rattle.set_marks.specs.LinePlaces.{AreBegins, IsUsedUp};
+ghost use Rattle.set_marks.specs.Taking.{IsLineRefusal, TakesPart, readings_in};
+
+use crate::fault::MarkFault;
+use crate::line_end::part_end;
+use crate::reading::no_readings;
+use crate::readings::Readings;
+use adjust_kernel::Name;
+use gsi_file::{FileFault, FileKind, LINE_FEED, LONGEST_FILE, LONGEST_LINE, is_blank};
+use gsi_word::Block;
+use gsi_word::steps::{block_in, check_printable, read_words};
+use std::alloc::{AllocError, Global};
+
+/// What was taken of the lines of a file, up to some place.
+#[derive(Drop)]
+pub(crate) struct Walk {
+    /// The stations and their readings, up to the first block that has a fault by itself.
+    pub(crate) readings: Readings,
+    /// The fault of this block.
+    pub(crate) fault: Option<MarkFault>,
+    /// The places where the lines begin.
+    pub(crate) begins: Vec<u32>,
+    /// How many lines came.
+    pub(crate) number: u32,
+}
+
+/// The block that a line is, or the line's fault. Its bytes are tested where they are not known to
+/// be printable.
+#[inline(always)]
+fn read_line(line: &[u8], printable: bool) -> Result<Block<'_>, FileKind>
+    requires { printable ≡ true → All IsLineByte line.now }
+    ensures block { IfOk result (λ b. IsBlock line.now (block_of b)) }
+    ensures fault { IfErr result (to_come.IsFileFault line.now) }
+{
+    if !printable {
+        if let Err(at) = check_printable(line) {
+            return Err(FileKind::Byte(at));
+        }
+    }
+    match read_words(line) {
+        Ok(shape) => Ok(block_in(line, shape)),
+        Err(fault) => Err(FileKind::from(fault)),
+    }
+}
+
+/// What the line of this number is refused for.
+fn at_line(number: u32, kind: FileKind) -> MarkFault
+    ensures { result ≡ File (At number kind) }
+{
+    MarkFault::File(FileFault::At(number, kind))
+}
+
+/// The fault of a part that is longer than a line or than what may be taken of the file, where so
+/// many bytes may: at the same byte the file's limit comes first.
+fn broken_limit(left: usize) -> FileKind
+    ensures file { left ≤ LONGEST_LINE → result ≡ FileTooLong }
+    ensures line { LONGEST_LINE < left → result ≡ LineTooLong }
+{
+    if left <= LONGEST_LINE {
+        FileKind::FileTooLong
+    } else {
+        FileKind::LineTooLong
+    }
+}
+
+/// Where the next part begins: after the byte at a place, which ends one, and after a line feed right
+/// after it, where it may be taken. Between the two is an empty part, so no search is begun for its
+/// end.
+#[inline(always)]
+fn next_part(bytes: &[u8], end: usize, left: usize) -> usize
+    requires { (end < length bytes.now) × (end < left) }
+    ensures within { (end < result) × (result ≤ length bytes.now) × (result ≤ left) }
+    ensures used { IsUsedUp bytes.now end result }
+{
+    let next = end + 1;
+    if next < bytes.len() && next < left && bytes[next] == LINE_FEED {
+        next + 1
+    } else {
+        next
+    }
+}
+
+/// The bytes after the first so many.
+fn after(count: usize, bytes: &[u8]) -> &[u8]
+    requires { count ≤ length bytes.now }
+    ensures { result.now ≡ drop count bytes.now }
+{
+    &bytes[count..]
+}
+
+impl Walk {
+    /// Nothing was taken. A station of this name may be open.
+    fn new(alloc: Global, station: Option<Name>) -> Walk
+        ensures keeps { Keeps station [] result.readings }
+        ensures room { All IsRoomy result.readings.marking.marks.items }
+        ensures fault { result.fault ≡ None }
+        ensures begins { result.begins.items ≡ [] }
+        ensures number { result.number ≡ 0 }
+    {
+        Walk {
+            readings: no_readings(alloc, station),
+            fault: None,
+            begins: Vec::new(alloc),
+            number: 0,
+        }
+    }
+
+    /// Counts a line that begins at this place.
+    fn count_line(&mut self, at: usize) -> Result<(), AllocError>
+        requires place { at ≤ LONGEST_FILE }
+        requires bound { self.old.number < LONGEST_FILE }
+        ensures begins { OnOk result (self.new.begins.items ≡ self.old.begins.items ++ at ∷ []) }
+        ensures number { OnOk result (self.new.number ≡ self.old.number + 1) }
+        ensures readings { self.new.readings ≡ self.old.readings }
+        ensures fault { self.new.fault ≡ self.old.fault }
+    {
+        self.begins.push(at as u32)?;
+        self.number += 1;
+        Ok(())
+    }
+
+    /// Takes a part that begins at this place, if it is a line, or answers its fault.
+    #[inline(always)]
+    fn take_part(
+        &mut self,
+        alloc: Global,
+        at: usize,
+        part: &[u8],
+        printable: bool,
+        stated: bool,
+    ) -> Result<(), MarkFault>
+        requires place { at ≤ LONGEST_FILE }
+        requires bound { self.old.number + length part.now ≤ LONGEST_FILE }
+        requires printable { printable ≡ true → All IsLineByte part.now }
+        requires room { All IsRoomy self.old.readings.marking.marks.items }
+        ensures room { All IsRoomy self.new.readings.marking.marks.items }
+        ensures takes { OnOk result
+            (TakesPart (is_line part.now) stated at part.now self.old self.new) }
+        ensures count { OnOk result (self.new.number ≤ self.old.number + 1) }
+        ensures line { IfErr result (λ _. is_line part.now ≡ true) }
+        ensures fault { IfErr result (IsLineRefusal part.now (self.old.number + 1)) }
+    {
+        if is_blank(part) {
+            return Ok(());
+        }
+        let number = self.number + 1;
+        let block = match read_line(part, printable) {
+            Ok(block) => block,
+            Err(kind) => return Err(at_line(number, kind)),
+        };
+        self.count_line(at)?;
+        self.readings
+            .take_unless(alloc, &mut self.fault, number, &block, stated)
+    }
+}
+
+/// The stations and the readings of a field file, of these bytes and then an end, or a failed read,
+/// and the places where its lines begin.
+pub(crate) fn readings_of(
+    alloc: Global,
+    bytes: &[u8],
+    fails: bool,
+    station: Option<Name>,
+) -> Result<Walk, MarkFault>
+    ensures answers { AnswersReadings station
+        (file_answers (record { bytes = bytes.now; fails = fails })) (readings_in result) }
+    ensures room { IfOk result (λ w. All IsRoomy w.readings.marking.marks.items) }
+    ensures begins { IfOk result (λ w. AreBegins bytes.now w.begins.items) }
+{
+    let mut walk = Walk::new(alloc, station);
+    let mut at = 0;
+    let mut rest = bytes;
+    'parts: while let Some(end) = part_end(rest) {
+        let left = LONGEST_FILE - at;
+        if end.place > LONGEST_LINE || end.place >= left {
+            return Err(at_line(walk.number + 1, broken_limit(left)));
+        }
+        let part = &rest[..end.place];
+        walk.take_part(alloc, at, part, end.printable, station.is_some())?;
+        let next = next_part(rest, end.place, left);
+        at += next;
+        rest = after(next, rest);
+    }
+    let left = LONGEST_FILE - at;
+    if rest.len() > LONGEST_LINE || rest.len() > left {
+        return Err(at_line(walk.number + 1, broken_limit(left)));
+    }
+    if fails {
+        return Err(at_line(walk.number + 1, FileKind::Read));
+    }
+    walk.take_part(alloc, at, rest, false, station.is_some())?;
+    match walk.fault {
+        Some(fault) => Err(fault),
+        None => Ok(walk),
+    }
+}
