@@ -71,10 +71,9 @@ endif
 # as they do. So each of them is proved by as many processes as `rt` finds room for, and what is
 # proved beside them by one, which takes less processor time in all, and yields to them. The program
 # comes last, when nothing is proved beside it, and gets them all.
-CHAIN := adjust_kernel sheet_format station_check station_compare station_residuals station_report table_report station_record station_program
+CHAIN := adjust_kernel sheet_format station_check station_compare station_residuals station_report table_report station_record command_run station_program
 CHAIN_OF_BLOCKS := gsi_word station_book station_check
-CHAIN_OF_WORDS := adjust_kernel sheet_format direction_table limit_texts command_line station_program
-IS_BESIDE = $(if $(filter $*,$(CHAIN) $(CHAIN_OF_BLOCKS) $(CHAIN_OF_WORDS))$(filter 1,$(JOBS)),,yes)
+IS_BESIDE = $(if $(filter $*,$(CHAIN) $(CHAIN_OF_BLOCKS))$(filter 1,$(JOBS)),,yes)
 
 # What each recipe that proves begins with.
 NEED_TOOLCHAIN = command -v $(RT) > /dev/null || { \

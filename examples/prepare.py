@@ -1,18 +1,20 @@
 #!/usr/bin/env python3
-"""Leaves blocks out of a copy of a field file or renames them, and writes a log of what and why.
+"""Leaves blocks out of a copy of a field file, renames them or puts codes in, and writes a log of
+what and why.
 
     python3 prepare.py FIELD.gsi COPY.gsi --set P7 3 --why 'the tripod was moved'
 
 The field file stays as it is. It is taken line by line, so that a file that station_check refuses
 can be copied too. These are left out: blocks by their numbers; a set by its station and number;
 with --closing the closing sights, which repeat at the end of a half set, in the same face, the
-target that began it, or after sets that were read target by target its pair; with --broken-off, in
-a job without codes, a last set that was not ended; with --without-codes the blocks of codes 10, 20
-and 30. --rename gives stated blocks another name: to a measurement its word 11, to a code block its
-word 42. --plain writes plain ASCII letters for others, a blank for a tab, and drops a byte order
-mark and a final byte 1A.
+target that began it, or its pair at the end of a set; with --broken-off, in a job without codes, a
+last set that was not ended; with --without-codes the blocks of codes 10, 20 and 30. --rename gives
+stated blocks another name: to a measurement its word 11, to a code block its word 42. --capitals
+writes the names of measurements in capitals. --codes puts in the codes of a station whose sets
+begin at stated blocks. --plain writes plain ASCII letters for others, a blank for a tab, and drops
+byte order marks and bytes 1A at the ends of lines.
 
-COPY.gsi.log has each line that was left out or changed. The script prints the command
+COPY.gsi.log has each line that was left out, changed or put in. The script prints the command
 that shows that nothing else was changed.
 
 Exit status: 0 the copy was written, 1 it was not (standard error says why), 2 a mistake on the
@@ -29,7 +31,7 @@ import unicodedata
 from argparse import ArgumentParser, Namespace
 from collections import Counter
 from collections.abc import Iterable, Iterator
-from itertools import groupby, pairwise
+from itertools import chain, groupby
 from typing import Any, BinaryIO, NamedTuple
 
 STATION, SET, END = "10", "20", "30"
@@ -54,7 +56,11 @@ WORD = re.compile(rb"(\d\d)([!-~]{4})[+-]")
 
 # Letters that are no plain letter with an accent, and what is written for them.
 LETTERS = str.maketrans("ßøØæÆłŁđĐ\t", "soOaAlLdD ")
-BYTE_ORDER_MARK, FILE_END = "\ufeff", re.compile("\x1a(?=[\r\n]*$)")
+
+# What programs put where a file begins or ends: a byte order mark and the byte 1A. Where files were
+# joined it stands at a line within.
+AT_ENDS = re.compile(rb"^(?:\xef\xbb\xbf|\x1a)+|\x1a+$")
+UTF_16 = (codecs.BOM_UTF16_LE, codecs.BOM_UTF16_BE)
 
 # So many readings at most stand before the first set, as orientation sights.
 MOST_BEFORE = 3
@@ -76,6 +82,10 @@ class Word(NamedTuple):
     information: bytes
     content: bytes
     begin: int  # where the content stands in the line
+
+    def end(self) -> int:
+        """Where the content ends."""
+        return self.begin + len(self.content)
 
 
 class Block:
@@ -136,27 +146,77 @@ class Block:
             raise Refused(f"block {self.number}: no face has the zenith angle {zenith}")
         return 1 if zenith < HALF_CIRCLE else 2
 
+    def filled(self, content: str) -> bytes:
+        """A content of a word in this line, with the zeros before it."""
+        if len(content) > CONTENT[self.wide]:
+            line = f"a line of GSI-{CONTENT[self.wide]}"
+            raise Refused(f"block {self.number}: the name {content} is too long for {line}")
+        return content.rjust(CONTENT[self.wide], "0").encode()
+
     def renamed(self, name: str) -> bytes:
-        """The line with another name."""
-        index = POINT if self.begins_with(POINT) else INFORMATION
-        if not self.words or not (word := self.first_of(index)):
-            raise Refused(f"block {self.number} has no name: neither word 11 first nor word 42")
-        if len(name) > CONTENT[self.wide]:
-            wide = f"GSI-{CONTENT[self.wide]}"
-            raise Refused(f"block {self.number}: the name {name} is too long for a line of {wide}")
-        filled = name.rjust(CONTENT[self.wide], "0").encode()
-        return self.line[: word.begin] + filled + self.line[word.begin + len(word.content) :]
+        """The line with another name, or of a code that has none with this one."""
+        word = self.first_of(POINT if self.begins_with(POINT) else INFORMATION)
+        if word:
+            begin, end, before = word.begin, word.end(), b""
+        elif self.begins_with(CODE):
+            begin, end, before = self.words[0].end(), self.words[0].end(), b" 42....+"
+        else:
+            raise Refused(f"block {self.number} has no name: neither word 11 nor word 41 first")
+        return self.line[:begin] + before + self.filled(name) + self.line[end:]
+
+    def in_capitals(self) -> bytes:
+        """The line with the name of a measurement in capitals."""
+        if not self.begins_with(POINT):
+            return self.line
+        name = self.words[0]
+        return self.line[: name.begin] + name.content.upper() + self.line[name.end() :]
+
+    def code_before(self, code: str, information: str | None, end: bytes) -> bytes:
+        """A line with a code that is put before this one, as wide as it is."""
+        words = b"*" * self.wide + b"41....+" + self.filled(code)
+        words += b" 42....+" + self.filled(information) if information else b""
+        return words + end
+
+    def plain(self) -> bytes:
+        """The line in plain ASCII, where each letter with an accent has its plain letter."""
+        text = self.line.rstrip(b"\r\n")
+        bare = Block(self.number, self.place, AT_ENDS.sub(b"", text))
+        line, at = b"", 0
+        for word in bare.words:
+            content, width = self.in_plain(word.content), len(word.content)
+            if width == CONTENT[bare.wide]:  # bytes, of which a letter may have had two
+                content = content.rjust(width, b"0")
+            line += self.in_plain(bare.line[at : word.begin]) + content
+            at = word.end()
+        return line + self.in_plain(bare.line[at:]) + self.line[len(text) :]
+
+    def in_plain(self, piece: bytes) -> bytes:
+        try:
+            text = piece.decode()
+        except UnicodeDecodeError:
+            text = piece.decode("latin-1")
+        letters = unicodedata.normalize("NFD", text.translate(LETTERS))
+        text = "".join(letter for letter in letters if not unicodedata.combining(letter))
+        for letter in text:
+            if not letter.isascii() or not letter.isprintable():
+                way = "--rename gives a block another name"
+                raise Refused(f"block {self.number}: no plain letter stands for {letter!r}; {way}")
+        return text.encode()
 
 
 def lines_of(path: str) -> list[bytes]:
     """The lines of a field file with their ends, blank ones too."""
     try:
         with open(path, "rb") as file:
-            lines = re.findall(rb"[^\r\n]*(?:\r\n|\r|\n)|[^\r\n]+", file.read())
+            text = file.read()
     except OSError as why:
         raise Refused(f"cannot read {path}: {why.strerror}") from None
+    if text.startswith(UTF_16) or b"\0" in text[:2]:
+        raise Refused(f"{path} is in UTF-16: save it as plain text, in ASCII, first")
+    # A transfer may have left CR CR LF, of which station_check takes the first CR for the line's end.
+    lines = re.findall(rb"[^\r\n]*(?:\r*\n|\r)|[^\r\n]+", text)
     if any(line.endswith(b"\r") for line in lines):
-        raise Refused("its lines end in CR alone, which no tool shows as lines")
+        raise Refused("its lines end in CR alone: save it with lines that end in LF or CR LF first")
     return lines
 
 
@@ -244,6 +304,17 @@ def closing_pairs(readings: list[Block]) -> Iterator[Block]:
         between = False
 
 
+def last_pair(readings: list[Block]) -> list[Block]:
+    """The pair that stands after sets that were read by faces, of a target that begins a half set;
+    none where that target's faces weren't read as often before it."""
+    before, last = readings[:-2], readings[-2:]
+    begins = [half[0].target() for half in half_sets(before) if len(half) > 1]
+    if last[0].target() not in begins or not is_pair(*last):
+        return []
+    faces = [reading.face() for reading in before if reading.target() == last[0].target()]
+    return last if faces.count(1) == faces.count(2) else []
+
+
 def half_sets(readings: list[Block]) -> Iterator[list[Block]]:
     """Readings in one face, up to one of the same target as the reading before it."""
     for _, run in groupby(readings, Block.face):
@@ -266,6 +337,7 @@ def closing_sights(blocks: list[Block]) -> list[Block]:
         for first, *others in half_sets(readings):
             if len(others) > 1 and others[-1].target() == first.target():
                 closing.append(others[-1])
+        closing += last_pair(readings)
     if not closing:
         raise Refused("no set has a closing sight")
     return closing
@@ -284,7 +356,7 @@ def ends_of_sets(readings: list[Block]) -> Iterator[int]:
 
 def broken_set(readings: list[Block]) -> list[Block]:
     """The readings of a last set that lacks a face of a target, or ends with another target than
-    the set before it; none where no set was broken off."""
+    the set before it; none where no set was broken off, or more than one may stand there."""
     for before in range(MOST_BEFORE + 1):
         if ends := list(ends_of_sets(readings[before:])):
             begin = before + ends[-1]
@@ -293,6 +365,8 @@ def broken_set(readings: list[Block]) -> list[Block]:
             while last[-1].target() not in targets:  # detail points
                 last.pop()
             faces = Counter((reading.target(), reading.face()) for reading in last)
+            if max(faces.values()) > 1:
+                return []
             is_even = all(faces[target, 1] == faces[target, 2] for target in targets)
             return [] if is_even and last[-1].target() == whole[-1].target() else last
     return []
@@ -332,7 +406,7 @@ def left_out(blocks: list[Block], asked: Namespace) -> tuple[set[int], list[str]
     """The blocks that are left out, and what was asked for."""
     out: list[Block] = []
     said: list[str] = []
-    for first, last in asked.blocks or []:
+    for first, last in chain.from_iterable(asked.blocks or []):
         out += (found := numbered(blocks, first, last))
         said.append(range_said(found[0].number, found[-1].number))
     for station, number in asked.set or []:
@@ -367,71 +441,129 @@ def renamed(
                     raise Refused(f"block {block.number} is both left out and named {name}")
                 lines[block.place] = block.renamed(name)
                 said.append(f"block {block.number} named {name}")
+    if asked.capitals:
+        others = [block for block in blocks if block.place not in {*out, *lines}]
+        lines |= {block.place: block.in_capitals() for block in others}
+        said.append("names in capitals")
     return lines, said
 
 
-def plain(line: bytes, number: int, is_first: bool, is_last: bool) -> bytes:
-    """A line in plain ASCII, where each letter with an accent has its plain letter."""
-    try:
-        text = line.decode()
-    except UnicodeDecodeError:
-        text = line.decode("latin-1")
-    text = text.removeprefix(BYTE_ORDER_MARK) if is_first else text
-    text = FILE_END.sub("", text) if is_last else text
-    letters = unicodedata.normalize("NFD", text.translate(LETTERS))
-    text = "".join(letter for letter in letters if not unicodedata.combining(letter))
-    for letter in text.strip("\r\n"):
-        if not letter.isascii() or not letter.isprintable():
-            raise Refused(f"block {number}: no plain letter stands for {letter!r}")
-    return text.encode()
-
-
-def in_plain(
-    lines: list[bytes], blocks: list[Block], out: set[int], changed: dict[int, bytes]
-) -> dict[int, bytes]:
+def in_plain(blocks: list[Block], out: set[int], changed: dict[int, bytes]) -> dict[int, bytes]:
     """The lines that are changed, by their places, with those that aren't plain."""
-    changed = dict(changed)
-    for block in blocks:
-        if block.place not in out:
-            line = changed.get(block.place, block.line)
-            ends = block.place == 0, block.place == len(lines) - 1
-            if (now := plain(line, block.number, *ends)) != line:
-                changed[block.place] = now
-    return changed
+    lines = {block.place: changed.get(block.place, block.line) for block in blocks}
+    kept = [block for block in blocks if block.place not in out]
+    plain = {b.place: Block(b.number, b.place, lines[b.place]).plain() for b in kept}
+    return changed | {place: line for place, line in plain.items() if line != lines[place]}
 
 
-def copied(lines: list[bytes], out: set[int], changed: dict[int, bytes]) -> list[bytes]:
-    """The lines of the copy."""
-    return [changed.get(place, line) for place, line in enumerate(lines) if place not in out]
+class Codes(NamedTuple):
+    """A station: its name, the blocks at which its sets begin, and the one that ends the last."""
+
+    station: str
+    firsts: list[int]
+    last: int
+
+    def lines(self, blocks: list[Block]) -> Iterator[tuple[Block, str, str | None]]:
+        """The blocks before which codes are put, with these and what each has beside it."""
+        begins = [reading_at(blocks, number) for number in self.firsts]
+        reading_at(blocks, self.last)
+        yield begins[0], STATION, self.station
+        for number, block in enumerate(begins, 1):
+            yield block, SET, str(number)
+        for block in blocks[self.last : self.last + 1]:
+            yield block, END, None
 
 
-def neighbours(places: list[int]) -> list[list[int]]:
-    """Places in groups that follow each other without another between."""
-    groups = [[place] for place in places[:1]]
-    for before, place in pairwise(places):
-        groups += [[]] * (place > before + 1)
-        groups[-1].append(place)
-    return groups
+def reading_at(blocks: list[Block], number: int) -> Block:
+    """The reading that is the block of a number."""
+    [block] = numbered(blocks, number, number)
+    if not block.is_reading():
+        raise Refused(f"block {number} is no reading: no set begins or ends there")
+    return block
+
+
+def end_of(line: bytes) -> bytes:
+    """The bytes that end a line."""
+    return line[len(line.rstrip(b"\r\n")) :]
+
+
+def put_in(
+    lines: list[bytes], blocks: list[Block], out: set[int], asked: Namespace
+) -> tuple[dict[int, list[bytes]], list[str]]:
+    """The lines of codes that are put in, by the places before which they stand, and what was asked
+    for."""
+    put: dict[int, list[bytes]] = {}
+    stations = sorted(asked.codes or [], key=lambda codes: codes.firsts)
+    after = 0
+    for codes in stations:
+        numbers = [after, *codes.firsts, codes.last]
+        if any(number >= then for number, then in zip(numbers, numbers[1:])):
+            among = "or lie among those of another station"
+            raise Refused(f"the blocks of {codes.station} don't ascend, {among}")
+        after = codes.last
+        for block in blocks[codes.firsts[0] : codes.last]:
+            if block.sets_up() and block.place not in out:
+                among = f"among the sets of {codes.station}"
+                raise Refused(f"block {block.number} sets the instrument up, {among}")
+        for block, code, information in codes.lines(blocks):
+            end = end_of(lines[max(block.place - 1, 0)]) or b"\n"
+            line = block.code_before(code, information, end)
+            put.setdefault(block.place, []).append(line)
+    return put, [f"codes of {codes.station}" for codes in stations]
+
+
+class Changes(NamedTuple):
+    """What the copy has otherwise, by the places of lines: those that are left out, as others are,
+    and lines that are put in before."""
+
+    out: set[int]
+    changed: dict[int, bytes]
+    put: dict[int, list[bytes]]
+
+    def copied(self, lines: list[bytes]) -> Iterator[bytes]:
+        """The lines of the copy."""
+        for place, line in enumerate(lines):
+            yield from self.put.get(place, [])
+            if place not in self.out:
+                yield self.changed.get(place, line)
+
+    def groups(self) -> list[list[int]]:
+        """The places in groups between which no line stays as it is."""
+        groups: list[list[int]] = []
+        before = None  # the place of the last line that is left out or changed
+        for place in sorted({*self.out, *self.changed, *self.put}):
+            groups += [[]] * (place - 1 != before)
+            groups[-1].append(place)
+            before = place if place in self.out or place in self.changed else None
+        return groups
+
+    def counted(self) -> str:
+        """What is printed of how much it is."""
+        said = [(len(self.out), "left out"), (len(self.changed), "changed")]
+        said.append((sum(map(len, self.put.values())), "put in"))
+        return ", ".join(f"{blocks_are(count)} {done}" for count, done in said if count)
 
 
 def without_end(line: bytes) -> bytes:
     return line.rstrip(b"\n") + b"\n"
 
 
-def log_of(
-    asked: Namespace, blocks: list[Block], said: str, out: set[int], changed: dict[int, bytes]
-) -> Iterator[bytes]:
+def log_of(asked: Namespace, blocks: list[Block], said: str, changes: Changes) -> Iterator[bytes]:
     """The log: what was asked for and why, and the lines as they were and are, as `diff` has them:
-    of blocks that follow each other first all that were, then all that are."""
+    of those that follow each other first all that were, then all that are."""
     names = f"{os.path.basename(asked.copy)} is {os.path.basename(asked.field)}"
     yield f"{names} {said}\n".encode()
     yield f"why: {asked.why}\n".encode()
     number = {block.place: block.number for block in blocks}
     lines = {block.place: block.line for block in blocks}
-    for group in neighbours(sorted({*out, *changed})):
+    out, changed, put = changes
+    for group in changes.groups():
         for place in group:
-            yield f"block {number[place]}:\n".encode() + b"< " + without_end(lines[place])
+            if place in out or place in changed:
+                yield f"block {number[place]}:\n".encode() + b"< " + without_end(lines[place])
         for place in group:
+            for line in put.get(place, []):
+                yield f"before block {number[place]}:\n".encode() + b"> " + without_end(line)
             if changed.get(place):
                 yield f"block {number[place]} in the copy:\n".encode()
                 yield b"> " + without_end(changed[place])
@@ -458,17 +590,35 @@ def name(text: str) -> str:
     return text
 
 
-class Rename(argparse.Action):
-    """Takes blocks and a name."""
+def single(text: str) -> int:
+    first, last = numbers(text)
+    if first != last:
+        raise argparse.ArgumentTypeError(f"{text!r} is no number of one block")
+    return first
+
+
+def renaming(values: list[str]) -> tuple[list[tuple[int, int | None]], str]:
+    """Blocks and their name."""
+    return several_numbers(values[0]), name(values[1])
+
+
+def codes(values: list[str]) -> Codes:
+    """A station's name, the blocks at which its sets begin, and the one that ends the last."""
+    firsts = [single(part) for part in values[1].split(",")]
+    return Codes(name(values[0]), firsts, single(values[2]))
+
+
+class Several(argparse.Action):
+    """Takes values that belong together, as the function that is its constant reads them."""
 
     def __call__(
         self, parser: ArgumentParser, asked: Namespace, values: Any, option: str | None = None
     ) -> None:
         try:
-            renaming = several_numbers(values[0]), name(values[1])
+            value = self.const(values)
         except argparse.ArgumentTypeError as why:
-            parser.error(f"argument --rename: {why}")
-        asked.rename = [*(asked.rename or []), renaming]
+            parser.error(f"argument {option}: {why}")
+        setattr(asked, self.dest, [*(getattr(asked, self.dest) or []), value])
 
 
 def reason(text: str) -> str:
@@ -479,8 +629,9 @@ def reason(text: str) -> str:
 
 def command_line() -> ArgumentParser:
     parser = ArgumentParser(
-        description="Leaves blocks out of a copy of a field file or renames them, writes a log "
-        "beside the copy, and prints the command that shows that nothing else was changed.",
+        description="Leaves blocks out of a copy of a field file, renames them or puts codes in, "
+        "writes a log beside the copy, and prints the command that shows that nothing else was "
+        "changed.",
         epilog="Example: prepare.py FIELD.gsi COPY.gsi --blocks 36 40-42 --why 'named wrongly'. "
         "Exit status: 0 the copy was written, 1 not (standard error says why), 2 a mistake on the "
         "command line.",
@@ -490,7 +641,7 @@ def command_line() -> ArgumentParser:
     option("copy", metavar="COPY", help="the copy, a new file; its log is COPY.log")
     option("--why", metavar="TEXT", type=reason, required=True, help="for the log")
     said = "leave out blocks by number, as 36 or 40-42, or 40- for all from 40 on"
-    option("--blocks", metavar="N", type=numbers, nargs="+", help=said)
+    option("--blocks", metavar="N", type=several_numbers, nargs="+", help=said)
     said = "leave out a whole set that codes mark"
     option("--set", metavar=("STATION", "NUMBER"), nargs=2, action="append", help=said)
     option("--closing", action="store_true", help="leave out closing sights, with codes or without")
@@ -499,8 +650,13 @@ def command_line() -> ArgumentParser:
     said = "leave out the blocks of codes 10, 20 and 30, which may be your office's own"
     option("--without-codes", action="store_true", help=said)
     said = "give blocks, as 9 or 9,20, this name: of the target, station or set number"
-    option("--rename", metavar=("BLOCK", "NAME"), nargs=2, action=Rename, help=said)
-    said = "write plain ASCII: no accents, tabs, byte order mark or final byte 1A"
+    values = ("BLOCK", "NAME")
+    option("--rename", metavar=values, nargs=2, action=Several, const=renaming, help=said)
+    option("--capitals", action="store_true", help="write names of measurements in capitals")
+    said = "put in the codes of a station whose sets begin at blocks, as 2,14,26; LAST ends them"
+    values = ("STATION", "BLOCKS", "LAST")
+    option("--codes", metavar=values, nargs=3, action=Several, const=codes, help=said)
+    said = "write plain ASCII: no accents, tabs, byte order marks or bytes 1A at ends of lines"
     option("--plain", action="store_true", help=said)
     return parser
 
@@ -515,53 +671,51 @@ def new_file(path: str) -> BinaryIO:
         raise Refused(f"cannot write {path}: {why.strerror}") from None
 
 
-def prepared(asked: Namespace) -> tuple[int, int]:
-    """Writes the copy and its log, and gives how many blocks are left out and changed."""
+def prepared(asked: Namespace) -> str:
+    """Writes the copy and its log, and gives how many blocks are left out, changed and put in."""
     lines = lines_of(asked.field)
     blocks = blocks_of(lines)
     out, said_out = left_out(blocks, asked)
     changed, said_changed = renamed(blocks, out, asked)
+    put, said_put = put_in(lines, blocks, out, asked)
     if asked.plain:
-        changed = in_plain(lines, blocks, out, changed)
+        changed = in_plain(blocks, out, changed)
         said_changed.append("plain ASCII")
     changed = {place: line for place, line in changed.items() if line != lines[place]}
-    if not out and not changed:
+    changes = Changes(out, changed, put)
+    if not any(changes):
         raise Refused("nothing would be changed")
     said = [f"without: {', '.join(said_out)}"] * bool(said_out)
-    said += [f"with: {', '.join(said_changed)}"] * bool(said_changed)
+    said_with = said_changed + said_put
+    said += [f"with: {', '.join(said_with)}"] * bool(said_with)
     if os.path.exists(asked.copy):
         raise Refused(f"{asked.copy} is there already")
     with new_file(f"{asked.copy}.log") as file:
-        file.writelines(log_of(asked, blocks, "; ".join(said), out, changed))
+        file.writelines(log_of(asked, blocks, "; ".join(said), changes))
     with new_file(asked.copy) as file:
-        file.writelines(copied(lines, out, changed))
-    return len(out), len(changed)
+        file.writelines(changes.copied(lines))
+    return changes.counted()
 
 
 def blocks_are(count: int) -> str:
     return "1 block is" if count == 1 else f"{count} blocks are"
 
 
-def counted(out: int, changed: int) -> str:
-    """What is printed of these numbers of blocks."""
-    said = [f"{blocks_are(out)} left out"] * bool(out)
-    return ", ".join(said + [f"{blocks_are(changed)} changed"] * bool(changed))
-
-
 def main() -> None:
     parser = command_line()
     asked = parser.parse_args()
     of_lines = [asked.blocks, asked.set, asked.closing, asked.broken_off, asked.without_codes]
-    if not any([*of_lines, asked.rename, asked.plain]):
-        every = "--blocks, --set, --closing, --broken-off, --without-codes, --rename or --plain"
-        parser.error(f"say what is left out or changed: {every}")
+    if not any([*of_lines, asked.rename, asked.capitals, asked.codes, asked.plain]):
+        every = "--blocks, --set, --closing, --broken-off, --without-codes, --rename, --capitals, "
+        parser.error(f"say what is left out or changed: {every}--codes or --plain")
     try:
         done = prepared(asked)
     except (Refused, OSError) as why:
         sys.exit(f"prepare.py: {why}")
-    before, after, log = map(shlex.quote, (asked.field, asked.copy, f"{asked.copy}.log"))
-    print(f"{counted(*done)}; nothing else is changed if this prints nothing:")
-    print(f"  diff -a -d {before} {after} | grep -a '^[<>]' | diff -a - {log} | grep -a '^<'")
+    field, copy, log = map(shlex.quote, (asked.field, asked.copy, f"{asked.copy}.log"))
+    others = f"diff -a -d {field} {copy} | grep -a '^[<>]'"
+    print(f"{done}; nothing else is changed if this prints nothing:")
+    print(f"  {others} | diff -a - {log} | grep -a '^[<>] [<>]'")
 
 
 if __name__ == "__main__":

@@ -33,6 +33,9 @@ HEADINGS = [
     ("", "Of the run"),
 ]
 
+# What stands in quotes; an apostrophe, or a quote that is meant itself, opens none.
+QUOTED = re.compile(r"(?<!\w)'(\S[^']*)'(?!\w)")
+
 INTRODUCTION = """\
 # Faults
 
@@ -102,8 +105,8 @@ def guide_page(program: Path) -> str:
             heading = fault.heading()
             parts.append(f"## {heading}\n")
         names = ", ".join(f"`{name}`" for name in fault.names)
-        text = re.sub(r"'([^']*)'", r"`\1`", one_line(fault.when))
-        remedy = re.sub(r"'([^']*)'", r"`\1`", one_line(fault.remedy))
+        text = QUOTED.sub(r"`\1`", one_line(fault.when))
+        remedy = QUOTED.sub(r"`\1`", one_line(fault.remedy))
         parts.append(f"### {names}\n\n{sentence(fault.meaning)}\n\n{text}\n")
         parts.append(f"```\n{fault.example}\n```\n\nWhat to do: {remedy}\n")
     return "\n".join(parts)

@@ -21,8 +21,8 @@ CHANGES = ROOT / "CHANGELOG.md"
 # Each tool, and what its page says that it does.
 TOOLS = {
     "adjust": "adjust a station by least squares, and write its sheet",
-    "check_folder": "check the sheets and tables of a folder against their field files",
-    "prepare": "leave out or rename blocks in a copy of a field file",
+    "check_folder": "check the sheets and tables of a folder",
+    "prepare": "leave out or rename blocks of a copy, or put codes in",
     "residuals": "draw the residuals of a station",
 }
 
@@ -94,7 +94,7 @@ def options(parser: argparse.ArgumentParser) -> Iterator[str]:
 def statuses(said: str) -> Iterator[str]:
     """The exit statuses, as 'Exit status: 0 written, 1 not, 2 a mistake.' names them."""
     for status, meaning in re.findall(r"(\d) (.*?)(?:, (?=\d)|\.$)", said):
-        yield from [".TP", f".B {status}", f"{meaning[0].upper()}{escaped(meaning[1:])}."]
+        yield from [".TP", f".B {status}", *man_text(f"{meaning[0].upper()}{meaning[1:]}.")]
 
 
 def page(script: str) -> str:

@@ -1,5 +1,5 @@
-"""examples/prepare.py: copies of a field file with blocks left out or renamed, and the command that
-shows that nothing else was changed."""
+"""examples/prepare.py: copies of a field file with blocks left out, renamed or put in, and the
+command that shows that nothing else was changed."""
 
 import re
 import subprocess
@@ -81,14 +81,15 @@ class PrepareTest(ProgramTest):
         return done.stdout + done.stderr
 
     def check_changes_are_shown(self):
-        """One byte changed, a line more and a line less are each shown."""
+        """One byte changed, a line more and a line less, put in or renamed too, are each shown."""
         right = self.copy.read_bytes()
         lines = right.splitlines(keepends=True)
         at = next(place for place, line in enumerate(lines) if b" 22." in line)
+        new = [place for place, line in enumerate(lines) if b"> " + line in self.log]
         for changed in [
             right.replace(b" 22.", b" 23.", 1),
-            b"".join([*lines[:at], *lines[at + 1 :]]),
             b"".join([*lines[:at], lines[at], *lines[at:]]),
+            *(b"".join([*lines[:place], *lines[place + 1 :]]) for place in [at, *new]),
         ]:
             self.copy.write_bytes(changed)
             self.assertNotEqual(b"", self.shown())
@@ -130,6 +131,7 @@ class PrepareTest(ProgramTest):
             (STATION, ["--set", "S1", "1", "--blocks", "12"], [2, 3, 4, 5, 6, 12]),
             (closing, ["--closing"], [5, 8]),
             (P7, ["--blocks", "50-"], [50, 51]),
+            (P7, ["--blocks", "36,40-42", "50-"], [36, 40, 41, 42, 50, 51]),
             (P7, ["--without-codes"], [1, 3, 16, 27, 38, 51]),
         ]:
             with self.subTest(args):
@@ -148,12 +150,15 @@ class PrepareTest(ProgramTest):
             ("AaAaBbCcAa", "........xx"),
             ("AaBbAa", "....xx"),
             ("ABCcba|BAbab", "...........x"),
+            ("ABCcbaABCcbaAa", "............xx"),  # a pair after sets that were read by faces
+            ("XABCabcABCabcAa", ".............xx"),
         ]:
             with self.subTest(sights):
                 field = sights_of(sights)
                 numbers = [n for n, mark in enumerate(closing, 1) if mark == "x"]
                 self.assertEqual(numbers, self.left(field, ["--closing"]))
-        for sights in ["ABba", "AaBbAaBb", "ABCcbaABCcba", "AaAaBb", "A", "AA"]:
+        of_none = ["ABba", "AaBbAaBb", "ABCcbaABCcba", "AaAaBb", "A", "AA", "ABCcbaXx", "ABbaA"]
+        for sights in of_none:
             status, _, said = self.prepared(sights_of(sights), "--closing")
             self.assertEqual((1, "prepare.py: no set has a closing sight\n"), (status, said))
 
@@ -180,7 +185,9 @@ class PrepareTest(ProgramTest):
         both = self.left(sights_of("ABCAacbaABCAacbaABCA"), ["--closing", "--broken-off"])
         self.assertEqual([4, 8, 12, 16, 17, 18, 19, 20], both)
         none = "prepare.py: no last set was broken off, as far as the readings show it\n"
-        for sights in ["ABCcba", "AABCcbaABCcba", "ABCcbaABba", "AaBbAaBbXY", "AaAaBb", "ABC", "A", ""]:
+        two_at_least = ["ABCcbaABABCcba", "ABCcbaABCcbaXYAZA"]  # begun again; checks among details
+        others = ["ABCcba", "AABCcbaABCcba", "ABCcbaABba", "AaBbAaBbXY", "AaAaBb", "ABC", "A", ""]
+        for sights in [*two_at_least, *others]:
             status, _, said = self.prepared(sights_of(sights), "--broken-off")
             self.assertEqual((1, none), (status, said), sights)
         said = "prepare.py: the file has codes: leave the set out by --set\n"
@@ -205,16 +212,74 @@ class PrepareTest(ProgramTest):
         self.changed(good, ["--rename", "1,4", "P 1"], of_a)
         of_both = edited(of_a, (b"0000000B", b"00000P 1"))
         self.changed(good, ["--rename", "1-4", "P 1"], of_both)
+        self.changed(lower, ["--capitals"], job("1122", "AKKA"))
+        of_code = edited(P7, (b"42....+00000000000000P7", b"42....+00000000000tabor"))
+        small = of_code.replace(b"TOWER", b"Tower").replace(b"CHURCH", b"church")
+        self.changed(small, ["--capitals"], of_code)
+        named = of_code.replace(b"TOWER", b"0Mill", 1)
+        self.changed(small, ["--rename", "2", "Mill", "--capitals"], named)
         other = edited(P7, (b"42....+00000000000000P7", b"42....+00000000000TABOR"))
         self.changed(P7, ["--rename", "1", "TABOR"], other)
         other = edited(P7, (b"42....+0000000000000002", b"42....+0000000000000012"))
         self.changed(P7, ["--rename", "16", "12"], other)
+        unnamed = edited(P7, (b" 42....+0000000000000002", b""))
+        self.changed(unnamed, ["--rename", "16", "2"], P7)
         self.check_changes_are_shown()
         both = ["--rename", "4", "X", "--blocks", "3", "5-6", "--rename", "7", "Y"]
         self.assertEqual(0, self.prepared(P7, *both)[0])
         said = b"without: block 3, blocks 5-6; with: block 4 named X, block 7 named Y"
         head = b"a copy.gsi is field.gsi " + said + b"\nwhy: a reason\nblock 3:\n"
         self.assertTrue(self.log.startswith(head), self.log)
+
+    def test_codes_are_put_in(self):
+        """The lines are those of `mark`, in the width and with the end of the lines beside them."""
+        station = lines_of(("A", 1, 0), ("A", 2, 20_000_000), ("B", 1, 5), ("B", 2, 20_000_005))
+        begun = b"41....+00000010 42....+0000000%c\r\n41....+00000020 42....+00000001\r\n"
+        end = b"41....+00000030\r\n"
+        field = station + station
+        first, last = begun % b"S" + station, begun % b"T" + station
+        for args, expected in [
+            (["--codes", "S", "1", "4"], first + end + station),
+            (["--codes", "T", "5", "8"], station + last),
+            (["--codes", "T", "5", "8", "--codes", "S", "1", "4"], first + end + last),
+        ]:
+            with self.subTest(args):
+                self.assertEqual(0, self.prepared(field, *args)[0])
+                self.assertEqual(expected, self.copy.read_bytes())
+                self.assertEqual(0, answer_of(["list", self.copy])[0])
+                self.check_changes_are_shown()
+        both = b"\nbefore block 5:\n> 41....+00000030\r\nbefore block 5:\n> 41....+00000010"
+        self.assertIn(both, self.log)
+        two = ["--codes", "S", "1,5", "8"]
+        self.assertEqual((0, "3 blocks are put in", ""), self.prepared(field, *two))
+        listed = b"station S: 2 sets, 2 targets, 4 directions\n"
+        self.assertTrue(answer_of(["list", self.copy])[1].startswith(listed))
+        both = [*two, "--blocks", "3-4", "--rename", "1,2", "C"]
+        counts = "2 blocks are left out, 2 blocks are changed, 3 blocks are put in"
+        self.assertEqual((0, counts, ""), self.prepared(field, *both))
+        self.check_changes_are_shown()
+        other = ["--without-codes", "--codes", "P7", "4,17,28,39", "50"]
+        self.assertEqual(0, self.prepared(P7, *other)[0])
+        self.assertEqual(answer_of(["list", self.field]), answer_of(["list", self.copy]))
+        for args, said in [
+            (["S", "1,9", "10"], "no block 9: the file has 8"),
+            (["S", "1", "9"], "no block 9: the file has 8"),
+            (["S", "1,5", "4"], "the blocks of S don't ascend"),
+            (["S", "5,1", "8"], "the blocks of S don't ascend"),
+            (["STATION 7", "1", "4"], "block 1: the name STATION 7 is too long for a line of"),
+            (["S", "1", "4", "--codes", "T", "3", "8"], "the blocks of T don't ascend, or lie"),
+        ]:
+            status, _, answer = self.prepared(field, "--codes", *args)
+            self.assertEqual(1, status)
+            self.assertTrue(answer.startswith(f"prepare.py: {said}"), answer)
+        set_up = sights_of("ABba|ABba")
+        said = "prepare.py: block 5 sets the instrument up, among the sets of S\n"
+        self.assertEqual((1, "", said), self.prepared(set_up, "--codes", "S", "1,6", "9"))
+        self.assertEqual(0, self.prepared(set_up, "--codes", "S", "1,6", "9", "--blocks", "5")[0])
+        said = "prepare.py: block 3 is no reading: no set begins or ends there\n"
+        self.assertEqual((1, "", said), self.prepared(P7, "--codes", "P7", "3", "15"))
+        for values in ["S 1", "S x 4", "S 1-2 4", "S 1 4-", "0S 1 4"]:
+            self.assertEqual(2, self.prepared(field, "--codes", *values.split())[0], values)
 
     def test_a_file_that_is_refused_is_copied(self):
         """A title, a byte order mark, letters with accents, tabs, a final 1A and a line cut off."""
@@ -223,6 +288,8 @@ class PrepareTest(ProgramTest):
         mark = b"\xef\xbb\xbf"
         latin, utf = edited(good, (b"A 21", b"\xc4 21")), edited(good, (b"A 21", b"\xc3\x84 21"))
         sharp = edited(good, (b"0A 21", b"\xdfA 21"))
+        narrow = edited(good, (b"00A 21", b"0\xc3\x84 21"))  # eight bytes, and so seven letters
+        twice, last = good.replace(b"\r\n", b"\r\r\n"), b"110005+0000000B\r\r\n"
         for field, args, expected in [
             (b"Job 17\r\n" + good, ["--blocks", "1"], good),
             (cut, ["--blocks", "5"], good),
@@ -233,6 +300,10 @@ class PrepareTest(ProgramTest):
             (latin, ["--plain"], good),
             (utf, ["--plain"], good),
             (mark + utf + b"\x1a", ["--plain"], good),
+            (narrow, ["--plain"], good),
+            (twice + last, ["--blocks", "5"], twice),
+            (utf + cut[len(good) :], ["--plain"], cut),  # what was cut off isn't filled up
+            (good + b"\x1a" + mark + good + b"\x1a\x1a", ["--plain"], good + good),
             (utf, ["--rename", "1,4", "A"], good),
             (latin, ["--rename", "1,4", "A"], good),
             (sharp, ["--plain"], good.replace(b"0A 21", b"sA 21")),
@@ -245,6 +316,10 @@ class PrepareTest(ProgramTest):
             status, _, said = self.prepared(good.replace(b"A 21", byte + b" 21"), "--plain")
             self.assertEqual(1, status)
             self.assertIn("block 1: no plain letter stands for ", said)
+        for form in ["utf-16", "utf-16-le", "utf-16-be"]:
+            status, _, said = self.prepared(good.decode().encode(form), "--plain")
+            self.assertEqual(1, status)
+            self.assertIn("field.gsi is in UTF-16: save it as plain text", said)
 
     def test_the_log_says_what_and_why(self):
         for args, counts in [
@@ -283,7 +358,7 @@ class PrepareTest(ProgramTest):
             (["--closing"], "no set has a closing sight"),
             (["--broken-off"], "the file has codes: leave the set out by --set"),
             (["--rename", "1", "x" * 17], "block 1: the name " + "x" * 17 + " is too long"),
-            (["--rename", "51", "X"], "block 51 has no name"),
+            (["--rename", "52", "X", "--blocks", "1"], "no block 52"),
             (["--rename", "52", "X"], "no block 52: the file has 51"),
             (["--rename", "4", "X", "--set", "P7", "1"], "block 4 is both left out and named X"),
             (["--rename", "1", "P7"], "nothing would be changed"),
@@ -302,6 +377,9 @@ class PrepareTest(ProgramTest):
         degrees = edited(job("1122", "ABBA"), (b"22.102+1", b"22.104+1"))
         said = "prepare.py: block 1: no zenith angle in gon with five decimals\n"
         self.assertEqual((1, "", said), self.prepared(degrees, "--closing"))
+        titled = b"Job 17\n" + P7
+        said = "prepare.py: block 1 has no name: neither word 11 nor word 41 first\n"
+        self.assertEqual((1, "", said), self.prepared(titled, "--rename", "1", "X"))
         names = [["--rename", "1", name] for name in ["", "0P", "P\u00e4"]]
         of_blocks = [["--blocks", "x"], ["--blocks", "0"], ["--blocks"], ["--rename", "1"]]
         for args in [[], *of_blocks, ["--set", "P7"], ["--rename", "x", "X"], *names]:

@@ -215,7 +215,7 @@ class MakeTest(ProgramTest):
         lines = dict(re.findall(r"^(\w+)[^:]*:(.*)$", (ROOT / "crates.txt").read_text(), re.MULTILINE))
         first, *others = map(str.split, found)
         self.assertEqual("station_program", first[-1])
-        self.assertEqual(2, len(others))
+        self.assertEqual(1, len(others))
         for chain in (first, *others):
             for low, crate in zip(chain, chain[1:]):
                 self.assertIn(low, lines[crate].split())

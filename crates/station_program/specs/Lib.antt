@@ -1,5 +1,1 @@
--- The public definitions, which public contracts and laws cite, in the order in which a reader
--- needs them.
-pub mod Hosts
-pub mod Unopened
-pub mod Answering
+pub mod Statuses

@@ -4,22 +4,18 @@
 //! The words of the command line say what is asked; each answer is a call of a library over sources
 //! and sinks, whose contract says what it read and wrote.
 //!
-//! What is asked of the runtime stands here, in `show`, and in `host.rt`. All between is generic.
+//! What is asked of the runtime stands here, in `show`, and in `host.rt` of `command_run`. All between
+//! is generic.
 #![tactic(auto)]
 
 ghost use Rattle.std.specs.Prelude.{◌≡◌, ◌≤◌, OnOk, OnErr};
 ghost use Rattle.clap.specs.Words.{kind_of};
-ghost use Rattle.station_program.specs.Answering.{IsStatusOfKind};
-
-mod answering;
-mod host;
-mod run;
-mod unopened;
+ghost use Rattle.station_program.specs.Statuses.{IsStatusOfKind};
 
 use byte_ends::{OfRead, OfWrite};
 use clap::Error;
 use clap::error::ErrorKind;
-use run::{USAGE, run};
+use command_run::{USAGE, run};
 use station_check::{ACCEPTED, Fault, refuse};
 use station_explain::all_explanations;
 use std::io;

@@ -1,5 +1,5 @@
 use Rattle.std.proofs.Common.{◌≡◌, Err, inr, rules}
-use Rattle.station_program.proofs.answering.open_two.Goals as goal
+use Rattle.command_run.proofs.answering.open_two.Goals as goal
 
 -- The second file can't be opened, and the first was.
 pub returns-in_err-open-clause-unopened : goal.returns-in_err-open-clause-unopened

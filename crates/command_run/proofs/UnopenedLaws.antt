@@ -4,7 +4,7 @@ use Rattle.std.specs.Prelude.{encode_utf8, encode_utf8_all}
 use Rattle.std.specs.Str.{chars, IsUtf8}
 use Rattle.std.proofs.lemmas.Str.{chars_from_encodes}
 use Rattle.std.proofs.lemmas.List.{append-nil}
-use Rattle.station_program.specs.Unopened.{shown, printable}
+use Rattle.command_run.specs.Unopened.{shown, printable}
 
 -- Of some characters and one more, that one is shown last.
 pub shown_then : (cs : List ℕ) (c : ℕ) → encode_utf8_all (map shown (cs ++ c ∷ []))

@@ -1,7 +1,7 @@
 use Rattle.std.proofs.Common.{inr, subst}
 use Rattle.byte_ends.specs.Writers.{writer_change}
-use Rattle.station_program.specs.Answering.{NamesUnopened}
-use Rattle.station_program.proofs.run.status_of_words.Goals as goal
+use Rattle.command_run.specs.Answering.{NamesUnopened}
+use Rattle.command_run.proofs.status.status_of_words.Goals as goal
 
 -- Nothing was asked of `err` before the line of the path.
 pub returns-in-Err-clause-status : goal.returns-in-Err-clause-status

@@ -1,20 +1,20 @@
 //! A file that can't be opened, and the line that names it.
 
 ghost use Rattle.std.specs.Prelude.{◌≡◌, IfOk, string_bytes};
-ghost use Rattle.station_program.specs.Unopened as spec;
+ghost use Rattle.command_run.specs.Unopened as spec;
 
 use std::alloc::{AllocError, Global};
 
 /// A file that can't be opened.
 #[derive(Debug, Drop)]
-pub struct Unopened<'a> {
+pub(crate) struct Unopened<'a> {
     pub path: &'a str,
 }
 
 /// The line that names the path of a file that can't be opened, with a `?` in the place of each
 /// control character, so that a terminal shows it on one line.
 #[tactic(auto, using(crate::proofs::UnopenedLaws::shown_then, crate::proofs::UnopenedLaws::shown_whole))]
-pub fn unopened_line(alloc: Global, path: &str) -> Result<String, AllocError>
+pub(crate) fn unopened_line(alloc: Global, path: &str) -> Result<String, AllocError>
     ensures { IfOk result (λ line. string_bytes line ≡ spec.unopened_line path.now) }
 {
     let mut line = String::from_str(alloc, "cannot open ")?;

@@ -4,9 +4,9 @@ ghost use Rattle.std.specs.Prelude.{◌≡◌, ◌≤◌, IfOk, IfErr, OnErr, ma
 ghost use Rattle.byte_ends.specs.Writers.{writer_change};
 ghost use Rattle.command_line.specs.CommandLine.{IsMistakeIn};
 ghost use Rattle.station_check.specs.RunEndings.{WritesOrFails};
-ghost use Rattle.station_program.specs.Answering.{IsStatusOfWords, IsStatusOfRun, IsMistakenRun};
-ghost use Rattle.station_program.specs.Answering.{NamesUnopened, LacksWords};
-ghost use Rattle.station_program.specs.Hosts.{known_of, readers};
+ghost use Rattle.command_run.specs.Answering.{IsStatusOfWords, IsStatusOfRun, IsMistakenRun};
+ghost use Rattle.command_run.specs.Answering.{NamesUnopened, LacksWords};
+ghost use Rattle.command_run.specs.Hosts.{known_of, readers};
 
 use crate::answering::answer;
 use crate::host::{Host, NoWords};

@@ -1,7 +1,7 @@
 use Rattle.std.proofs.Common.{◌≡◌, ◌++◌, map, string_bytes, codes}
 use Rattle.std.specs.Prelude.{encode_utf8_all}
-use Rattle.station_program.specs.Unopened.{shown}
-use Rattle.station_program.proofs.unopened.unopened_line.Given as goal
+use Rattle.command_run.specs.Unopened.{shown}
+use Rattle.command_run.proofs.unopened.unopened_line.Given as goal
 
 abbrev pub invariant-loop-character : goal.invariant-loop-character
 invariant-loop-character l =

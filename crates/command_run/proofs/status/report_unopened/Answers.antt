@@ -1,6 +1,6 @@
 use Rattle.std.proofs.Common.{◌≡◌, inl, rules}
-use Rattle.station_program.specs.Unopened.{unopened_line}
-use Rattle.station_program.proofs.run.report_unopened.Goals as goal
+use Rattle.command_run.specs.Unopened.{unopened_line}
+use Rattle.command_run.proofs.status.report_unopened.Goals as goal
 
 pub returns-in-Ok-clause-named : goal.returns-in-Ok-clause-named
 returns-in-Ok-clause-named g c =

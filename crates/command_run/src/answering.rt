@@ -2,10 +2,10 @@
 
 ghost use Rattle.std.specs.Prelude.{◌≡◌, ◌≤◌, IfOk, IfErr, OnErr, true, false};
 ghost use Rattle.byte_ends.specs.Writers.{writer_change};
-ghost use Rattle.station_program.specs.Answering.{IsAnswered, IsFirstOfTwo, IsOpened, IsRun};
-ghost use Rattle.station_program.specs.Answering.{ChecksFiles, ComparesFiles, ReportsFile};
-ghost use Rattle.station_program.specs.Answering.{NamesFirst, ReportsFiles};
-ghost use Rattle.station_program.specs.Hosts.{IsUnread, known_of, readers};
+ghost use Rattle.command_run.specs.Answering.{IsAnswered, IsFirstOfTwo, IsOpened, IsRun};
+ghost use Rattle.command_run.specs.Answering.{ChecksFiles, ComparesFiles, ReportsFile};
+ghost use Rattle.command_run.specs.Answering.{NamesFirst, ReportsFiles};
+ghost use Rattle.command_run.specs.Hosts.{IsUnread, known_of, readers};
 
 use crate::host::Host;
 use crate::unopened::Unopened;
@@ -31,7 +31,7 @@ use std::alloc::Global;
 use table_report::{Asked, run_table_report};
 
 /// The exit status of a request. All its files are opened before any is read, the field file first.
-pub fn answer<'a, H: Host, W: Sink, E: Sink>(
+pub(crate) fn answer<'a, H: Host, W: Sink, E: Sink>(
     alloc: Global,
     host: &H,
     input: H::Input,

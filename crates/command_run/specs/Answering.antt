@@ -5,9 +5,6 @@ use Rattle.byte_ends.specs.Sink.{WriterChange}
 use Rattle.byte_ends.specs.Source.{Told}
 use Rattle.clap.specs.Words.{Text}
 use Rattle.clap.specs.declared.error.Error.{Error}
-use Rattle.clap.specs.declared.error.kind.ErrorKind.{ErrorKind}
-use Rattle.clap.specs.declared.error.kind.ErrorKind.TheVariants.{DisplayHelp, DisplayVersion}
-use Rattle.clap.specs.declared.error.kind.ErrorKind.TheVariants.{OutOfMemory}
 use Rattle.command_line.specs.CommandLine.{Asked, IsAskedForBy, IsMistakeIn}
 use Rattle.command_line.specs.declared.request.Digests.{Digests}
 use Rattle.command_line.specs.declared.request.Digests.TheVariants as digests
@@ -30,12 +27,12 @@ use Rattle.station_explain.specs.Explaining.{IsExplainRun}
 use Rattle.station_explain.specs.Table.{Explanation}
 use Rattle.station_mark.specs.FaultTexts.{refusal_line as mark_refusal_line}
 use Rattle.station_mark.specs.Runs.{IsMarkRun, notes_in}
-use Rattle.station_program.specs.Hosts.{Known, Readers, IsAsKnown, IsUnread, IsTakenIn}
-use Rattle.station_program.specs.Hosts.{change_of}
-use Rattle.station_program.specs.Unopened.{unopened_line}
-use Rattle.station_program.specs.declared.host.NoWords.{NoWords}
-use Rattle.station_program.specs.declared.host.NoWords.TheVariants as no_words
-use Rattle.station_program.specs.declared.run.TheConstants.{NOT_TEXT}
+use Rattle.command_run.specs.Hosts.{Known, Readers, IsAsKnown, IsUnread, IsTakenIn}
+use Rattle.command_run.specs.Hosts.{change_of}
+use Rattle.command_run.specs.Unopened.{unopened_line}
+use Rattle.command_run.specs.declared.host.NoWords.{NoWords}
+use Rattle.command_run.specs.declared.host.NoWords.TheVariants as no_words
+use Rattle.command_run.specs.declared.status.TheConstants.{NOT_TEXT}
 use Rattle.station_record.specs.Recorded.{IsRecordedCheck, IsRecordedCompare, IsRecordedReport}
 use Rattle.station_record.specs.Recorded.{IsRecordedTableReport}
 use Rattle.station_record.specs.declared.named.NamedReader.{NamedReader}
@@ -303,11 +300,3 @@ pub record IsMistakenRun {F I : Type 0} (host : Known F I)
   pub words : List Text
   pub known : IsAsKnown host.words words
   pub mistake : IsMistakeIn words faults error
-
--- The exit status of what a parse answers in place of a request, by its kind: of help and of the
--- version 0 or 1; 1 where memory was refused; and else 2, for a mistake.
-abbrev pub IsStatusOfKind : ErrorKind → ℕ → Type 0
-IsStatusOfKind DisplayHelp status = status ≤ 1
-IsStatusOfKind DisplayVersion status = status ≤ 1
-IsStatusOfKind OutOfMemory status = status ≡ 1
-IsStatusOfKind mistake status = status ≡ 2

@@ -2,7 +2,7 @@
 use Rattle.std.specs.Prelude.{◌≡◌, ℕ, Bool, false, List, Option, IfSome}
 use Rattle.byte_ends.specs.Source.{Told, ReaderChange, UntilDropped, reader_change}
 use Rattle.clap.specs.Words.{Text}
-use Rattle.station_program.specs.declared.host.NoWords.{NoWords}
+use Rattle.command_run.specs.declared.host.NoWords.{NoWords}
 use Rattle.station_record.specs.declared.named.NamedReader.{NamedReader}
 
 -- What was given is what is known of it, where that is known.

@@ -1,0 +1,5 @@
+-- The public definitions, which public contracts and laws cite, in the order in which a reader
+-- needs them.
+pub mod Hosts
+pub mod Unopened
+pub mod Answering

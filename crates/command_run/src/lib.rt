@@ -1,0 +1,18 @@
+//! The run that the words of a command line ask for: its files are opened, and its own call is made
+//! over them.
+//!
+//! | File | Has |
+//! |---|---|
+//! | `status` | `run`: the exit status of the run that the words of a host ask for |
+//! | `host` | what gives the words and the files of paths, and the runtime as such a host |
+//! | `answering` | a request with its files open, and the call that answers it |
+//! | `unopened` | the line that names a file which can't be opened |
+#![tactic(auto)]
+
+mod answering;
+mod host;
+mod status;
+mod unopened;
+
+pub use host::{Host, NoWords};
+pub use status::{USAGE, run};
