@@ -180,6 +180,11 @@ class FieldFile:
             seen = self.random.sample(targets, self.random.randint(1, most)) if most else targets
             self.one_set(number, seen)
 
+    def join(self) -> None:
+        """Two lines in one, as where files are joined and the first has no last line end."""
+        place = self.random.randrange(len(self.lines) - 1)
+        self.lines[place : place + 2] = [" ".join(self.lines[place : place + 2])]
+
     def text(self) -> bytes:
         """The bytes of the file, in one of the forms of line ends."""
         if self.goes_wrong(2):
@@ -320,6 +325,8 @@ def job(random: Random) -> tuple[bytes, str | None]:
         if (stated is None) != (random.random() < 0.03):
             made.set_up(random.choice(["S1", "S2", "S3", "00S4", "A B", "P7"]))
         made.station()
+    if len(made.lines.lines) > 1 and random.random() < 0.03:
+        made.lines.join()
     return made.lines.text(), stated
 
 

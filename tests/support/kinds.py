@@ -24,8 +24,8 @@ TABLE_ROW_FAULTS = ["Fields", "Name", "Number", "Range", "Unknown", "Twice"]
 
 # Of blocks and of sets of a file into which codes are to be put.
 MARK_FAULTS = [
-    *["HasCodes", "HasSetUp", "NoSetUp", "NameTooLong", "NoSets", "ReadTwice", "FaceMissing"],
-    *["OneTarget", "Order", "EndsElsewhere", "OneSet", "FirstFace", "MayBeShifted"],
+    *["TwoLines", "HasCodes", "HasSetUp", "NoSetUp", "NameTooLong", "NoSets", "ReadTwice"],
+    *["FaceMissing", "OneTarget", "Order", "EndsElsewhere", "OneSet", "FirstFace", "MayBeShifted"],
     *["OneSetByTargets", "OtherTargets", "StationTwice"],
 ]
 

@@ -19,9 +19,11 @@ use Rattle.station_book.specs.Places.{History, is_empty}
 use Rattle.station_book.specs.Faults.{first_of}
 use Rattle.station_book.specs.Readings.{own_faults, face_of}
 use Rattle.station_book.proofs.readings.CleanBlocks.{all_none, none_when}
-use Rattle.set_marks.specs.declared.fault.MarkFault.TheVariants.{Reading}
-use Rattle.set_marks.specs.Stations.{SetUp, begun, is_stated, reading_fault, fault_as, own_fault}
-use Rattle.set_marks.specs.Stations.{fault_of_blocks}
+use Rattle.set_marks.specs.declared.fault.MarkFault.{MarkFault}
+use Rattle.set_marks.specs.declared.fault.MarkFault.TheVariants.{Reading, At}
+use Rattle.set_marks.specs.declared.fault.MarkKind.TheVariants as kinds
+use Rattle.set_marks.specs.Stations.{SetUp, begun, is_stated, reading_fault, fault_as, is_two_lines}
+use Rattle.set_marks.specs.Stations.{own_fault, fault_of_blocks}
 use Rattle.set_marks.proofs.ReadingBlocks.{IsClean}
 use Rattle.set_marks.proofs.StationReadings.{HasStation, HaveStations}
 
@@ -73,11 +75,16 @@ free_as roles.Other stated ss number b e = (refl, λ sees. absurd (false≢true 
 is_free : (station : Option (List ℕ)) (past : History) (b : GsiBlock)
     → own_fault station past b ≡ None → IsFree station past b
 is_free station past b e =
-    let f = free_as (role_of b) (is_stated station) (begun station past) (length past + 1) b e in
+    let f = free_as (role_of b) (is_stated station) (begun station past) (length past + 1) b
+    (one_line (is_two_lines b) _ e) in
     record {
       clean = record { plain = f.0; faced = λ sees. (f.1 sees).1 };
       has_station = λ sees. (f.1 sees).0;
-    }
+    } where
+      one_line : (two : Bool) (o : Option MarkFault)
+          → cond two (Some (At (length past + 1) kinds.TwoLines)) o ≡ None → o ≡ None
+      one_line true o e = cc
+      one_line false o e = e
 
 -- What is true of all.
 pub record CleanBlocks (station : Option (List ℕ)) (h : History) : Type 0 where

@@ -24,8 +24,9 @@ use Rattle.set_marks.specs.declared.fault.MarkFault.{MarkFault}
 use Rattle.set_marks.specs.declared.fault.MarkFault.TheVariants.{File, Reading, At, Memory}
 use Rattle.set_marks.specs.declared.fault.MarkKind.TheVariants as kinds
 use Rattle.set_marks.specs.declared.readings.Readings.{Readings}
-use Rattle.set_marks.specs.Stations.{SetUp, begun, is_stated, fault_as, reading_fault}
-use Rattle.set_marks.specs.Stations.{fault_of_blocks, own_fault, tells_set_up}
+use Rattle.set_marks.specs.Stations.{SetUp, begun, is_stated, is_two_lines, reading_fault}
+use Rattle.set_marks.specs.Stations.{fault_as, block_fault, own_fault, fault_of_blocks}
+use Rattle.set_marks.specs.Stations.{tells_set_up}
 use Rattle.set_marks.specs.Keeping.{Adds, Keeps, AreReadings, AnswersReadings, begun_in}
 use Rattle.set_marks.specs.Markings.{AreBlocks, IsFileFault}
 use Rattle.set_marks.proofs.EndedStations.{keeps_next}
@@ -86,18 +87,24 @@ same_fault Measurement stated ss ts number b e =
     then (if tells_set_up b && stated then Some (At number kinds.HasSetUp) else None) else o)
     (same_reading_fault ss ts number b e)
 
+same_block_fault : (stated : Bool) (ss ts : List SetUp) (number : ℕ) (b : GsiBlock)
+    → is_empty ss ≡ is_empty ts → block_fault stated ss number b ≡ block_fault stated ts number b
+same_block_fault stated ss ts number b e =
+    ap (λ (o : Option MarkFault). if is_two_lines b then Some (At number kinds.TwoLines) else o)
+    (same_fault (role_of b) stated ss ts number b e)
+
 -- The fault, whatever was kept where there was one already.
 next_fault : (station : Option (List ℕ)) (h : History) (r : Readings) (b : GsiBlock) (number : ℕ)
     (f : Option MarkFault) → f ≡ fault_of_blocks station h → (f ≡ None → Keeps station h r)
     → number ≡ length h + 1
-    → first_of (f ∷ fault_as (role_of b) (is_stated station) (begun_in r.station) number b ∷ [])
+    → first_of (f ∷ block_fault (is_stated station) (begun_in r.station) number b ∷ [])
     ≡ fault_of_blocks station (b ∷ h)
 next_fault station h r b number (Some e) is kept counted =
     ap (λ o. first_of (o ∷ own_fault station h b ∷ [])) is
 next_fault station h r b number None is kept counted =
     let k = (kept refl).begun in
     rw (
-      same_fault (role_of b) (is_stated station) (begun_in r.station) (begun station h) number b k,
+      same_block_fault (is_stated station) (begun_in r.station) (begun station h) number b k,
       counted,
     ) (ap (λ o. first_of (o ∷ own_fault station h b ∷ [])) is)
 
@@ -121,8 +128,7 @@ one_more R (a ∷ xs) (b ∷ ys) x y h r = (h.0, one_more R xs ys x y h.1 r)
 pub line_taken : (station : Option (List ℕ)) (first : FileAnswers) (t t' : ToCome) (r r' : Readings)
     (f f' : Option MarkFault) (number : ℕ) (b : GsiBlock)
     → AreTaken station first t r f → GivesLine t t' number b
-    → f' ≡ first_of (f ∷ fault_as (role_of b) (is_stated station) (begun_in r.station) number b
-    ∷ [])
+    → f' ≡ first_of (f ∷ block_fault (is_stated station) (begun_in r.station) number b ∷ [])
     → (f' ≡ None → Adds (is_stated station) b number r r')
     → AreTaken station first t' r' f'
 line_taken station first t t' r r' f f' number b taken gives is adds =
@@ -195,6 +201,14 @@ no_file_fault_as Measurement stated ss number b x e = by (lacks 21 b) (tells_set
     by true false f = cc
     by false w f = no_file_fault_of_reading ss number b x f
 
+no_file_fault_of_block : (stated : Bool) (ss : List SetUp) (number : ℕ) (b : GsiBlock)
+    (x : FileFault) → block_fault stated ss number b ≡ Some (File x) → ⊥
+no_file_fault_of_block stated ss number b x e = by (is_two_lines b) e where
+  by : (two : Bool) → (if two then Some (At number kinds.TwoLines)
+      else fault_as (role_of b) stated ss number b) ≡ Some (File x) → ⊥
+  by true f = cc
+  by false f = no_file_fault_as (role_of b) stated ss number b x f
+
 no_file_fault_first : (a b : Option MarkFault) (x : FileFault) → (a ≡ Some (File x) → ⊥)
     → (b ≡ Some (File x) → ⊥) → first_of (a ∷ b ∷ []) ≡ Some (File x) → ⊥
 no_file_fault_first None None x f g e = cc
@@ -206,7 +220,7 @@ no_file_fault : (station : Option (List ℕ)) (h : History) (x : FileFault)
 no_file_fault station [] x e = cc
 no_file_fault station (b ∷ h) x e = no_file_fault_first (fault_of_blocks station h)
     (own_fault station h b) x (no_file_fault station h x)
-    (no_file_fault_as (role_of b) (is_stated station) (begun station h) (length h + 1) b x) e
+    (no_file_fault_of_block (is_stated station) (begun station h) (length h + 1) b x) e
 
 pub fault_taken : (station : Option (List ℕ)) (first : FileAnswers) (t t' : ToCome) (r : Readings)
     (e : MarkFault) → AreTaken station first t r (Some e) → GivesEnd t t'

@@ -9,6 +9,7 @@ use Rattle.set_marks.specs.declared.fault.MarkFault.TheVariants.{File, Reading, 
 
 -- The name of what keeps a file from being marked.
 abbrev pub mark_kind_name : MarkKind → List ℕ
+mark_kind_name kind.TwoLines = codes "TwoLines"
 mark_kind_name kind.HasCodes = codes "HasCodes"
 mark_kind_name kind.HasSetUp = codes "HasSetUp"
 mark_kind_name kind.NoSetUp = codes "NoSetUp"

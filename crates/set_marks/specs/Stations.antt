@@ -3,11 +3,13 @@
 -- coordinates of the station, word 88 is the height of the instrument, words 22 and 31 are the
 -- vertical angle and the slope distance (GSI manual). A history is the blocks of a file up to some
 -- place, the newest first, as in station_book.
-use Rattle.std.specs.Prelude.{ℕ, ◌+◌, ◌-◌, ◌==◌, Bool, ◌&&◌, not, List, [], ◌∷◌, ◌++◌}
+use Rattle.std.specs.Prelude.{ℕ, ◌+◌, ◌-◌, ◌==◌, Bool, ◌&&◌, ◌||◌, not, List, [], ◌∷◌, ◌++◌}
 use Rattle.std.specs.Prelude.{length, take, drop, if◌then◌else◌, Option, Some, None, is_some}
 use Rattle.std.specs.List.{list_any}
 use Rattle.std.specs.Option.{option_map}
+use Rattle.gsi_word.specs.declared.index.TheConstants.{POINT_NUMBER, CODE_NUMBER}
 use Rattle.gsi_word.specs.declared.index.TheConstants.{HORIZONTAL_DIRECTION, VERTICAL_ANGLE}
+use Rattle.gsi_word.specs.Words.{GsiWord}
 use Rattle.gsi_word.specs.Blocks.{GsiBlock}
 use Rattle.gsi_word.specs.Names.{name_of}
 use Rattle.station_book.specs.declared.face.Face.TheVariants.{Two}
@@ -104,8 +106,17 @@ abbrev pub reading_fault : List SetUp → ℕ → GsiBlock → Option MarkFault
 reading_fault [] number b = Some (At number kinds.NoSetUp)
 reading_fault (s ∷ ss) number b = option_map (Reading number) (first_of (own_faults b))
 
--- The fault of a block of this role by itself: it has code 10, 20 or 30 already; or it is a set-up
--- line, and a station is stated; or that of a reading.
+-- a word with which a line begins: word 11 of a measurement, or word 41 of a code (GSI manual)
+abbrev pub begins_line : GsiWord → Bool
+begins_line w = (w.index == POINT_NUMBER) || (w.index == CODE_NUMBER)
+
+-- A block is two lines in one where a word after the first is one with which a line begins. Such a
+-- line comes about where files are joined, and the first has no line end after its last line.
+unfoldable pub is_two_lines : GsiBlock → Bool
+is_two_lines b = list_any begins_line (drop 1 b.words)
+
+-- The fault of a block of this role that is one line: it has code 10, 20 or 30 already; or it is a
+-- set-up line, and a station is stated; or that of a reading.
 abbrev pub fault_as : Role → Bool → List SetUp → ℕ → GsiBlock → Option MarkFault
 fault_as Station stated begun number b = Some (At number kinds.HasCodes)
 fault_as Set stated begun number b = Some (At number kinds.HasCodes)
@@ -116,10 +127,17 @@ fault_as Measurement stated begun number b =
     else reading_fault begun number b
 fault_as Other stated begun number b = None
 
+-- The fault of the block of this number by itself, after these stations have begun: it is two lines
+-- in one; or else that of its role.
+abbrev pub block_fault : Bool → List SetUp → ℕ → GsiBlock → Option MarkFault
+block_fault stated begun number b =
+    if is_two_lines b then Some (At number kinds.TwoLines)
+    else fault_as (role_of b) stated begun number b
+
 -- The fault of a block by itself, after these blocks.
 abbrev pub own_fault : Option (List ℕ) → History → GsiBlock → Option MarkFault
 own_fault station past b =
-    fault_as (role_of b) (is_stated station) (begun station past) (length past + 1) b
+    block_fault (is_stated station) (begun station past) (length past + 1) b
 
 -- The fault of the first block that has one by itself.
 abbrev pub fault_of_blocks : Option (List ℕ) → History → Option MarkFault

@@ -4,13 +4,12 @@ use Rattle.std.specs.Prelude.{Result, Ok, Err}
 use Rattle.gsi_word.specs.Blocks.{GsiBlock, IsBlock}
 use Rattle.gsi_file.specs.ToCome as to_come
 use Rattle.gsi_file.specs.declared.file_fault.FileFault.TheVariants as file
-use Rattle.station_book.specs.Blocks.{role_of}
 use Rattle.station_book.specs.Faults.{first_of}
 use Rattle.set_marks.specs.declared.fault.MarkFault.{MarkFault}
 use Rattle.set_marks.specs.declared.fault.MarkFault.TheVariants.{File, Reading, At, Memory}
 use Rattle.set_marks.specs.declared.readings.Readings.{Readings}
 use Rattle.set_marks.specs.declared.walk.Walk.{Walk}
-use Rattle.set_marks.specs.Stations.{fault_as}
+use Rattle.set_marks.specs.Stations.{block_fault}
 use Rattle.set_marks.specs.Keeping.{Adds, begun_in}
 
 -- A line that begins at this place is taken: a block, which is kept where no block up to it has a
@@ -21,7 +20,7 @@ pub record TakesLine (stated : Bool) (at : ℕ) (line : List ℕ) (old new : Wal
   pub number : new.number ≡ old.number + 1
   pub begins : new.begins.items ≡ old.begins.items ++ at ∷ []
   pub fault : new.fault ≡ first_of (old.fault
-      ∷ fault_as (role_of block) stated (begun_in old.readings.station) new.number block ∷ [])
+      ∷ block_fault stated (begun_in old.readings.station) new.number block ∷ [])
   pub adds : new.fault ≡ None → Adds stated block new.number old.readings new.readings
 
 -- A part is taken where it is a line, and else passed over.

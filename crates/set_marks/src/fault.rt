@@ -15,6 +15,11 @@ use thiserror::Error;
 /// it in a copy of the field file.
 #[derive(Clone, Copy, Debug, PartialEq, Eq, Error)]
 pub enum MarkKind {
+    /// The line is two in one: a word 11 or 41, with which a line begins, stands within it. So it
+    /// is where files were joined and the first of them had no line end after its last line: join
+    /// them again with a line end between.
+    #[error("a word 11 or 41 stands within the line: it is two lines in one")]
+    TwoLines,
     /// The block has code 10, 20 or 30: the file is marked already, or the codes are the office's
     /// own, and a copy without them can be marked.
     #[error("the block has code 10, 20 or 30 already")]
@@ -92,6 +97,7 @@ impl MarkKind {
         ensures short { length result.now ≤ 16 }
     {
         match self {
+            MarkKind::TwoLines => "TwoLines",
             MarkKind::HasCodes => "HasCodes",
             MarkKind::HasSetUp => "HasSetUp",
             MarkKind::NoSetUp => "NoSetUp",

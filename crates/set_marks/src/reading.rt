@@ -12,14 +12,15 @@ ghost use Rattle.station_book.specs.Faults.{first_of};
 ghost use Rattle.adjust_kernel.specs.Names.{IsName};
 ghost use Rattle.gsi_word.specs.Names.{name_of};
 ghost use Rattle.set_marks.specs.Marks.{IsRoomy};
-ghost use Rattle.set_marks.specs.Stations.{fault_as, has_set_up_word, tells_set_up};
+ghost use Rattle.set_marks.specs.Stations.{begins_line, is_two_lines, block_fault, fault_as};
+ghost use Rattle.set_marks.specs.Stations.{has_set_up_word, tells_set_up};
 ghost use Rattle.set_marks.specs.Keeping.{Adds, Ends, IsMemoryOr, Keeps, begun_in};
 
 use crate::fault::{MarkFault, MarkKind};
 use crate::readings::Readings;
 use crate::sight::Sight;
 use adjust_kernel::Name;
-use gsi_word::{Block, Found, VERTICAL_ANGLE};
+use gsi_word::{Block, CODE_NUMBER, Found, POINT_NUMBER, VERTICAL_ANGLE, Word};
 use station_book::{CIRCLE, HALF_CIRCLE, Reading, Role, read, role_of, target};
 use std::alloc::{AllocError, Global};
 
@@ -49,6 +50,29 @@ fn tells_set_up(block: &Block<'_>) -> bool
     ensures { result ≡ tells_set_up (block_of block.now) }
 {
     has_set_up_word(block) && !has_word(block, VERTICAL_ANGLE) && !has_word(block, SLOPE_DISTANCE)
+}
+
+/// Whether a line begins with such a word: a point number or a code number.
+fn begins_line(word: &Word<'_>) -> bool
+    ensures { result ≡ begins_line word.now }
+{
+    let index = word.index();
+    index == POINT_NUMBER || index == CODE_NUMBER
+}
+
+/// Whether a block is two lines in one: a word after the first is one that a line begins with.
+#[tactic(auto, unfolding(crate::specs::Stations::is_two_lines))]
+fn is_two_lines(block: &Block<'_>) -> bool
+    ensures { result ≡ is_two_lines (block_of block.now) }
+{
+    let mut words = block.words();
+    words.next();
+    for word in words {
+        if begins_line(&word) {
+            return true;
+        }
+    }
+    false
 }
 
 /// Whether the zenith angle of a reading is of face II.
@@ -104,8 +128,7 @@ impl Readings {
         requires room { All IsRoomy self.old.marking.marks.items }
         ensures room { All IsRoomy self.new.marking.marks.items }
         ensures fault { OnOk result (fault.new ≡ first_of (fault.old
-            ∷ fault_as (role_of (block_of block.now)) stated (begun_in self.old.station) number
-            (block_of block.now) ∷ [])) }
+            ∷ block_fault stated (begun_in self.old.station) number (block_of block.now) ∷ [])) }
         ensures adds { OnOk result
             (fault.new ≡ None → Adds stated (block_of block.now) number self.old self.new) }
         ensures memory { IfErr result (λ e. e ≡ Memory) }
@@ -135,12 +158,15 @@ impl Readings {
         requires bound { number ≤ LONGEST_FILE }
         requires room { All IsRoomy self.old.marking.marks.items }
         ensures room { All IsRoomy self.new.marking.marks.items }
-        ensures clean { OnOk result (fault_as (role_of (block_of block.now)) stated
-            (begun_in self.old.station) number (block_of block.now) ≡ None) }
+        ensures clean { OnOk result
+            (block_fault stated (begun_in self.old.station) number (block_of block.now) ≡ None) }
         ensures adds { OnOk result (Adds stated (block_of block.now) number self.old self.new) }
-        ensures fault { IfErr result (IsMemoryOr (fault_as (role_of (block_of block.now)) stated
-            (begun_in self.old.station) number (block_of block.now))) }
+        ensures fault { IfErr result (IsMemoryOr
+            (block_fault stated (begun_in self.old.station) number (block_of block.now))) }
     {
+        if is_two_lines(block) {
+            return Err(MarkFault::At(number, MarkKind::TwoLines));
+        }
         match role_of(block) {
             Role::Station | Role::Set | Role::Close => {
                 Err(MarkFault::At(number, MarkKind::HasCodes))

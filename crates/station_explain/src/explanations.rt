@@ -487,6 +487,19 @@ alike, the instrument has that index error, and a wider limit may be stated.",
 /// Faults of the blocks and stations of a file into which codes are to be put.
 const BLOCK_MARK_FAULTS: &[Explanation] = &[
     Said {
+        names: &["TwoLines"],
+        meaning: "two lines stand in one",
+        when: "\
+A word 11 or 41 stands within the line. A line begins with such a word, so this is two lines in one:
+mostly files were joined, and the first had no line end after its last line. What the second line
+says, for example that the instrument was set up, would be lost.",
+        example: "refused: block 17: mark: TwoLines",
+        remedy: "\
+Join the files again with a line end between them: '(cat A.gsi; echo; cat B.gsi) > GSI'.
+An empty line does no harm. Or put a line end before that word, in a copy. A file with codes needs
+that too: 'list' and 'check' take such a line for one block.",
+    },
+    Said {
         names: &["HasCodes"],
         meaning: "codes are to be put in, and the file has code 10, 20 or 30",
         when: "\

@@ -5,11 +5,17 @@ use std::alloc::Global;
 
 /// The bytes of a field file of GSI-8, one block for each pair of bytes: the name of a target, and
 /// `1` or `2` for the face in which it is read, or `h` for its height alone; the name of a station
-/// and `p` for its set-up line; or `c` and a code's first digit.
+/// and `p` for its set-up line; or `c` and a code's first digit; or `++` where the block before has
+/// no line end, so that it and the one after it are one line.
 fn file(alloc: Global, text: &[u8]) -> Option<Vec<u8>> {
     let mut bytes = Vec::new(alloc);
     for pair in 0..text.len() / 2 {
         let (named, kind) = (text[2 * pair], text[2 * pair + 1]);
+        if named == b'+' {
+            bytes.pop();
+            bytes.push(b' ').ok()?;
+            continue;
+        }
         if named == b'c' {
             bytes.extend_from_slice(b"41....+000000").ok()?;
             bytes.push(kind).ok()?;
@@ -73,7 +79,11 @@ fn rows_are_marked(rt: HostRuntime) {
 #[test]
 fn each_fault_stands_at_its_block(rt: HostRuntime) {
     let a = rt.alloc();
-    let rows: [(&[u8], u32, MarkKind); 23] = [
+    let rows: [(&[u8], u32, MarkKind); 27] = [
+        (b"1pA1B1B2A2++2pA1B1B2A2", 5, MarkKind::TwoLines),
+        (b"A1B1++c2B2A2", 2, MarkKind::TwoLines),
+        (b"A1c2++B1B2A2", 2, MarkKind::TwoLines),
+        (b"A1B1++2pB2A2", 2, MarkKind::TwoLines),
         (b"A1B1c2B2A2", 3, MarkKind::HasCodes),
         (b"A1B1B2A21pA1B1B2A2", 5, MarkKind::HasSetUp),
         (b"A1B1B2A2A1B1B1", 7, MarkKind::ReadTwice),
