@@ -2,3 +2,5 @@
 pub mod RowTexts
 pub mod Listing
 pub mod Runs
+-- The inside.
+pub mod RowPieces

@@ -7,6 +7,9 @@
 //! status.
 #![tactic(auto)]
 
+mod cell;
+mod put;
+mod row;
 mod rows;
 mod runs;
 mod text;

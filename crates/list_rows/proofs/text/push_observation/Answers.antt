@@ -1,26 +1,43 @@
-use Rattle.std.proofs.Common.{◌≡◌, ◌∙◌, ◌*◌, ◌++◌, List, [], ℕ, ap, get_or, rules}
+use Rattle.std.proofs.Common.{◌≡◌, ◌∙◌, ◌*◌, ◌++◌, ◌<◌, ◌^◌, [], FitsSigned, List, ℕ, ap, arith}
+use Rattle.std.proofs.Common.{get_or, rules}
+use Rattle.std.proofs.lemmas.List.{get_or-map}
+use Rattle.std.specs.Int.{w32}
 use Rattle.std.specs.Prelude.{decimal}
 use Rattle.adjust_kernel.specs.Matching.{key_of_obs}
 use Rattle.angle_texts.specs.MgonTexts.{short_mgon_text}
 use Rattle.direction_table.specs.Texts.{direction_text}
-use Rattle.list_rows.proofs.RowLaws.{same-at}
+use Rattle.list_rows.specs.RowPieces.{cell_text, numbers_text, start_text}
+use Rattle.list_rows.proofs.CellLaws.{decimal-plain, gon-plain, mgon-plain, six-pieces}
 use Rattle.list_rows.proofs.text.push_observation.Goals as goal
 
 pub returns : goal.returns
-returns g c =
-    let key = key_of_obs c.args.station.now.sets c.args.station.now.targets c.args.observation in
-    let name : c.bytes.result.now ≡ c.args.station.now.name =
-    c.bytes.ensures.value ∙ c.name-name.ensures.value in
-    let number : c.as_bytes.result.now ≡ decimal key.set = search rules in
-    let place = c.args.observation.target in
-    let it = c.index-targets-observation.result in
-    let target : c.bytes-2.result.now ≡ key.target =
-    c.bytes-2.ensures.value ∙ c.index-targets-observation.is
-    ∙ ap (λ (ts : List (List ℕ)). get_or ts place it) c.targets.ensures.value
-    ∙ same-at c.args.station.now.targets place it [] c.requires.target_in in
-    let direction = c.as_slice.ensures.value ∙ c.in_ok-push_gon.ensures.added
-    ∙ ap (λ (t : List ℕ). t ++ direction_text 6 (5_000 * c.from.result)) c.clear.ensures.items
-    ∙ ap (λ (n : ℕ). direction_text 6 (5_000 * n)) c.from.ensures in
-    let two_c : c.as_slice-2.result.now ≡ short_mgon_text c.args.differences.two_c = search rules in
-    let two_i : c.as_slice-3.result.now ≡ short_mgon_text c.args.differences.two_i = search rules in
-    rw (name, number, target, direction, two_c, two_i) at c.push_row.ensures
+returns c =
+    let station = c.args.station.now in
+    let o = c.args.observation in
+    let faces = c.args.differences in
+    let key = key_of_obs station.sets station.targets o in
+    let its_start = c.index-starts-observation.result in
+    let its_target = c.index-targets-observation.result in
+    let start : its_start ≡ start_text station.name key.set =
+    c.index-starts-observation.is
+    ∙ ap (λ (xs : List (List ℕ)). get_or xs o.set its_start) c.requires.starts
+    ∙ get_or-map (start_text station.name) station.sets o.set 0 its_start c.requires.set_in in
+    let target : its_target ≡ cell_text key.target =
+    c.index-targets-observation.is
+    ∙ ap (λ (xs : List (List ℕ)). get_or xs o.target its_target) c.requires.targets
+    ∙ get_or-map cell_text station.targets o.target [] its_target c.requires.target_in in
+    let set = c.requires.valid.sets.numbers o.set 0 c.requires.set_in in
+    let value : o.value < 2 ^ 32 = search rules in
+    let two_c : FitsSigned w32 faces.two_c = search rules in
+    let two_i : FitsSigned w32 faces.two_i = search rules in
+    let row = six-pieces station.name (decimal key.set) key.target
+    (direction_text 6 (5_000 * o.value)) (short_mgon_text faces.two_c)
+    (short_mgon_text faces.two_i) (decimal-plain key.set (omega (arith, set)))
+    (gon-plain (5_000 * o.value) (omega (arith, value))) (mgon-plain faces.two_c two_c)
+    (mgon-plain faces.two_i two_i) in
+    let made = c.put_row-end.ensures.text
+    ∙ ap (λ (t : List ℕ). t ++ (its_target ++ numbers_text o.value faces)) start
+    ∙ ap (λ (t : List ℕ). start_text station.name key.set ++ (t ++ numbers_text o.value faces))
+    target in
+    c.in_ok-extend_from_slice.ensures.items
+    ∙ ap (λ (t : List ℕ). c.args.text.now.items ++ t) (made ∙ row)

@@ -1,27 +1,25 @@
-use Rattle.std.proofs.Common.{◌<◌, ◌++◌, ◌∙◌, List, ℕ, ap, flat_map, length, option_copied, rules}
-use Rattle.std.proofs.Common.{subst, sym, take}
+use Rattle.std.proofs.Common.{◌<◌, ◌++◌, ◌∙◌, ap, length, option_copied, rules}
+use Rattle.std.proofs.Common.{sym}
 use Rattle.std.proofs.lemmas.List.{take_all}
 use Rattle.list_rows.specs.RowTexts.{rows_of}
 use Rattle.list_rows.proofs.RowLaws.{entries-joined}
-use Rattle.sheet_format.specs.Texts.{HasWritten, rows_text}
+use Rattle.sheet_format.specs.Texts.{rows_text}
 use Rattle.station_check.proofs.ListLaws.{some_inside}
 use Rattle.list_rows.proofs.text.push_stations.Goals as goal
 use Rattle.list_rows.proofs.text.push_stations.Goals.{in-Some+in_ok-push_surveyed, in_default}
 
 pub stations-preserved : goal.stations-preserved
-stations-preserved g c text h =
+stations-preserved c =
     let stations = c.args.stations.now in
     let place = c.stations.place in
     elim c.match-at.branch [
       | in-Some+in_ok-push_surveyed w ↦
-          let more = entries-joined rows_of text stations place w.in-Some.surveyed.now
-          (sym c.at.ensures ∙ ap option_copied w.in-Some.is) in
-          rw w.writer-is
-          (subst (λ (t : List ℕ). HasWritten {W = g.row.W.Denot} g.W.Write.contents
-          w.push_surveyed.new.writer t) more
+          let surveyed = w.in-Some.surveyed.now in
+          rw w.text-is
           (w.in_ok-push_surveyed.ensures
-          (text ++ rows_text (flat_map rows_of (take place stations)))
-          (c.stations.invariant text h)))
+          ∙ ap (λ t. t ++ rows_text (rows_of surveyed)) c.stations.invariant
+          ∙ entries-joined rows_of c.args.text.now.items stations place surveyed
+          (sym c.at.ensures ∙ ap option_copied w.in-Some.is))
       | in_default w ↦
           let inside : place < length stations = search rules in
           absurd (some_inside stations place inside
@@ -29,6 +27,6 @@ stations-preserved g c text h =
     ]
 
 pub returns : goal.returns
-returns g c text h =
+returns c =
     let whole = take_all c.stations.place c.args.stations.now (search rules) in
-    rw whole at (c.stations.invariant text h)
+    rw whole at c.stations.invariant

@@ -1,14 +1,14 @@
-use Rattle.std.proofs.Common.{◌≡◌, ◌∙◌, ◌≤◌, ◌++◌, List, ℕ, Some, ap, length, map, rules, slice_get}
-use Rattle.std.proofs.Common.{subst, sym, take, zip}
-use Rattle.adjust_kernel.specs.Matching.{key_of_obs, observed}
+use Rattle.std.proofs.Common.{◌≡◌, ◌∙◌, ◌≤◌, ◌++◌, List, ℕ, Some, ap, length, rules, slice_get}
+use Rattle.std.proofs.Common.{sym}
+use Rattle.adjust_kernel.specs.Matching.{key_of_obs}
 use Rattle.adjust_kernel.specs.Stations.{StationValue}
+use Rattle.csv.specs.Writing.{default_writer, row_text}
 use Rattle.list_rows.specs.RowTexts.{row_of}
 use Rattle.list_rows.proofs.RowLaws.{all-pairs, pair-joined}
-use Rattle.sheet_format.specs.Texts.{HasWritten, rows_text}
 use Rattle.list_rows.proofs.text.push_surveyed.Goals as goal
 
 pub observations-preserved : goal.observations-preserved
-observations-preserved g c text h =
+observations-preserved c =
     let s = c.args.surveyed.now in
     let place = c.observations.place in
     let station_is = c.station-station.ensures in
@@ -20,19 +20,17 @@ observations-preserved g c text h =
     let f : slice_get s.faces place ≡ Some differences =
     ap (λ (xs : _). slice_get xs place) (sym c.faces-faces.ensures.value)
     ∙ c.differences_at-differences.ensures in
-    let pairs = zip (observed s.station) s.faces in
-    let before = text ++ rows_text (map (row_of s.station.name) (take place pairs)) in
+    let key = key_of_obs s.station.sets s.station.targets in
+    let line = row_text default_writer (row_of s.station.name (key observation, differences)) in
     let written = rw station_is at c.in_ok-push_observation.ensures in
-    let more = pair-joined (key_of_obs s.station.sets s.station.targets) (row_of s.station.name)
-    text
-    s.station.obs s.faces place observation differences o f in
-    subst (λ (t : List ℕ). HasWritten {W = g.row.W.Denot} g.W.Write.contents
-    c.push_observation.new.writer t) more (written before (c.observations.invariant text h))
+    written ∙ ap (λ (t : List ℕ). t ++ line) c.observations.invariant
+    ∙ pair-joined key (row_of s.station.name) c.args.text.now.items s.station.obs s.faces place
+    observation differences o f
 
 pub returns : goal.returns
-returns g c text h =
+returns c =
     let s = c.args.surveyed.now in
     let past : length s.station.obs ≤ c.observations.place = search rules in
     let whole = all-pairs (key_of_obs s.station.sets s.station.targets) s.station.obs s.faces
     c.observations.place past in
-    rw whole at (c.observations.invariant text h)
+    rw whole at c.observations.invariant

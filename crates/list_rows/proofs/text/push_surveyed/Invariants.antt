@@ -1,11 +1,10 @@
-use Rattle.std.proofs.Common.{ℕ, List, ◌++◌, map, take, zip}
+use Rattle.std.proofs.Common.{◌≡◌, ◌++◌, map, take, zip}
 use Rattle.adjust_kernel.specs.Matching.{observed}
 use Rattle.list_rows.specs.RowTexts.{row_of}
-use Rattle.sheet_format.specs.Texts.{HasWritten, rows_text}
+use Rattle.sheet_format.specs.Texts.{rows_text}
 use Rattle.list_rows.proofs.text.push_surveyed.Given as goal
 
 abbrev pub invariant-observations : goal.invariant-observations
-invariant-observations g l = (text : List ℕ) → HasWritten g.W.Write.contents l.fn.writer text
-    → HasWritten g.W.Write.contents l.writer (text
+invariant-observations l = l.text.items ≡ l.fn.text.items
     ++ rows_text (map (row_of l.surveyed.station.name)
-    (take l.place (zip (observed l.surveyed.station) l.surveyed.faces))))
+    (take l.place (zip (observed l.surveyed.station) l.surveyed.faces)))

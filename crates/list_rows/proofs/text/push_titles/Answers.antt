@@ -1,12 +1,7 @@
+use Rattle.std.proofs.Common.{◌∙◌, ◌++◌, List, ℕ, ap}
+use Rattle.list_rows.proofs.CellLaws.{title-row}
 use Rattle.list_rows.proofs.text.push_titles.Goals as goal
 
 pub returns : goal.returns
-returns g c =
-    rw (
-      c.as_slice.ensures,
-      c.as_slice-2.ensures,
-      c.as_slice-3.ensures,
-      c.as_slice-4.ensures,
-      c.as_slice-5.ensures,
-      c.as_slice-6.ensures,
-    ) at c.push_row.ensures
+returns c = c.in_ok-extend_from_slice.ensures.items
+    ∙ ap (λ (t : List ℕ). c.args.text.now.items ++ t) title-row

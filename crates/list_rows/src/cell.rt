@@ -1,0 +1,150 @@
+//! What the rows of a list share: a name stands in many of them.
+//!
+//! So each name's cell is made once, by `csv` where the name calls for quotes, and copied into the
+//! rows: all bytes that a cell has room for, since a copy of a constant length is a few loads and
+//! stores.
+ghost use Rattle.std.specs.Prelude.{◌≡◌, ◌≤◌, ◌<◌, ◌+◌, ◌++◌, ◌∷◌, [], length, map, IfOk, OnOk};
+ghost use Rattle.std.specs.Prelude.{decimal};
+ghost use Rattle.adjust_kernel.specs.Names.{IsName};
+ghost use Rattle.csv.specs.Writing.{comma, default_writer, needs_quotes, row_text};
+ghost use Rattle.list_rows.specs.RowPieces as spec;
+ghost use Rattle.sheet_format.specs.Texts.{Writes};
+
+use crate::put::{put, put_bytes};
+use adjust_kernel::{LONGEST_NAME, Name, Station};
+use csv::{Writer, WriterBuilder};
+use itoa::Buffer;
+use station_check::LONGEST_U32;
+use std::alloc::{AllocError, Global};
+use std::io::Write;
+use std::marker::Model;
+
+/// Bytes that no name passes as `csv` writes it: each of them a quote, which is written twice, and
+/// the two quotes around it.
+const LONGEST_FIELD: usize = 2 * LONGEST_NAME + 2;
+
+/// Bytes that a cell has room for: a name and a number, each with its comma.
+pub(crate) const LONGEST_CELL: usize = LONGEST_FIELD + 1 + LONGEST_U32 + 1;
+
+/// A piece that rows share, with a comma at its end.
+#[derive(Drop)]
+pub(crate) struct Cell {
+    bytes: [u8; LONGEST_CELL],
+    len: usize,
+}
+
+impl Model for Cell {
+    ghost use Rattle.std.specs.Prelude.{◌≡◌, ◌≤◌, ℕ, List, length, take};
+    ghost use Rattle.list_rows.specs.declared.cell.TheConstants.{LONGEST_CELL};
+
+    ghost Value = { List ℕ };
+
+    ghost view = { λ c. take c.len c.bytes };
+
+    ghost invariant = { λ c. (c.len ≤ LONGEST_CELL) × (length c.bytes ≡ LONGEST_CELL) };
+}
+
+impl Cell {
+    ghost use Rattle.std.specs.Prelude.{◌≡◌, ◌≤◌, ◌<◌, ◌+◌, ◌++◌, ◌∷◌, [], length, take};
+    ghost use Rattle.csv.specs.Writing.{comma};
+
+    /// A cell of two pieces of text, and a comma after them.
+    fn new(first: &[u8], second: &[u8]) -> Cell
+        requires { length first.now + length second.now < LONGEST_CELL }
+        ensures { result ≡ first.now ++ (second.now ++ (comma ∷ [])) }
+    {
+        let mut bytes = [0; LONGEST_CELL];
+        let middle = put_bytes(&mut bytes, 0, first);
+        let end = put_bytes(&mut bytes, middle, second);
+        let len = put(&mut bytes, end, b",");
+        Cell { bytes, len }
+    }
+
+    /// Its bytes.
+    fn bytes(&self) -> &[u8]
+        ensures { result.now ≡ self.now }
+    {
+        &self.bytes[..self.len]
+    }
+
+    /// Its bytes, with others after them, as many as a cell has room for; and how many are its own.
+    #[inline(always)]
+    pub(crate) fn padded(&self) -> (&[u8; LONGEST_CELL], usize)
+        ensures own { take result.1 result.0.now ≡ self.now }
+        ensures short { result.1 ≤ LONGEST_CELL }
+    {
+        (&self.bytes, self.len)
+    }
+}
+
+/// Whether `csv` puts quotes around a name.
+fn calls_for_quotes(name: &[u8]) -> bool
+    ensures { result ≡ needs_quotes default_writer name.now }
+{
+    name.iter().any(|&byte| byte == b',' || byte == b'"' || byte == b'\r' || byte == b'\n')
+}
+
+/// Writes one row after those that were written. An error of `csv` is out of memory: the text is
+/// made there.
+fn push_row<W: Write + Drop>(writer: &mut Writer<W>, fields: &[&[u8]]) -> Result<(), AllocError>
+    ensures { OnOk result (Writes W.contents writer.old writer.new
+        (row_text default_writer (map (λ f. f.now) fields.now))) }
+{
+    writer.write_fields(fields).map_err(|_| AllocError)
+}
+
+/// The row of a name and an empty field, as `csv` writes it.
+fn row_of(alloc: Global, name: &[u8]) -> Result<Vec<u8>, AllocError>
+    ensures { IfOk result (λ row. row.items ≡ row_text default_writer (name.now ∷ [] ∷ [])) }
+{
+    let mut writer = WriterBuilder::new().from_writer(Vec::new(alloc));
+    push_row(&mut writer, &[name, b"".as_slice()])?;
+    writer.into_inner().map_err(|_| AllocError)
+}
+
+/// The cell of a name.
+fn cell_of(alloc: Global, name: &Name) -> Result<Cell, AllocError>
+    ensures cell { IfOk result (λ cell. cell ≡ spec.cell_text name.now) }
+    ensures short { length (spec.cell_text name.now) ≤ LONGEST_FIELD + 1 }
+{
+    let bytes = name.bytes();
+    if calls_for_quotes(bytes) {
+        let row = row_of(alloc, bytes)?;
+        // After the name there is a comma, an empty field and the end of the line.
+        return Ok(Cell::new(&row[..row.len() - 2], b""));
+    }
+    Ok(Cell::new(bytes, b""))
+}
+
+/// The cells of names, in their order.
+pub(crate) fn cells_of(alloc: Global, names: &[Name]) -> Result<Vec<Cell>, AllocError>
+    ensures { IfOk result (λ cells. cells.items ≡ map spec.cell_text names.now) }
+{
+    let mut cells = Vec::with_capacity(alloc, names.len())?;
+    for name in names {
+        cells.push(cell_of(alloc, name)?)?;
+    }
+    Ok(cells)
+}
+
+/// What the rows of a set begin with, by the cell of the station's name.
+fn start_of(station: &Cell, set: u16) -> Cell
+    requires { length station.now ≤ LONGEST_FIELD + 1 }
+    ensures { result ≡ station.now ++ (decimal set ++ (comma ∷ [])) }
+{
+    let mut digits = Buffer::new();
+    Cell::new(station.bytes(), digits.format(set).as_bytes())
+}
+
+/// What the rows of each set of a station begin with.
+pub(crate) fn starts_of(alloc: Global, station: &Station) -> Result<Vec<Cell>, AllocError>
+    ensures { IfOk result (λ starts. starts.items
+        ≡ map (spec.start_text station.now.name) station.now.sets) }
+{
+    let name = cell_of(alloc, &station.name())?;
+    let mut starts = Vec::with_capacity(alloc, station.sets().len())?;
+    for set in station.sets() {
+        starts.push(start_of(&name, *set))?;
+    }
+    Ok(starts)
+}
