@@ -7,7 +7,8 @@ use Rattle.std.proofs.Math.Nat.{le-div_iff_mul-le, mul-le-mul_left, mul-lt-mul_o
 use Rattle.std.proofs.lemmas.Int.{by_lt_z, ints}
 use native.Mathlib.Decide.{dec_le}
 use Rattle.exact_adjustment.proofs.Products.{products}
-use Rattle.directions_apart.specs.Arcs.{IsArc, IsExtent, IsSpread, IsWayRound}
+use Rattle.directions_apart.specs.Arcs.{IsArc, IsExtent, IsSpread}
+use Rattle.directions_apart.specs.Bounded.{IsNoWider}
 use Rattle.directions_apart.proofs.ArcLaws.{way_round_is}
 
 -- One of some numbers is the lowest.
@@ -54,13 +55,6 @@ within_way circle parts width way (negsuc n) some below narrow low high =
     let e = simp products at low in
     let f : parts * way < parts * circle = mul-lt-mul_of_pos_left below some in
     absurd (omega (arith, ints))
-
--- No arc from one of the angles is narrower.
-abbrev pub IsNoWider : (circle : ℕ) (angle : ℕ → ℤ) (count start narrowest : ℕ) → Type 0
-IsNoWider circle angle count start narrowest = (width : ℕ)
-    → ((i : ℕ) → i < count → (way : ℕ) → IsWayRound circle (angle start) (angle i) way
-    → way ≤ width)
-    → narrowest ≤ width
 
 module _ (circle : ℕ) (angle : ℕ → ℤ) where
   -- An extent is the width of an arc.
@@ -116,6 +110,18 @@ module _ (circle : ℕ) (angle : ℕ → ℤ) where
       by (no h) (inr before) = let m : min narrowest extent ≡ narrowest = omega arith in
           inr (rw m before)
       by (no h) (inl whole) = inl (omega arith)
+
+  -- With a start more from which no arc is narrower it is what it was.
+  pub wide_start : (count starts narrowest : ℕ) → 1 ≤ circle
+      → IsNarrowest count starts narrowest → IsNoWider circle angle count starts narrowest
+      → IsNarrowest count (starts + 1) narrowest
+  wide_start count starts narrowest some n wide =
+      let below = wide (circle - 1) (λ i h way w. omega (arith, w.below)) in
+      record {
+        reached = n.reached;
+        below = λ h. omega (arith, below);
+        least = below_more _ starts n.least wide;
+      }
 
   -- The narrowest arc from any of the angles is the narrowest of all arcs that hold them.
   pub all_starts : (count narrowest : ℕ) → 1 ≤ count → IsNarrowest count count narrowest

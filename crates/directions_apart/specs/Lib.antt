@@ -3,3 +3,5 @@
 pub mod Arcs
 pub mod Apart
 pub mod Rounding
+-- The inside.
+pub mod Bounded

@@ -2,7 +2,9 @@
 use Rattle.std.proofs.Common.{◌≡◌, ℕ, zero, suc, ◌+◌, ◌≤◌, ◌<◌, ℤ, arith, refl, subst}
 use Rattle.std.specs.Prelude.{min}
 use Rattle.directions_apart.specs.Arcs.{IsExtent}
+use Rattle.directions_apart.specs.Bounded.{IsNoWider}
 use Rattle.directions_apart.proofs.SpreadLaws.{IsNarrowest, all_starts, next_start, no_start}
+use Rattle.directions_apart.proofs.SpreadLaws.{wide_start}
 use Rattle.station_differences.specs.BestArcs.{IsBestArc}
 
 module _ (circle : ℕ) (angle : ℕ → ℤ) (count : ℕ) where
@@ -40,27 +42,24 @@ module _ (circle : ℕ) (angle : ℕ → ℤ) (count : ℕ) where
             absurd (omega (arith, wide, less)));
       }
 
-  -- Another is not.
-  pub no_narrower : (starts start spread extent : ℕ) → 1 ≤ circle → ¬ (extent < spread)
-      → IsFirstSoFar starts start spread → IsExtent circle angle count starts extent
+  -- Where none from it is narrower, what was first is.
+  pub no_narrower : (starts start spread : ℕ) → 1 ≤ circle
+      → IsFirstSoFar starts start spread → IsNoWider circle angle count starts spread
       → IsFirstSoFar (starts + 1) start spread
-  no_narrower starts start spread extent some no_less f x =
-      let most : min spread extent ≡ spread = omega (arith, no_less) in
-      let next = next_start circle angle count starts spread extent some f.narrowest x in
-      let below = next.below (omega arith) in
+  no_narrower starts start spread some f wide =
+      let next = wide_start circle angle count starts spread some f.narrowest wide in
+      let some_yet = had starts (next.below (omega arith)) f.none_yet in
       record {
-        narrowest = subst (IsNarrowest circle angle count (starts + 1)) most next;
+        narrowest = next;
         none_yet = λ e. absurd (omega (arith, e));
-        inside = λ h. (let first = f.inside (had starts below no_less f.none_yet) in
-            omega (arith, first));
-        here = λ h. f.here (had starts below no_less f.none_yet);
+        inside = λ h. (let first = f.inside some_yet in omega (arith, first));
+        here = λ h. f.here some_yet;
         before = f.before;
       }
     where
-      had : (n : ℕ) → min spread extent < circle → ¬ (extent < spread)
-          → (n ≡ 0 → spread ≡ circle) → 1 ≤ n
-      had zero less other whole = let e = whole refl in absurd (omega (arith, less, other, e))
-      had (suc n) less other whole = omega arith
+      had : (n : ℕ) → spread < circle → (n ≡ 0 → spread ≡ circle) → 1 ≤ n
+      had zero less whole = let e = whole refl in absurd (omega (arith, less, e))
+      had (suc n) less whole = omega arith
 
   -- With all starts it is the best arc.
   pub best_so_far : (start spread : ℕ) → 1 ≤ count → IsFirstSoFar count start spread

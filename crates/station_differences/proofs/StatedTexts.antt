@@ -1,6 +1,6 @@
 -- Beginnings of a stated direction's text.
 use Rattle.std.proofs.Common.{◌≡◌, ◌+◌, ◌^◌, ◌/◌, ◌%◌, ◌++◌, ℕ, List, [], ◌∷◌, Bool, true, false}
-use Rattle.std.proofs.Common.{append_assoc, subst, sym}
+use Rattle.std.proofs.Common.{append_assoc, subst}
 use Rattle.std.specs.Fmt.{decimal}
 use Rattle.direction_table.proofs.Begun.{first_part, of_first}
 use Rattle.direction_table.specs.Beginnings.{IsBegun}

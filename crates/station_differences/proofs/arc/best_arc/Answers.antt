@@ -30,7 +30,7 @@ loop-place-preserved c =
           (subst (λ (n : ℕ). IsFirstSoFar circle angle count (l.place + 1) l.place n)
           (sym w.spread-is)
           (narrower circle angle count l.place l.start l.spread extent some less l.invariant
-          c.extent_from-extent.ensures))
+          (c.extent_from-extent.ensures.exact less)))
       | else-is_below w ↦
           let other : ¬ (extent < l.spread) =
           λ h. (let e = c.is_below.ensures.1 h in let f = w.if-is_below.false in cc) in
@@ -38,8 +38,8 @@ loop-place-preserved c =
           (sym w.start-is)
           (subst (λ (n : ℕ). IsFirstSoFar circle angle count (l.place + 1) l.start n)
           (sym w.spread-is)
-          (no_narrower circle angle count l.place l.start l.spread extent some other l.invariant
-          c.extent_from-extent.ensures))
+          (no_narrower circle angle count l.place l.start l.spread some l.invariant
+          (c.extent_from-extent.ensures.wide (omega (arith, other)))))
     ]
 
 pub returns-clause-best : goal.returns-clause-best
