@@ -10,8 +10,8 @@ use crate::differences::{circle, difference};
 use exact_adjustment::Adjustment;
 use wide_number::Wide;
 
-/// How wide an arc is that begins at one of the differences and holds all; it is given up as soon as
-/// it is no narrower than a bound.
+/// How wide an arc is that begins at one of the differences and holds all; it is given up as soon
+/// as it is no narrower than a bound.
 fn extent_from(adjustment: &Adjustment, stated: &[i64], start: usize, bound: &Wide) -> Wide
     requires each { length stated.now ≡ length adjustment.now.directions }
     requires start { start < length stated.now }

@@ -1,7 +1,8 @@
 -- Cells: what `csv` writes of a name, and of numbers, which call for no quotes.
 use Rattle.std.proofs.Common.{◌≡◌, ℕ, ◌+◌, ◌/◌, ◌%◌, ◌<◌, ◌≤◌, ◌^◌, List, [], ◌∷◌, ◌++◌}
 use Rattle.std.proofs.Common.{true, false, ap, append_assoc, arith, length, refl, zero, suc}
-use Rattle.std.proofs.Common.{FitsSigned, ℤ, pos, negsuc, ◌-◌, ◌∙◌, get_or, length-append, map, sym, take}
+use Rattle.std.proofs.Common.{FitsSigned, ℤ, pos, negsuc, ◌-◌, ◌∙◌, get_or, length-append, map}
+use Rattle.std.proofs.Common.{sym, take}
 use Rattle.std.specs.Prelude.{codes, decimal, if◌then◌else◌, unsigned_abs}
 use Rattle.std.specs.List.{list_all}
 use Rattle.std.specs.Char.{is_ascii_digit}

@@ -116,7 +116,7 @@ fn cell_of(alloc: Global, name: &Name) -> Result<Cell, AllocError>
     Ok(Cell::new(bytes, b""))
 }
 
-/// The cells of the targets of a station.
+/// The cells of names, in their order.
 pub(crate) fn cells_of(alloc: Global, names: &[Name]) -> Result<Vec<Cell>, AllocError>
     ensures { IfOk result (λ cells. cells.items ≡ map spec.cell_text names.now) }
 {

@@ -1,4 +1,5 @@
-//! Pieces of a text, put at a place of a room for it. Each call answers the place after its piece.
+//! Pieces of a text, put at a place of a room for it, as `station_check` puts those of the plain
+//! list into a page. Each call answers the place after its piece.
 ghost use Rattle.std.specs.Prelude.{◌≡◌, ◌≤◌, ◌+◌, ◌++◌, length, take, decimal};
 
 use itoa::Buffer;

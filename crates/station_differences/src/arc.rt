@@ -18,8 +18,8 @@ pub(crate) struct Arc {
     pub spread: Wide,
 }
 
-/// How wide an arc is that begins at one of the angles and holds all; it is given up as soon as it is
-/// no narrower than a bound.
+/// How wide an arc is that begins at one of the angles and holds all; it is given up as soon as it
+/// is no narrower than a bound.
 fn extent_from(circle: &Wide, angles: &[Wide], start: usize, bound: &Wide) -> Wide
     requires start { start < length angles.now }
     requires angles { All (λ angle. angle < circle.now) angles.now }

@@ -1,5 +1,5 @@
-use Rattle.std.proofs.Common.{◌≡◌, ◌-◌, ◌∙◌, ◌++◌, ◌∷◌, [], List, ℕ, ap, arith, length, length-append}
-use Rattle.std.proofs.Common.{rules, take}
+use Rattle.std.proofs.Common.{◌≡◌, ◌-◌, ◌∙◌, ◌++◌, ◌∷◌, [], List, ℕ, ap, arith, length}
+use Rattle.std.proofs.Common.{length-append, rules, take}
 use Rattle.csv.specs.Writing.{default_writer, field_text, row_text}
 use Rattle.list_rows.proofs.CellLaws.{cell-short, name-part}
 use Rattle.list_rows.proofs.cell.cell_of.Goals as goal
