@@ -124,7 +124,7 @@ class CompletionsTest(ProgramTest):
 
     def test_bash_completes_faults(self):
         self.assertEqual(sorted(names()), sorted(self.of_bash("explain", "")))
-        self.assertEqual(["TwoC", "TwoI"], self.of_bash("explain", "Two"))
+        self.assertEqual(["TwoC", "TwoI", "TwoLines"], self.of_bash("explain", "Two"))
 
     @unittest.skipUnless(shutil.which("zsh"), "no zsh is found")
     def test_zsh_finds_its_completion(self):
@@ -155,7 +155,7 @@ class CompletionsTest(ProgramTest):
             ("station_check report --table s", ["sheet.csv"]),
             ("station_check list --two", FACE_LIMITS),
             ("station_check list f", ["field.gsi"]),
-            ("station_check explain Two", ["TwoC", "TwoI"]),
+            ("station_check explain Two", ["TwoC", "TwoI", "TwoLines"]),
             ("station_check help m", ["mark", "means"]),
         ]:
             with self.subTest(line):

@@ -14,10 +14,8 @@ use crate::arguments::{
 use crate::help;
 use clap::error::ErrorKind;
 use clap::{Command, Error};
+use station_check::VERSION;
 use std::alloc::Global;
-
-/// The version of the program.
-const VERSION: &str = "1.0.0";
 
 /// The program with all its commands.
 pub(crate) fn program<'a>(alloc: Global) -> Result<Command<'a>, Error>

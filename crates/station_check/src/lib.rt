@@ -48,6 +48,7 @@ mod runs;
 mod sheet_input;
 mod survey;
 mod verdict_line;
+mod version;
 mod whole_text;
 mod word_line;
 mod words;
@@ -69,5 +70,6 @@ pub use survey::stations_of_file;
 pub use verdict_line::{
     LONGEST_U32, LONGEST_U64, LONGEST_VERDICT_LINE, VerdictLine, add, add_numbered,
 };
+pub use version::VERSION;
 pub use whole_text::write_whole;
 pub use words::write_words;

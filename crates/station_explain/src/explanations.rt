@@ -161,9 +161,9 @@ would block: a pipe or a terminal that another program has set not to wait, if i
 there yet (EAGAIN).",
         example: "refused: block 1: Read",
         remedy: "\
-See that the path names a file and not a folder. Copy the file: if the copy fails too, its medium is
-at fault. Name an input that would block by its path, as 'station_check words /dev/stdin': then the
-program waits for it.",
+See that the path names a file and not a folder. Copy the file: if the copy fails too,
+its medium is at fault. Name an input that would block by its path, as 'station_check words
+/dev/stdin': then the program waits for it.",
     },
     Said {
         names: &["FileTooLong"],
@@ -194,9 +194,10 @@ with accents, the byte 1A that old programs write at the end of a file, the byte
 BF, that some editors write at its beginning, and the bytes 00 of a file in UTF-16.",
         example: "refused: block 1: Byte 16",
         remedy: "\
-Transfer the file again, with no conversion of characters. If the byte is still there, check a copy
-that 'prepare.py --plain' of the examples writes: with blanks for tabs, plain letters for those with
-accents, and without byte order marks and bytes 1A. Save a file in UTF-16 as plain text first.",
+Transfer the file again, with no conversion of characters. If the byte is still there,
+check a copy that 'prepare.py --plain' of the examples writes: with blanks for tabs, plain letters
+for those with accents, and without byte order marks and bytes 1A. Save a file in UTF-16 as plain
+text first.",
     },
     Said {
         names: &["Word"],
@@ -208,12 +209,12 @@ the line. A line without any word has 'Word 1', so has a line of titles or remar
 sheet in the place of the field file.",
         example: "refused: block 6: Word 3",
         remedy: "\
-Look at that word. A cut word in the last line means that the transfer broke off: transfer the file
-again, or leave the line out. Two lines in one mean that files were joined of which the first lacked
-its last line end: join them again with one. Two blanks between words, or one before the first, are
-too many. The words of a line have 16 bytes of content if it begins with '*', and else 8. For a line
-of titles, check a copy without it, by 'prepare.py --blocks' of the examples; for a sheet, name GSI
-first and SHEET second.",
+Look at that word. A cut word in the last line means that the transfer broke off:
+transfer the file again, or leave the line out. Two lines in one mean that files were joined of
+which the first lacked its last line end: join them again with one. Two blanks between words, or one
+before the first, are too many. The words of a line have 16 bytes of content if it begins with '*',
+and else 8. For a line of titles, check a copy without it, by 'prepare.py --blocks' of the examples;
+for a sheet, name GSI first and SHEET second.",
     },
     Said {
         names: &["FirstWord"],
@@ -249,11 +250,11 @@ At this block a set ends, by code 10, 20 or 30 or by the end of the file, in whi
 in one face and not in the other. The end of the file has the number after the last block.",
         example: "refused: block 4: OneFace",
         remedy: "\
-Look in 'station_check words GSI' for the target that stands once in the set: its readings are the
-blocks before this one, back to its code 20. A name that is spelled in two ways is two targets: of
-the examples, prepare.py gives a block another name in a copy. If a face is missing, or the set was
-broken off, check a copy without the other reading or without the set: prepare.py has --blocks and
---set for that. Record detail points after code 30.",
+Look in 'station_check words GSI' for the target that stands once in the set: its
+readings are the blocks before this one, back to its code 20. A name that is spelled in two ways is
+two targets: of the examples, prepare.py gives a block another name in a copy. If a face is missing,
+or the set was broken off, check a copy without the other reading or without the set: prepare.py has
+--blocks and --set for that. Record detail points after code 30.",
     },
     Said {
         names: &["WordTwice"],
@@ -310,8 +311,8 @@ file has one occupation of a station. As 'mark: StationTwice', a set-up line has
 earlier one after which sets were read.",
         example: "refused: block 14: StationTwice",
         remedy: "\
-If the instrument was not moved, check a copy without the later codes 10 or set-up lines of this
-name, and the sets go on. Else give the second occupation a name of its own in a copy, with
+If the instrument was not moved, check a copy without the later codes 10 or set-up lines
+of this name, and the sets go on. Else give the second occupation a name of its own in a copy, with
 'prepare.py --rename BLOCK NAME' of the examples: BLOCK is that of its code 10 or its set-up line,
 before the one that is named.",
     },
@@ -354,10 +355,10 @@ A block with a point number and a direction, word 21, stands in a set and has no
 angle says which face it was read in.",
         example: "refused: block 6: NoZenith",
         remedy: "\
-Have the instrument record Hz and V. Leave a sight that is no part of the set out of a copy. A line
-that sets the instrument up and has a direction, word 21, is taken for a reading: if the file has
-several, divide it there before you leave them out, for 'mark' cannot see where a station begins
-without them.",
+Have the instrument record Hz and V. Leave a sight that is no part of the set out of a
+copy. A line that sets the instrument up and has a direction, word 21, is taken for a reading: if
+the file has several, divide it there before you leave them out, for 'mark' cannot see where a
+station begins without them.",
     },
 ];
 
@@ -371,8 +372,8 @@ Place 6 of word 21 (Hz) or word 22 (Zenith) of a reading is not '2', which stand
 decimals.",
         example: "refused: block 3: Hz Unit",
         remedy: "\
-Angles in degrees or mil are not read. Export the job again in gon with five decimals, from the
-instrument or your office software, and set the instrument to gon.",
+Angles in degrees or mil are not read. Export the job again in gon with five decimals,
+from the instrument or your office software, and set the instrument to gon.",
     },
     Said {
         names: &["Hz InputMode", "Zenith InputMode"],
@@ -392,9 +393,9 @@ was typed or computed is no reading.",
 The sign of word 21 (Hz) or word 22 (Zenith) of a reading is not '+'.",
         example: "refused: block 3: Hz Sign",
         remedy: "\
-See how the word was made: directions and zenith angles are never below 0. A zenith angle with a
-minus is usually an elevation: export the job again with zenith angles, and set the instrument to
-these.",
+See how the word was made: directions and zenith angles are never below 0. A zenith
+angle with a minus is usually an elevation: export the job again with zenith angles, and set the
+instrument to these.",
     },
     Said {
         names: &["Hz Digits", "Zenith Digits"],
@@ -507,11 +508,11 @@ The block has code 10, 20 or 30. They open stations and sets, or end sets, so 'm
 them into a file that has one.",
         example: "refused: block 3: mark: HasCodes",
         remedy: "\
-See what they mean. If they are those of this program, the file needs no 'mark': run 'station_check
-list GSI'. If they are those of your office, for something else, leave them out of a copy with
-'prepare.py --without-codes' of the examples, and mark that. Codes that begin stations stay in:
-without them two occupations can pass for one. If the file has these and none for sets, put in the
-codes of each station with 'prepare.py --codes STATION BLOCKS LAST' of the examples.",
+See what they mean. If they are those of this program, the file needs no 'mark': run
+'station_check list GSI'. If they are those of your office, for something else, leave them out of a
+copy with 'prepare.py --without-codes' of the examples, and mark that. Codes that begin stations
+stay in: without them two occupations can pass for one. If the file has these and none for sets, put
+in the codes of each station with 'prepare.py --codes STATION BLOCKS LAST' of the examples.",
     },
     Said {
         names: &["HasSetUp"],
@@ -575,13 +576,13 @@ another station whose set-up line is missing, or a set that begins with another 
 first set.",
         example: "refused: block 7: mark: ReadTwice",
         remedy: "\
-Leave out of a copy what belongs to no set, and mark that. Of the examples, prepare.py does, with a
-log: --closing for closing sights; --blocks for a pointing that the field book calls bad, a set that
-was given up, check sights between sets, or detail points and orientation sights before the first.
-If a target has two names, --rename BLOCK NAME gives blocks the right one, and --capitals writes all
-names in capitals. If the sets begin with different targets, put the codes in with 'prepare.py
---codes STATION BLOCKS LAST' of the examples: BLOCKS are the first ones of the sets, as 2,14,26, and
-LAST ends them.",
+Leave out of a copy what belongs to no set, and mark that. Of the examples, prepare.py
+does, with a log: --closing for closing sights; --blocks for a pointing that the field book calls
+bad, a set that was given up, check sights between sets, or detail points and orientation sights
+before the first. If a target has two names, --rename BLOCK NAME gives blocks the right one, and
+--capitals writes all names in capitals. If the sets begin with different targets, put the codes in
+with 'prepare.py --codes STATION BLOCKS LAST' of the examples: BLOCKS are the first ones of the
+sets, as 2,14,26, and LAST ends them.",
     },
     Said {
         names: &["FaceMissing"],
@@ -594,11 +595,11 @@ point after the sets, or the sets begin elsewhere: an orientation sight or detai
 beside a single set.",
         example: "refused: block 10: mark: FaceMissing",
         remedy: "\
-Compare the set with the field book by 'station_check words GSI', and let prepare.py of the examples
-make a copy. If the station has one set, leave out with --blocks what stands before and after it, as
-an orientation sight or detail points. Else --broken-off leaves out a last set that was broken off,
---blocks a lone reading or a check sight at the end, and --rename BLOCK NAME corrects a misspelled
-name. Mark that copy.",
+Compare the set with the field book by 'station_check words GSI', and let prepare.py of
+the examples make a copy. If the station has one set, leave out with --blocks what stands before and
+after it, as an orientation sight or detail points. Else --broken-off leaves out a last set that was
+broken off, --blocks a lone reading or a check sight at the end, and --rename BLOCK NAME corrects a
+misspelled name. Mark that copy.",
     },
     Said {
         names: &["OneTarget"],
@@ -621,10 +622,10 @@ set of this reading is not, or names are spelled in another way in one set: then
 one.",
         example: "refused: block 7: mark: Order",
         remedy: "\
-See in the field book where the sets begin. If a reading was added later, leave both readings of
-that target in this set out of a copy. If the sets are right as they are, put the codes in with
-'prepare.py --codes STATION BLOCKS LAST' of the examples: BLOCKS are the first ones of the sets, as
-2,14,26, and LAST ends them.",
+See in the field book where the sets begin. If a reading was added later, leave both
+readings of that target in this set out of a copy. If the sets are right as they are, put the codes
+in with 'prepare.py --codes STATION BLOCKS LAST' of the examples: BLOCKS are the first ones of the
+sets, as 2,14,26, and LAST ends them.",
     },
     Said {
         names: &["EndsElsewhere"],
@@ -635,9 +636,9 @@ next. The set of this reading ends with another. It was broken off, its last tar
 seen, or the sets begin elsewhere.",
         example: "refused: block 16: mark: EndsElsewhere",
         remedy: "\
-Leave a last set that was broken off out of a copy, with 'prepare.py --broken-off' of the examples,
-and mark that. If only the last target is missing, put the codes in with 'prepare.py --codes STATION
-BLOCKS LAST', or leave that target out of all sets.",
+Leave a last set that was broken off out of a copy, with 'prepare.py --broken-off' of
+the examples, and mark that. If only the last target is missing, put the codes in with 'prepare.py
+--codes STATION BLOCKS LAST', or leave that target out of all sets.",
     },
     Said {
         names: &["OneSet"],
@@ -659,11 +660,11 @@ begin in face I, so these may begin elsewhere: a reading is missing or too many 
 on, for example if the last set was broken off.",
         example: "refused: block 1: mark: FirstFace",
         remedy: "\
-See in the field book where the sets begin. Of the examples, prepare.py leaves out of a copy what
-belongs to no set: a last set that was broken off with --broken-off, the lone reading of a target
-with --blocks. Mark that copy. If the sets were begun in face II, put the codes in with 'prepare.py
---codes STATION BLOCKS LAST' of the examples: BLOCKS are the first ones of the sets, as 2,14,26, and
-LAST ends them.",
+See in the field book where the sets begin. Of the examples, prepare.py leaves out of a
+copy what belongs to no set: a last set that was broken off with --broken-off, the lone reading of a
+target with --blocks. Mark that copy. If the sets were begun in face II, put the codes in with
+'prepare.py --codes STATION BLOCKS LAST' of the examples: BLOCKS are the first ones of the sets, as
+2,14,26, and LAST ends them.",
     },
     Said {
         names: &["MayBeShifted"],
@@ -674,10 +675,11 @@ One of these is in face II without its reading in face I, or is of the target th
 then each set may be shifted by some readings, for example if a check sight comes at the end.",
         example: "refused: block 3: mark: MayBeShifted",
         remedy: "\
-See in the field book where the sets begin. If all readings of the station before this one are
-orientation or check sights, leave them out of a copy with 'prepare.py --blocks' of the examples. If
-only some of them are, the sets begin before this block: then leave out what is too many at the end,
-a check sight with --blocks, a last set that was broken off with --broken-off. Mark that copy.",
+See in the field book where the sets begin. If all readings of the station before this
+one are orientation or check sights, leave them out of a copy with 'prepare.py --blocks' of the
+examples. If only some of them are, the sets begin before this block: then leave out what is too
+many at the end, a check sight with --blocks, a last set that was broken off with --broken-off. Mark
+that copy.",
     },
     Said {
         names: &["OneSetByTargets"],
@@ -688,9 +690,9 @@ Nothing shows that all its pairs are of one set-up: an orientation before a set,
 occupations, are read just so.",
         example: "refused: block 1: mark: OneSetByTargets",
         remedy: "\
-See in the field book what it is. If it is one set, put the codes in with 'prepare.py --codes
-STATION BLOCKS LAST' of the examples: BLOCKS are the first ones of the sets, as 2,14,26, and LAST
-ends them. If the instrument was set up twice, divide a copy there, and put the codes into each
+See in the field book what it is. If it is one set, put the codes in with 'prepare.py
+--codes STATION BLOCKS LAST' of the examples: BLOCKS are the first ones of the sets, as 2,14,26, and
+LAST ends them. If the instrument was set up twice, divide a copy there, and put the codes into each
 part. If a set-up line was recorded before each set, leave out all but the first: several sets of
 these targets are marked, and so is a set that is read by faces.",
     },
@@ -702,10 +704,10 @@ The set begins with this reading, and no more than half of its targets are targe
 the instrument was set up again and no line says so, or the first set lacks many targets.",
         example: "refused: block 5: mark: OtherTargets",
         remedy: "\
-If the instrument was set up again there, mark two copies, each with its own --station NAME: with
-'prepare.py --blocks' of the examples leave out all from this block on in one, and all before it in
-the other. If it is one station, put the codes in with 'prepare.py --codes STATION BLOCKS LAST' of
-the examples: BLOCKS are the first ones of the sets, as 2,14,26, and LAST ends them.",
+If the instrument was set up again there, mark two copies, each with its own --station
+NAME: with 'prepare.py --blocks' of the examples leave out all from this block on in one, and all
+before it in the other. If it is one station, put the codes in with 'prepare.py --codes STATION
+BLOCKS LAST' of the examples: BLOCKS are the first ones of the sets, as 2,14,26, and LAST ends them.",
     },
 ];
 
@@ -730,13 +732,13 @@ what separates the columns of all: commas, semicolons, tabs or blanks. A column 
 quote goes on to the next quote, over separators and ends of lines.",
         example: "refused: sheet row 3: Fields",
         remedy: "\
-Look at the separators and quotes of that row. A line of blanks or a comment is a row too: leave it
-out. A spreadsheet may have written the sheet with semicolons in place of commas. A table in UTF-16
-has this fault in row 2: save it as plain text, in ASCII or UTF-8. In quotes stands a name that has
-the separator, and a direction with a decimal comma if commas separate. If row 1 has this fault, see
-that SHEET or TABLE names the right file; if row 2 of a table has it, titles may be separated in
-another way than the rows: leave them out. Of a table with more columns, keep the two of the name
-and the direction.",
+Look at the separators and quotes of that row. A line of blanks or a comment is a row
+too: leave it out. A spreadsheet may have written the sheet with semicolons in place of commas. A
+table in UTF-16 has this fault in row 2: save it as plain text, in ASCII or UTF-8. In quotes stands
+a name that has the separator, and a direction with a decimal comma if commas separate. If row 1 has
+this fault, see that SHEET or TABLE names the right file; if row 2 of a table has it, titles may be
+separated in another way than the rows: leave them out. Of a table with more columns, keep the two
+of the name and the direction.",
     },
     Said {
         names: &["Kind"],
@@ -794,12 +796,12 @@ seconds, as 59-04-09.18: of two digits each, below 60, and with decimals of the 
 those after the sixth are 0.",
         example: "refused: sheet row 3: Number",
         remedy: "\
-Write the number so. Directions and orientations of a sheet are whole numbers too: they are in half
-units of 0.005 mgon, times the denominator of the sheet. Those of a table are in gon, or in degrees
-if --degrees is stated: state it for 59-04-09.18 and the like. In place of the hyphens there may be
-the sign of degrees in UTF-8, ' and \", but not the typographic signs of minutes and seconds. Leave
-out the unit, and round to 9 decimals. A table has one row of titles at most, its first, which may
-not begin with a target's name: leave out others.",
+Write the number so. Directions and orientations of a sheet are whole numbers too: they
+are in half units of 0.005 mgon, times the denominator of the sheet. Those of a table are in gon, or
+in degrees if --degrees is stated: state it for 59-04-09.18 and the like. In place of the hyphens
+there may be the sign of degrees in UTF-8, ' and \", but not the typographic signs of minutes and
+seconds. Leave out the unit, and round to 9 decimals. A table has one row of titles at most, its
+first, which may not begin with a target's name: leave out others.",
     },
     Said {
         names: &["Range"],
@@ -958,12 +960,12 @@ observation of this number, from 1, is the greatest. The observations of a stati
 the order in which 'station_check list GSI' has them.",
         example: "refused: kernel: Residual 1",
         remedy: "\
-Look at that observation: 'station_check list --csv GSI' has them in their order. One that stands
-out has a wrong target or a wrong name in both faces. If many do, the instrument was moved: or two
-set-ups stand in one station, or sets are shifted, if 'mark' put in the codes: compare its notes
-with the field book. In a sheet, look at the full turns of its row too: a wrong turn is 400 gon. For
-'check' a wider limit may be stated, up to 10mgon: 'station_check report' then has the least-squares
-residuals of all sets beside each other, if none is above that.",
+Look at that observation: 'station_check list --csv GSI' has them in their order. One
+that stands out has a wrong target or a wrong name in both faces. If many do, the instrument was
+moved: or two set-ups stand in one station, or sets are shifted, if 'mark' put in the codes: compare
+its notes with the field book. In a sheet, look at the full turns of its row too: a wrong turn is
+400 gon. For 'check' a wider limit may be stated, up to 10mgon: 'station_check report' then has the
+least-squares residuals of all sets beside each other, if none is above that.",
     },
 ];
 
@@ -977,9 +979,9 @@ The station has no target of the name in the first column of this row. Names are
 byte. Blanks around a name are no part of it, unless a target's name has them.",
         example: "refused: table row 2: Unknown",
         remedy: "\
-See the names by 'station_check list GSI'. Capitals and small letters differ, and blanks within a
-name count; leave out the zeros at the left of a name. Leave out the row of a point that was not
-observed from this station.",
+See the names by 'station_check list GSI'. Capitals and small letters differ, and blanks
+within a name count; leave out the zeros at the left of a name. Leave out the row of a point that
+was not observed from this station.",
     },
     Said {
         names: &["Twice"],

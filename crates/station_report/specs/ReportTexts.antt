@@ -12,6 +12,7 @@ use Rattle.direction_table.specs.Texts.{direction_text}
 use Rattle.adjust_kernel.specs.declared.units.TheConstants.{HALF_UNIT}
 use Rattle.station_book.specs.Limits.{FaceLimits}
 use Rattle.station_book.specs.Stations.{SurveyedStation}
+use Rattle.station_check.specs.declared.version.TheConstants.{VERSION}
 use Rattle.station_report.specs.Columns.{each_place, left_text, right_text}
 use Rattle.station_report.specs.Deviations.{degrees_of}
 use Rattle.station_report.specs.Readings.{name_of, number_of, reading_one, reading_two, reduced}
@@ -35,10 +36,14 @@ entry_text name text = left_text 22 name ++ (text ++ codes "\n")
 abbrev pub file_text : List ℕ → List ℕ → List ℕ
 file_text name path = entry_text name (name_text path)
 
+-- the line of the program and its version, and an empty one
+abbrev pub title_text : List ℕ
+title_text =
+    codes "station_check " ++ (VERSION.now ++ codes ": report of the sets of a station\n\n")
+
 -- the program and its version, the field file, and the station
 abbrev pub named_text : List ℕ → StationValue → List ℕ
-named_text path station =
-    codes "station_check 1.0.0: report of the sets of a station\n\n"
+named_text path station = title_text
     ++ (file_text (codes "Field file") path ++ entry_text (codes "Station") station.name)
 
 -- how much was measured

@@ -9,6 +9,7 @@ use adjust_kernel::Station;
 use angle_texts::push_short_mgon;
 use byte_digests::push_name;
 use station_book::{LARGEST_LIMIT, Limits};
+use station_check::VERSION;
 use std::alloc::AllocError;
 
 /// The width of the column of names, in lines that say what something is.
@@ -57,12 +58,22 @@ pub fn push_file(text: &mut Vec<u8>, name: &[u8], path: &[u8]) -> Result<(), All
     Ok(())
 }
 
+/// Adds the line of the program and its version, and an empty one.
+fn push_title(text: &mut Vec<u8>) -> Result<(), AllocError>
+    ensures { OnOk result (text.new.items ≡ text.old.items ++ spec.title_text) }
+{
+    text.extend_from_slice(b"station_check ")?;
+    text.extend_from_slice(VERSION.as_bytes())?;
+    text.extend_from_slice(b": report of the sets of a station\n\n")?;
+    Ok(())
+}
+
 /// Adds the lines of the program, the field file and the station.
 fn push_named(text: &mut Vec<u8>, path: &[u8], station: &Station) -> Result<(), AllocError>
     ensures { OnOk result
         (text.new.items ≡ text.old.items ++ spec.named_text path.now station.now) }
 {
-    text.extend_from_slice(b"station_check 1.0.0: report of the sets of a station\n\n")?;
+    push_title(text)?;
     push_file(text, b"Field file", path)?;
     push_entry(text, b"Station", station.name().bytes())?;
     Ok(())
