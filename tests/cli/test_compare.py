@@ -110,7 +110,7 @@ USUAL = [
     ("two decimals", b"A,0.00\nB,50.010032\n", agrees(5_001)),
     ("and a unit more", b"A,0.00\nB,50.010033\n", apart(5_002)),
     ("one decimal", b"A,0.1\nB,50.200032\n", agrees(50_001)),
-    ("and a unit more", b"A,0.0\nB,50.100033\n", apart(50_002)),
+    ("and a unit more", b"A,0.1\nB,50.200033\n", apart(50_002)),
     ("three decimals beside four", b"A,0.0000\nB,50.001\n", agrees(485)),
     ("whole gon", b"A,0\nB,50\n", apart(15)),
     ("whole gon with a point", b"A,0.\nB,50.\n", apart(15)),
