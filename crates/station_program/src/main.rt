@@ -4,8 +4,8 @@
 //! The words of the command line say what is asked; each answer is a call of a library over sources
 //! and sinks, whose contract says what it read and wrote.
 //!
-//! What is asked of the runtime stands here, in `show`, and in `host.rt` of `command_run`. All between
-//! is generic.
+//! What is asked of the runtime stands here, in `show`, and in `host.rt` of `command_run`. All
+//! between is generic.
 #![tactic(auto)]
 
 ghost use Rattle.std.specs.Prelude.{◌≡◌, ◌≤◌, OnOk, OnErr};
