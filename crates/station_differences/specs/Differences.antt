@@ -36,7 +36,7 @@ pub record IsFromMiddle (denominator circle : ℕ) (angle : ℕ → ℤ) (start 
 
 -- The differences of stated directions from those of a choice, in units of 0.001 mgon, after the
 -- rotation that makes the largest of them smallest: the one that brings the middle of the narrowest
--- arc to 0 that holds them all; of several arcs the one that begins at the first target.
+-- arc to 0 that holds them all; of several as narrow the one that begins at the earliest target.
 pub record AreDifferences (targets : ℕ) (c : Choice) (stated : ℕ → ℤ) (differences : List ℤ)
     : Type 0 where
   pub start : ℕ
