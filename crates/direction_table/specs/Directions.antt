@@ -33,7 +33,8 @@ angle_value Degrees bytes =
 abbrev pub is_written_whole : ℕ → ℕ → Bool
 is_written_whole decimals value = nat_le decimals 1 && (value % GON == 0)
 
--- One unit of its last decimal, in units of the ninth; 0 of a whole one, which is taken as it stands.
+-- One unit of its last decimal, in units of the ninth; 0 of a whole one, which is taken as it
+-- stands.
 abbrev pub last_unit : ℕ → ℕ → ℕ
 last_unit decimals value = if is_written_whole decimals value then 0 else 10 ^ (9 - decimals)
 

@@ -1,11 +1,11 @@
 //! The lines of a field file whose bytes lie in memory, one by one.
 //!
 //! They are the lines that `gsi_file::Lines` finds, with the same faults. That one reads through a
-//! buffer, to which it copies what it reads. Here a line is tested where it lies, and the place where
-//! it begins is known, so that the place of a code line need not be looked for.
+//! buffer, to which it copies what it reads. Here a line is tested where it lies, and the place
+//! where it begins is known, so that the place of a code line need not be looked for.
 
-ghost use Rattle.std.specs.Prelude.{◌≡◌, ◌<◌, ◌≤◌, ◌+◌, ◌++◌, ◌∷◌, [], All, IfErr, IfOk, None, OnOk};
-ghost use Rattle.std.specs.Prelude.{drop, length, true};
+ghost use Rattle.std.specs.Prelude.{◌≡◌, ◌<◌, ◌≤◌, ◌+◌, ◌++◌, ◌∷◌, [], All, IfErr, IfOk, None};
+ghost use Rattle.std.specs.Prelude.{OnOk, drop, length, true};
 ghost use Rattle.gsi_word.specs.BlockViews.{block_of};
 ghost use Rattle.gsi_word.specs.Blocks.{IsBlock};
 ghost use Rattle.gsi_word.specs.Words.{IsLineByte};
@@ -83,9 +83,9 @@ fn broken_limit(left: usize) -> FileKind
     }
 }
 
-/// Where the next part begins: after the byte at a place, which ends one, and after a line feed right
-/// after it, where it may be taken. Between the two is an empty part, so no search is begun for its
-/// end.
+/// Where the next part begins: after the byte at a place, which ends one, and after a line feed
+/// right after it, where it may be taken. Between the two is an empty part, so no search is begun
+/// for its end.
 #[inline(always)]
 fn next_part(bytes: &[u8], end: usize, left: usize) -> usize
     requires { (end < length bytes.now) × (end < left) }
