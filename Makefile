@@ -50,8 +50,10 @@ $(foreach crate,$(EVERY),$(eval under_$(crate) := \
 # The crates that the program is made of, lowest first.
 CRATES := $(filter $(under_$(PROGRAM_CRATE)) $(PROGRAM_CRATE),$(EVERY))
 
-# A file for each crate that is proved as its sources are now.
+# A file for each crate that is proved as its sources are now: what the proof said, with the time at
+# which it began. And where the libraries and the program are made.
 PROVED := build/proved
+MADE := build/made
 
 # Says something, and at which second.
 START := $(shell date +%s)
@@ -68,9 +70,8 @@ MAKEFLAGS += --jobs=$(JOBS)
 endif
 
 # The longest chains of proofs, in which each crate stands on the one before: the whole takes as long
-# as they do. So each of them is proved by as many processes as `rt` finds room for, and what is
-# proved beside them by one, which takes less processor time in all, and yields to them. The program
-# comes last, when nothing is proved beside it, and gets them all.
+# as they do. So each of them is proved by as many processes as there are processors, and what is
+# proved beside them by one, which takes less processor time in all, and yields to them.
 CHAIN := adjust_kernel sheet_format station_check station_compare station_residuals station_report table_report station_record command_run station_program
 CHAIN_OF_BLOCKS := gsi_word station_book station_check
 IS_BESIDE = $(if $(filter $*,$(CHAIN) $(CHAIN_OF_BLOCKS))$(filter 1,$(JOBS)),,yes)
@@ -104,7 +105,7 @@ page: $(PAGE)
 
 $(PAGE): $(SOURCES) $(wildcard page/*.py page/*.js page/*.css) page/heap.c page/station_check.html
 	@$(NEED_TOOLCHAIN)
-	@$(MAKE) --no-print-directory IS_WITHIN=page $(filter $(under_station_page:%=$(PROVED)/%),$(CRATES:%=$(PROVED)/%))
+	@$(MAKE) --no-print-directory --silent IS_WITHIN=page $(filter $(under_station_page:%=$(PROVED)/%),$(CRATES:%=$(PROVED)/%))
 	@RT='$(RT)' $(PYTHON) page/build.py $@
 
 # Makes the library for C and Python, of the same build of the proved calls as the page. Needs a C compiler.
@@ -179,44 +180,21 @@ dist: $(PROGRAM)
 clean:
 	rm -rf crates/*/out build
 
-# Proves a crate over those that it stands on. A failed proof is a failed build. What the proof says
-# stays in out/build.log, also where a later run finds the crate proved and so says nothing; where the
-# log is lost or older than the sources, since a run was cut off or the crate was proved by hand,
-# `rt check` says it again.
-#
-# `rt` works in one crate at a time of all that stand on the same library, since it keeps others out of
-# the folders of both. So a crate is proved in a room of its own: its sources and those of the crates
-# below it, with their libraries, as links. What it leaves goes back to the crate's folder; what a run
-# that was cut off left there goes back when the next one begins. The stamp has the time at which the
-# room was made, so that a source that changes during its proof is proved again; and it comes after the
-# room is gone, so that a run that is cut off between leaves none.
-ROOM = build/rooms/$*
-LOG = crates/$*/out/build.log
-
-$(CRATES:%=$(PROVED)/%): $(PROVED)/%: crates.txt HANDLES | $(PROVED)
+# Proves a crate over those that it stands on. A failed proof is a failed build. What the proof said
+# is the crate's file in build/proved, which has the time at which the proof began, so that a source
+# that changes meanwhile is proved again.
+$(CRATES:%=$(PROVED)/%): $(PROVED)/%: crates.txt | $(PROVED)
 	@$(NEED_TOOLCHAIN)
 	@rm -f $@ $(foreach crate,$(CRATES),$(if $(filter $*,$(under_$(crate))),$(PROVED)/$(crate)))
-	@if [ -d $(ROOM)/crates/$*/out ] && [ ! -d crates/$*/out ]; then mv $(ROOM)/crates/$*/out crates/$*; fi
-	@rm -rf $(ROOM) && mkdir -p $(ROOM)/crates crates/$*/out && cp HANDLES $(ROOM)
-	@sed -n '$(foreach crate,$* $(under_$*),/^$(crate)[ :]/p;)' crates.txt > $(ROOM)/crates.txt
-	@cp -rl $(foreach crate,$* $(under_$*),crates/$(crate)) $(ROOM)/crates
-	@rm -rf $(foreach crate,$(under_$*),$(ROOM)/crates/$(crate)/out/incremental) $(ROOM)/crates/$*/out
-	@mv crates/$*/out $(ROOM)/crates/$*
-	@(cd $(ROOM)/crates/$* && log=out/build.log && \
-	$(if $(IS_BESIDE),nice )$(RT) $(if $(filter $*,$(PROGRAM_CRATE)),run --jobs $(JOBS),lib)$(if $(IS_BESIDE), --jobs 1) \
-	  < /dev/null > $$log.new 2>&1 && { \
-	  [ -s $$log.new ] || { [ -s $$log ] && [ -z "$$(find . -name out -prune -o -type f -newer $$log \
-	  \( -name '*.rt' -o -name '*.antt' \) -print)" ]; } || $(RT) check > $$log.new 2>&1; }); \
-	status=$$?; mv $(ROOM)/crates/$*/out crates/$* || exit 1; \
-	[ $$status -eq 0 ] || { $(call say,$* is NOT PROVED: $(LOG).new ends with); \
-	  tail -n 20 $(LOG).new >&2; rm -rf $(ROOM); exit 1; }; \
-	if [ -s $(LOG).new ]; then mv $(LOG).new $(LOG); else rm $(LOG).new; fi
-	@touch -r $(ROOM)/HANDLES $(LOG).begun && rm -rf $(ROOM)
-	@flock $(PROVED) sh -c 'touch -r $(LOG).begun $@ && \
+	@touch $(MADE)/$*.begun
+	@RT='$(RT)' $(if $(IS_BESIDE),nice )$(PYTHON) tools/prove.py $* --jobs $(if $(IS_BESIDE),1,$(JOBS)) \
+	  < /dev/null > $(MADE)/$*.log 2>&1 || { \
+	  $(call say,$* is NOT PROVED: $(MADE)/$*.log ends with); tail -n 20 $(MADE)/$*.log >&2; exit 1; }
+	@flock $(PROVED) sh -c 'touch -r $(MADE)/$*.begun $(MADE)/$*.log && mv $(MADE)/$*.log $@ && \
 	$(call say,$* is proved$(comma) $$(ls $(PROVED) | wc -l) of $(words $(CRATES)))'
 
 $(PROVED):
-	@mkdir -p $@
+	@mkdir -p $@ $(MADE)
 	@$(call say,proving $(words $(CRATES)) crates$(comma) $(JOBS) side by side; the first time takes minutes)
 
 $(foreach crate,$(CRATES),$(eval $(PROVED)/$(crate): \
@@ -224,4 +202,4 @@ $(foreach crate,$(CRATES),$(eval $(PROVED)/$(crate): \
 
 # Puts the program where it is run and installed from.
 $(PROGRAM): $(PROVED)/$(PROGRAM_CRATE)
-	@install -D -m 755 crates/$(PROGRAM_CRATE)/out/$(PROGRAM_CRATE) $@
+	@install -D -m 755 $(MADE)/$(PROGRAM_CRATE) $@

@@ -48,7 +48,7 @@ proof fails, there is no program. What it said at the end of each:
 END
   for crate in $CRATES; do
     echo "$crate"
-    said=$(grep -s -h -e '^axioms ' -e '^logic=' "crates/$crate/out/build.log") ||
+    said=$(grep -s -h -e '^axioms ' -e '^logic=' "build/proved/$crate") ||
       said='no log of make is here: it was proved elsewhere, or not at all'
     echo "$said" | sed 's/^/  /'
   done

@@ -1,4 +1,4 @@
-"""Makes the page: `python3 page/build.py [--proved] OUT.html`.
+"""Makes the page: `python3 page/build.py [--proved] OUT.html`, as `make page` calls it.
 
 rattle proves the crate station_page and compiles it for x86-64. On the way the module that it hands
 to clang is kept; it is retargeted to wasm64, compiled by the kit's clang with the marks that rattle
@@ -12,26 +12,21 @@ so.
 import argparse
 import base64
 import hashlib
-import os
-import re
 import shutil
 import subprocess
 import sys
 import tempfile
 from pathlib import Path
-from typing import Any, Iterator
-
-import retarget
-import scripts
+from typing import Any, Callable
 
 HERE = Path(__file__).resolve().parent
 ROOT = HERE.parent
+sys.path[:0] = [str(ROOT / "tools")]
+import prove  # noqa: E402
+import retarget  # noqa: E402
+import scripts  # noqa: E402
+
 CRATE = ROOT / "crates" / "station_page"
-# The libraries that stand on all others of the crate's.
-LIBRARIES = [
-    "station_differences", "station_report", "station_mark", "station_explain", "byte_digests",
-]
-RT = os.environ.get("RT", "rt")
 
 # Where what is made on the way stays: the tests link it again with another heap.
 ROOM = ROOT / "build" / "page"
@@ -63,33 +58,9 @@ def run(*command: str | Path, **how: Any) -> str:
     return ran.stdout
 
 
-def libraries(root: Path) -> dict[str, list[str]]:
-    """The libraries that each crate of a repository names."""
-    lines = (root / "crates.txt").read_text().splitlines()
-    rows = [re.match(r"(\w+)[^:]*:(.*)", line) for line in lines if not line.startswith("#")]
-    return {row[1]: row[2].split() for row in rows if row}
-
-
-def below(crate: str, named: dict[str, list[str]]) -> set[str]:
-    """The crates of its repository that a crate stands on, however far."""
-    found = {name for name in named[crate] if name in named}
-    return found.union(*(below(name, named) for name in found))
-
-
-def words_of_build(kit: Path, crate: Path) -> Iterator[str]:
-    """What rattle is told of a crate, as `rt lib` tells it."""
-    named = libraries(crate.parent.parent)
-    stands_on = sorted(below(crate.name, named))
-    built = {name: crate.parent / name / "out" / "rlib" for name in stands_on}
-    yield from ["--crate-name", crate.name, "src/lib.rt", "--extern", f"std={kit}/rlibs/std.rlib"]
-    for name in named[crate.name]:
-        folder = built.get(name, kit / "rlibs")
-        yield from ["--extern", f"{name}={folder}/{name}.rlib"]
-    for folder in [kit / "rlibs", *built.values()]:
-        yield from ["-L", f"dependency={folder}"]
-    yield from ["--antt-project", f"{kit}/rattle/logic/antt-project.json"]
-    yield from ["--logic-built", f"{kit}/logic_built", "--links", f"{crate.name}=", "--jobs", "1"]
-    yield from ["--crate-type", "staticlib", "--incremental", "out/incremental"]
+def of_gate(name: str) -> Path:
+    """Where `rt ci` leaves the library of a crate."""
+    return ROOT / "crates" / name / "out" / "rlib" / f"{name}.rlib"
 
 
 def keeping_toolchain(kit: Path, kept: Path, tools: Path) -> None:
@@ -104,20 +75,17 @@ def keeping_toolchain(kit: Path, kept: Path, tools: Path) -> None:
     clang.chmod(0o755)
 
 
-def prove_libraries() -> None:
-    """Proves the libraries that the crate stands on, as far as they aren't."""
-    for library in LIBRARIES:
-        run(RT, "lib", cwd=ROOT / "crates" / library, stdin=subprocess.DEVNULL)
-
-
-def proved_module(kit: Path, crate: Path, room: Path) -> Path:
-    """The module that rattle makes of a crate that it proves for x86-64, over its libraries."""
+def proved_module(kit: Path, crate: Path, room: Path, built: Callable[[str], Path]) -> Path:
+    """The module that rattle makes of a crate that it proves for x86-64, over the libraries that are
+    built there."""
     kept = room / "module.bc"
     # (rt takes no links inside the repository)
     with tempfile.TemporaryDirectory(prefix="page-toolchain-") as tools:
         keeping_toolchain(kit, kept, Path(tools))
+        words = [*prove.words_of(kit, crate, built), "--crate-type", "staticlib", "--jobs", "1"]
+        words += ["--incremental", "out/incremental"]
         to = ["--toolchain", tools, "-o", str(room / "lib.a")]
-        run(kit / "bin" / "rattle", "build", *words_of_build(kit, crate), *to, cwd=crate)
+        run(kit / "bin" / "rattle", "build", *words, *to, cwd=crate)
     return kept
 
 
@@ -168,11 +136,6 @@ def page(module: bytes) -> str:
     })
 
 
-def kit_of(rt: str) -> Path:
-    """The folder of the toolchain."""
-    return Path(run(rt, "doc").strip()).parent
-
-
 def asked_for() -> argparse.Namespace:
     """What the words of the command line ask for."""
     words = argparse.ArgumentParser(description="Makes the page that checks in a browser.")
@@ -183,13 +146,12 @@ def asked_for() -> argparse.Namespace:
 
 
 def main() -> None:
-    asked, kit = asked_for(), kit_of(RT)
-    if not asked.proved:
-        prove_libraries()
+    asked, kit = asked_for(), prove.kit_of(prove.RT)
+    built = of_gate if asked.proved else prove.made
     shutil.rmtree(ROOM, ignore_errors=True)
     ROOM.mkdir(parents=True)
     wasm = ROOM / "page.wasm"
-    linked(kit, compiled(kit, proved_module(kit, CRATE, ROOM), ROOM), wasm, ROOM)
+    linked(kit, compiled(kit, proved_module(kit, CRATE, ROOM, built), ROOM), wasm, ROOM)
     asked.out.write_text(page(wasm.read_bytes()))
     print(f"{asked.out}: {asked.out.stat().st_size} bytes")
 

@@ -25,29 +25,27 @@ CRATES = {
 }
 PROVED = ["low", "other_low", "middle", "station_compare", "station_explain", "station_program"]
 
-# A toolchain: it keeps others out of the folders of a crate and of those below it, waits a moment,
-# keeps what it proved until the sources change, and then says nothing but where it is asked to check.
-# One of the crates that are to MEET waits until all of them have begun. The one to HOLD keeps something,
-# and goes on when it is told to.
+# A toolchain, by the name that it is called by: `rt` tells where it lies, rattle proves a crate over the
+# libraries that it is told of, waits a moment and says what it proved, and rattle-link makes a program.
+# One of the crates that are to MEET waits until all of them have begun; the one to HOLD, until it is told
+# to go on.
 TOOLCHAIN = """\
 #!/usr/bin/env python3
-import fcntl
 import os
 import sys
 import time
 from pathlib import Path
 
-crate, verb = Path.cwd().name, sys.argv[1]
-if verb == "--version":
-    print("a toolchain")
+tool, words = Path(sys.argv[0]), sys.argv[1:]
+if tool.name == "rt":
+    print("a toolchain" if words == ["--version"] else tool.parent.parent / "START-HERE.md")
     sys.exit()
-calls, out = Path(os.environ["CALLS"]), Path("out")
-lines = dict(line.split(":") for line in Path("../../crates.txt").read_text().splitlines())
-lines = {name.split()[0]: below.split() for name, below in lines.items()}
-
-
-def under(name):
-    return {name}.union(*(under(low) for low in lines[name] if low in lines))
+to = Path(words[words.index("-o") + 1])
+if tool.name == "rattle-link":
+    to.write_text("#!/bin/sh\\n# GLIBC_2.34\\necho station_check 0.0\\n")
+    to.chmod(0o755)
+    sys.exit()
+crate, calls = words[words.index("--crate-name") + 1], Path(os.environ["CALLS"])
 
 
 def say(text):
@@ -55,22 +53,20 @@ def say(text):
         file.write(text)
 
 
-folders = [os.open(f"../{name}", os.O_RDONLY) for name in sorted(under(crate))]
-for folder in folders:
-    fcntl.flock(folder, fcntl.LOCK_EX)
-for name in under(crate) - {crate}:
-    assert Path(f"../{name}/out/proved").exists(), f"{name} is not proved"
-(calls.parent / f"asked_{crate}").write_text(f"{os.nice(0)} {' '.join(sys.argv[1:])}")
-say(f"begin {crate} {verb}\\n")
+named = [words[at + 1].split("=") for at, word in enumerate(words) if word == "--extern"]
+for name, library in named:
+    assert "/kit/" in library or Path(library, "whole").exists(), f"{name} is not proved"
+jobs = words[words.index("--jobs") + 1]
+(calls.parent / f"asked_{crate}").write_text(f"{os.nice(0)} {jobs} {'--statements' in words}")
+say(f"begin {crate} {' '.join(name for name, _ in named)}\\n")
 meet = os.environ.get("MEET", "").split()
 end = time.monotonic() + 10
 while crate in meet and not all(f"begin {name} " in calls.read_text() for name in meet):
     if time.monotonic() > end:
         sys.exit(f"{crate} is alone")
     time.sleep(0.01)
-source = Path("src/lib.rt").read_text()
+source = Path(words[words.index("--crate-name") + 2]).read_text()
 if crate == os.environ.get("HOLD"):
-    (out / "begun").write_text("something")
     say(f"held {crate}\\n")
     while not (calls.parent / "go_on").exists():
         time.sleep(0.01)
@@ -78,12 +74,12 @@ time.sleep(0.2)
 if "WRONG" in source:
     print(*range(40), "an open goal", sep="\\n")
     sys.exit(1)
-is_new = not (out / "proved").exists() or (out / "proved").read_text() != source
-if is_new or verb == "check":
-    print(f"logic=proved functions={source.count(chr(10))}")
-(out / "proved").write_text(source)
-if verb == "run":
-    (out / crate).write_text("#!/bin/sh\\n# GLIBC_2.34\\necho station_check 0.0\\n")
+print(f"logic=proved functions={source.count(chr(10))}")
+if "--statements" in words:
+    to.mkdir(exist_ok=True)
+    (to / "whole").touch()
+else:
+    to.touch()
 say(f"end {crate}\\n")
 """
 
@@ -97,28 +93,25 @@ class MakeTest(ProgramTest):
         super().setUp()
         for name in ("Makefile", "HANDLES", "README.md", "CHANGELOG.md"):
             shutil.copy(ROOT / name, self.folder / name)
-        for name in ("capi", "docs", "examples", "packaging"):
+        for name in ("capi", "docs", "examples", "packaging", "tools"):
             shutil.copytree(ROOT / name, self.folder / name, ignore=shutil.ignore_patterns("__pycache__"))
         lines = [f"{crate}: {' '.join(below)}\n" for crate, below in CRATES.items()]
         (self.folder / "crates.txt").write_text("".join(lines))
         for crate in CRATES:
             self.write(crate.split()[0], "one\n")
-        self.toolchain = self.folder / "toolchain"
-        self.toolchain.write_text(TOOLCHAIN)
-        self.toolchain.chmod(0o755)
+        tools = self.folder / "kit" / "bin"
+        tools.mkdir(parents=True)
+        for name in ("rt", "rattle", "rattle-link"):
+            (tools / name).write_text(TOOLCHAIN)
+            (tools / name).chmod(0o755)
+        self.toolchain = tools / "rt"
         self.calls = self.folder / "calls"
         self.go_on = self.folder / "go_on"
 
     def write(self, crate, text):
         (self.folder / "crates" / crate / "src").mkdir(parents=True, exist_ok=True)
-        (self.folder / "crates" / crate / "src" / "lib.rt").write_text(text)
-
-    def write_room(self, crate, text, kept):
-        """A room as a run leaves it that was cut off: with a source, and what was kept of its proof."""
-        room = self.folder / "build" / "rooms" / crate / "crates" / crate
-        for name, content in [("src/lib.rt", text), ("out/begun", kept)]:
-            (room / name).parent.mkdir(parents=True)
-            (room / name).write_text(content)
+        root = "main.rt" if crate == "station_program" else "lib.rt"
+        (self.folder / "crates" / crate / "src" / root).write_text(text)
 
     def asked(self, targets, more):
         """What make is asked, and how; the calls of the toolchain begin anew."""
@@ -149,11 +142,8 @@ class MakeTest(ProgramTest):
     def stamps(self):
         return sorted(path.name for path in (self.folder / "build" / "proved").iterdir())
 
-    def rooms(self):
-        return sorted(path.name for path in (self.folder / "build" / "rooms").iterdir())
-
     def log(self, crate):
-        return (self.folder / "crates" / crate / "out" / "build.log").read_text()
+        return (self.folder / "build" / "proved" / crate).read_text()
 
     def test_crates_are_proved_after_those_that_they_stand_on(self):
         made = self.make("run", "JOBS=4")
@@ -161,8 +151,7 @@ class MakeTest(ProgramTest):
         self.assertEqual(sorted(PROVED), sorted(self.begun()))
         calls = self.calls.read_text().splitlines()
         for crate in PROVED:
-            verb = "run" if crate == "station_program" else "lib"
-            at = calls.index(f"begin {crate} {verb}")
+            at = calls.index(f"begin {crate} {' '.join(['std', *CRATES[crate]])}")
             for low in set(CRATES[crate]) & set(PROVED):
                 self.assertLess(calls.index(f"end {low}"), at, f"{crate} before {low}")
         said = re.findall(r"(\w+) is proved, (\d+) of 6$", made.stderr, re.MULTILINE)
@@ -170,9 +159,9 @@ class MakeTest(ProgramTest):
 
     def test_the_page_is_made_after_the_crates_that_it_stands_on(self):
         (self.folder / "page").mkdir()
-        for name in ("heap.c", "station_check.html"):
+        for name in ("heap.c", "station_check.html", "build.py"):
             (self.folder / "page" / name).touch()
-        made = self.make("page", "PYTHON=true")
+        made = self.make("page")
         self.assertEqual(0, made.returncode, made.stderr)
         self.assertEqual(["low", "middle", "other_low", "station_compare"], sorted(self.begun()))
         self.assertNotIn("warning", made.stderr)
@@ -196,17 +185,17 @@ class MakeTest(ProgramTest):
                 self.assertEqual(most > 1, max(running) > 1)
 
     def test_what_is_proved_beside_the_longest_chain_yields_to_it(self):
-        """It has one process, and a lower priority; where crates are proved one by one none has.
-        The program, which comes last, has as many as there are."""
+        """It has one process, and a lower priority; where crates are proved one by one none has. Of
+        libraries the statements are kept."""
         here = os.nice(0)
-        beside, alone = f"{min(here + 10, 19)} lib --jobs 1", f"{here} lib"
+        beside, alone = f"{min(here + 10, 19)} 1 True", f"{here} 1 True"
         for jobs, low in [(4, beside), (1, alone)]:
             with self.subTest(jobs):
                 self.make("clean")
                 self.make("run", f"JOBS={jobs}")
                 asked = {crate: (self.folder / f"asked_{crate}").read_text() for crate in PROVED}
-                self.assertEqual({alone}, {asked["station_compare"]})
-                self.assertEqual(f"{here} run --jobs {jobs}", asked["station_program"])
+                self.assertEqual(f"{here} {jobs} True", asked["station_compare"])
+                self.assertEqual(f"{here} {jobs} False", asked["station_program"])
                 self.assertEqual({low}, {asked[crate] for crate in ("low", "middle", "station_explain")})
 
     def test_the_longest_chains_are_of_crates(self):
@@ -224,7 +213,6 @@ class MakeTest(ProgramTest):
     def test_crates_on_the_same_library_are_proved_side_by_side(self):
         made = self.make("run", "JOBS=4", MEET="middle station_explain")
         self.assertEqual(0, made.returncode, made.stderr)
-        self.assertEqual([], self.rooms())
 
     def test_what_changed_is_proved_and_what_stands_on_it(self):
         self.make("run")
@@ -264,7 +252,7 @@ class MakeTest(ProgramTest):
         self.assertEqual(["middle", "station_compare", "station_program"], self.begun())
         self.assertEqual("logic=proved functions=2\n", self.log("middle"))
 
-    def test_a_proof_that_was_cut_off_goes_on_from_what_it_kept(self):
+    def test_a_proof_that_was_cut_off_begins_anew_over_what_is_proved(self):
         for how in (signal.SIGINT, signal.SIGTERM, signal.SIGKILL):
             with self.subTest(how.name):
                 self.make("clean")
@@ -275,51 +263,29 @@ class MakeTest(ProgramTest):
                 made = self.make("run")
                 self.assertEqual(0, made.returncode, made.stderr)
                 self.assertNotIn("low", self.begun())
-                kept = self.folder / "crates" / "middle" / "out" / "begun"
-                self.assertEqual("something", kept.read_text())
-                self.assertEqual([], self.rooms())
-
-    def test_a_room_that_is_left_over_gives_back_what_was_kept_and_no_source(self):
-        self.write_room("middle", "WRONG\n", "of the room")
-        self.assertEqual(0, self.make("run").returncode)
-        kept = self.folder / "crates" / "middle" / "out" / "begun"
-        self.assertEqual("of the room", kept.read_text())
-        # What was proved by hand since then stays.
-        kept.write_text("by hand")
-        self.write_room("middle", "WRONG\n", "of the room")
-        self.write("middle", "one\ntwo\n")
-        self.assertEqual(0, self.make("run").returncode)
-        self.assertEqual("by hand", kept.read_text())
-        self.assertEqual([], self.rooms())
+                self.assertIn("middle", self.begun())
 
     def test_the_log_of_a_proof_outlasts_a_run_that_has_nothing_to_prove(self):
         self.make("run")
-        shutil.rmtree(self.folder / "build")
         self.assertEqual(0, self.make("run").returncode)
-        self.assertEqual(sorted(PROVED), sorted(self.begun()))
+        self.assertEqual([], self.begun())
         for crate in PROVED:
             self.assertEqual("logic=proved functions=1\n", self.log(crate))
 
-    def test_a_log_that_is_lost_or_older_than_the_sources_is_said_again(self):
+    def test_a_crate_whose_log_is_lost_is_proved_again(self):
         self.make("run")
-        (self.folder / "crates" / "low" / "out" / "build.log").unlink()
-        self.write("middle", "one\ntwo\n")
-        (self.folder / "crates" / "middle" / "out" / "proved").write_text("one\ntwo\n")
-        shutil.rmtree(self.folder / "build")
+        (self.folder / "build" / "proved" / "other_low").unlink()
         self.assertEqual(0, self.make("run").returncode)
-        self.assertEqual("logic=proved functions=1\n", self.log("low"))
-        self.assertEqual("logic=proved functions=2\n", self.log("middle"))
-        checked = re.findall(r"^begin (\w+) check$", self.calls.read_text(), re.MULTILINE)
-        self.assertEqual(["low", "middle"], sorted(checked))
+        again = ["other_low", "middle", "station_compare", "station_program"]
+        self.assertEqual(again, self.begun())
+        self.assertEqual("logic=proved functions=1\n", self.log("other_low"))
 
     def test_the_same_commit_gives_the_same_archive_however_often_it_is_built(self):
         archives = []
-        log = self.folder / "crates" / "low" / "out" / "build.log"
-        # At first, where nothing is left to prove, and where a log is lost beside.
-        for _ in range(3):
-            shutil.rmtree(self.folder / "build", ignore_errors=True)
-            if len(archives) == 2:
-                log.unlink()
+        # At first, where nothing is left to prove, and from nothing.
+        for is_new in (True, False, True):
+            if is_new:
+                shutil.rmtree(self.folder / "build", ignore_errors=True)
             made = self.make("dist", SOURCE_DATE_EPOCH="1000000000")
             self.assertEqual(0, made.returncode, made.stderr)
             dist = self.folder / "build" / "dist"

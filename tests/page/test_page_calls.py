@@ -292,7 +292,7 @@ class PageCallsTest(TimedTest):
                     self.assertEqual(*answers)
 
     def test_a_refused_allocation_is_answered(self):
-        page, kit = build.ROOM / "refused.html", build.kit_of(RT)
+        page, kit = build.ROOM / "refused.html", build.prove.kit_of(RT)
         wasm = build.ROOM / "refused.wasm"
         commands = [["check", *EXAMPLES[:2]], ["explain", "TwoC"]]
         usual = [answer_to([*self.command(), *words]) for words in commands]

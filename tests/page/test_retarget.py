@@ -5,6 +5,7 @@ import subprocess
 import sys
 import tempfile
 import unittest
+from functools import partial
 from pathlib import Path
 
 from program import ROOT, TimedTest
@@ -58,25 +59,30 @@ UNKNOWN = [
     (TARGET_NAMES, "2 places fit"),
 ]
 
-# What a crate is made of, and what `rt lib` kept of it.
+# What a crate is made of, and what `rt lib` kept of it, if it was called.
 PARTS = ["src", "specs", "proofs", "out/rlib"]
 
 
 def make_repository(root):
     """Puts the crate into a repository of its own, with the libraries of ours that it names, as they are
     proved; answers its folder."""
-    named = build.libraries(ROOT)
+    named = build.prove.libraries(ROOT)
     lines = [f"{name}: {' '.join(named[name])}" for name in OF_THE_REPOSITORY]
     lines.append(f"{NAME} wasm64: {' '.join(OF_THE_REPOSITORY + OF_THE_KIT)}")
     (root / "crates.txt").write_text("\n".join(lines) + "\n")
     shutil.copy(ROOT / "HANDLES", root)
     for name in OF_THE_REPOSITORY:
-        for part in PARTS:
+        for part in filter(lambda part: (ROOT / "crates" / name / part).exists(), PARTS):
             shutil.copytree(ROOT / "crates" / name / part, root / "crates" / name / part)
     crate = root / "crates" / NAME
     (crate / "src").mkdir(parents=True)
     (crate / "src" / "lib.rt").write_text(SOURCE)
     return crate
+
+
+def made_by_rt(root, name):
+    """The library of a crate of a repository, as `rt lib` makes it."""
+    return root / "crates" / name / "out" / "rlib" / f"{name}.rlib"
 
 
 class RetargetTest(TimedTest):
@@ -96,9 +102,10 @@ class RetargetTest(TimedTest):
         root, room = self.folder / "repository", self.folder / "room"
         root.mkdir()
         room.mkdir()
-        crate, kit, ours = make_repository(root), build.kit_of(RT), room / "module.wasm"
+        crate, kit, ours = make_repository(root), build.prove.kit_of(RT), room / "module.wasm"
         build.run(RT, "lib", cwd=crate, stdin=subprocess.DEVNULL)
-        module = build.compiled(kit, build.proved_module(kit, crate, room), room)
+        libraries = partial(made_by_rt, root)
+        module = build.compiled(kit, build.proved_module(kit, crate, room, libraries), room)
         build.linked(kit, module, ours, room)
         kits = (crate / "out" / f"{NAME}.wasm").read_bytes()
         self.assertGreater(len(kits), 10_000)
