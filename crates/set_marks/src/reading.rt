@@ -1,7 +1,8 @@
 //! How the blocks of a field file are read.
 
 ghost use Rattle.std.specs.Prelude.{◌≡◌, ◌≤◌, ◌++◌, ◌∷◌, [], All, IfErr, IfOk, OnOk, None, Some};
-ghost use Rattle.std.specs.Prelude.{not, nat_lt, ◌&&◌};
+ghost use Rattle.std.specs.Prelude.{false, not, nat_lt, ◌&&◌};
+ghost use Rattle.std.specs.Bool.{OnTrue};
 ghost use Rattle.station_book.specs.declared.bounds.TheConstants.{CIRCLE, HALF_CIRCLE};
 ghost use Rattle.gsi_word.specs.BlockViews.{block_of};
 ghost use Rattle.gsi_file.specs.declared.bounds.TheConstants.{LONGEST_FILE};
@@ -60,9 +61,27 @@ fn begins_line(word: &Word<'_>) -> bool
     index == POINT_NUMBER || index == CODE_NUMBER
 }
 
-/// Whether a block is two lines in one: a word after the first is one that a line begins with.
+/// Whether a block is of three words, as most readings are, and neither the second nor the third is
+/// one that a line begins with.
+#[inline(always)]
 #[tactic(auto, unfolding(crate::specs::Stations::is_two_lines))]
-fn is_two_lines(block: &Block<'_>) -> bool
+fn is_bare_line(block: &Block<'_>) -> bool
+    ensures { OnTrue result (is_two_lines (block_of block.now) ≡ false) }
+{
+    if block.len() != 3 {
+        return false;
+    }
+    match (block.word(1), block.word(2)) {
+        (Some(second), Some(third)) => !begins_line(&second) && !begins_line(&third),
+        _ => false,
+    }
+}
+
+/// Whether a word after the first is one that a line begins with.
+// Apart from its caller, which needs it for blocks of other than three words alone.
+#[inline(never)]
+#[tactic(auto, unfolding(crate::specs::Stations::is_two_lines))]
+fn has_later_beginning(block: &Block<'_>) -> bool
     ensures { result ≡ is_two_lines (block_of block.now) }
 {
     let mut words = block.words();
@@ -73,6 +92,13 @@ fn is_two_lines(block: &Block<'_>) -> bool
         }
     }
     false
+}
+
+/// Whether a block is two lines in one: a word after the first is one that a line begins with.
+fn is_two_lines(block: &Block<'_>) -> bool
+    ensures { result ≡ is_two_lines (block_of block.now) }
+{
+    !is_bare_line(block) && has_later_beginning(block)
 }
 
 /// Whether the zenith angle of a reading is of face II.
@@ -116,6 +142,7 @@ pub(crate) fn no_readings(alloc: Global, station: Option<Name>) -> Readings
 
 impl Readings {
     /// Takes the block of this number, unless there is a fault already, or notes its fault.
+    #[inline(always)]
     pub(crate) fn take_unless(
         &mut self,
         alloc: Global,
@@ -147,6 +174,7 @@ impl Readings {
     }
 
     /// Takes the block of this number.
+    #[inline(always)]
     #[tactic(auto, unfolding(station_book::specs::Blocks::role_of))]
     fn take(
         &mut self,

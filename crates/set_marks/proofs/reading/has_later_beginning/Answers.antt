@@ -5,7 +5,7 @@ use Rattle.gsi_word.specs.Words.{GsiWord}
 use Rattle.gsi_word.specs.BlockViews.{words_left}
 use Rattle.gsi_word.specs.declared.words.Words.{Words}
 use Rattle.set_marks.specs.Stations.{begins_line, is_two_lines}
-use Rattle.set_marks.proofs.reading.is_two_lines.Goals as goal
+use Rattle.set_marks.proofs.reading.has_later_beginning.Goals as goal
 
 abbrev any_line : List GsiWord → Bool
 any_line = list_any begins_line
