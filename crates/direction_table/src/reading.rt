@@ -3,8 +3,8 @@
 //! The rows are read one by one into one record, which is used again. The first row with a fault
 //! ends the reading; then a target without a row is looked for.
 
-ghost use Rattle.std.specs.Prelude.{◌≡◌, ◌==◌, ◌&&◌, ◌≤◌, ◌⊎◌, List, ℤ, Some, length, map, Err};
-ghost use Rattle.std.specs.Prelude.{IfErr, IfOk, MatchResult};
+ghost use Rattle.std.specs.Prelude.{◌≡◌, ◌==◌, ◌&&◌, ◌≤◌, ◌<◌, ◌⊎◌, List, ℤ, Some, length, map};
+ghost use Rattle.std.specs.Prelude.{Err, IfErr, IfOk, MatchResult};
 ghost use Rattle.adjust_kernel.specs.Stations.{AreTargets};
 ghost use Rattle.csv.specs.Records.{fields_of};
 ghost use Rattle.direction_table.specs.Faults as faults;
@@ -15,7 +15,7 @@ ghost use Rattle.direction_table.specs.Tables.{IsMissingOrMemory, IsTableFault};
 ghost use Rattle.direction_table.specs.Tables.{IsTableFaultOrMemory, IsTableText, stated_by};
 ghost use Rattle.direction_table.specs.UsualLimits as spec;
 ghost use Rattle.direction_table.specs.declared.fault.TableFault.{TableFault};
-ghost use Rattle.direction_table.specs.declared.fault.TableFault.TheVariants.{Memory};
+ghost use Rattle.direction_table.specs.declared.fault.TableFault.TheVariants.{Memory, TooLong};
 
 use crate::columns::are_titles;
 use crate::draft::take_row;
@@ -35,7 +35,8 @@ pub const LONGEST_TABLE: usize = 1_048_576;
 /// first fault of the bytes. The table states them in a unit; they are given in parts, 81 of which
 /// are 0.000000001 gon.
 ///
-/// Memory that is refused is answered as such, in place of either.
+/// Memory that is refused is answered as such, in place of either; but of too many bytes none is
+/// asked for.
 pub fn read_table(
     alloc: Global,
     unit: AngleUnit,
@@ -52,6 +53,9 @@ pub fn read_table(
         → MatchResult result (λ read. read.items ≡ directions) (λ fault. fault ≡ Memory) }
     ensures refused { (fault : TableFault) → IsTableFault unit targets.now bytes.now fault
         → (result ≡ Err fault) ⊎ (result ≡ Err Memory) }
+
+    // That bytes are too many is seen before any memory is taken.
+    ensures too_long { LONGEST_TABLE < length bytes.now → result ≡ Err TooLong }
 {
     let table = read_stated_table(alloc, unit, targets, bytes)?;
     Ok(table.directions)
@@ -81,6 +85,7 @@ pub fn read_stated_table(
     ensures usual_within { IfOk result (λ stated.
         stated.usual_within ≡ spec.usual_within unit (rows_of targets.now bytes.now)) }
     ensures fault { IfErr result (IsTableFaultOrMemory unit targets.now bytes.now) }
+    ensures too_long { LONGEST_TABLE < length bytes.now → result ≡ Err TooLong }
 {
     if bytes.len() > LONGEST_TABLE {
         return Err(TableFault::TooLong);

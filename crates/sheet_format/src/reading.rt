@@ -3,13 +3,13 @@
 //! The rows are read one by one into one record, which is used again, so that the memory grows with
 //! the sheet alone. The first row with a fault ends the reading.
 
-ghost use Rattle.std.specs.Prelude.{◌≡◌, ◌≤◌, ◌⊎◌, length, Err, IfErr, IfOk, Ok};
+ghost use Rattle.std.specs.Prelude.{◌≡◌, ◌≤◌, ◌<◌, ◌⊎◌, length, Err, IfErr, IfOk, Ok};
 ghost use Rattle.adjust_kernel.specs.Sheets.{SheetValue};
 ghost use Rattle.csv.specs.Reading.{error_kind};
 ghost use Rattle.sheet_format.specs.Errors.{IsMemoryOrInput};
 ghost use Rattle.sheet_format.specs.Faults.{IsSheetFaultOrMemory, IsSheetFault};
 ghost use Rattle.sheet_format.specs.Rows.{IsSheetText};
-ghost use Rattle.sheet_format.specs.declared.fault.SheetFault.TheVariants.{Memory};
+ghost use Rattle.sheet_format.specs.declared.fault.SheetFault.TheVariants.{Memory, TooLong};
 
 use crate::draft::{Draft, Refusal};
 use crate::fault::{RowKind, SheetFault};
@@ -22,7 +22,8 @@ pub const LONGEST_SHEET: usize = 1_048_576;
 
 /// The sheet that these bytes stand for, or their first fault.
 ///
-/// Memory that is refused is answered as such, in place of either.
+/// Memory that is refused is answered as such, in place of either; but of too many bytes none is
+/// asked for.
 pub fn read_sheet(alloc: Global, bytes: &[u8]) -> Result<Sheet, SheetFault>
     ensures sheet { IfOk result (λ sheet. IsSheetText bytes.now sheet) }
     ensures fault { IfErr result (λ fault. IsSheetFaultOrMemory bytes.now fault) }
@@ -32,6 +33,9 @@ pub fn read_sheet(alloc: Global, bytes: &[u8]) -> Result<Sheet, SheetFault>
         ⊎ (result ≡ Err Memory) }
     ensures refused { (fault : SheetFault) → IsSheetFault bytes.now fault → (result ≡ Err fault)
         ⊎ (result ≡ Err Memory) }
+
+    // That bytes are too many is seen before any memory is taken.
+    ensures too_long { LONGEST_SHEET < length bytes.now → result ≡ Err TooLong }
 {
     if bytes.len() > LONGEST_SHEET {
         return Err(SheetFault::TooLong);

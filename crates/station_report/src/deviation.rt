@@ -1,5 +1,5 @@
 //! The standard deviation of one two-face direction.
-ghost use Rattle.std.specs.Prelude.{◌≡◌, ◌<◌, ◌≤◌, ◌^◌, ◌*◌, ℤ, pos, length, IfOk};
+ghost use Rattle.std.specs.Prelude.{◌≡◌, ◌<◌, ◌≤◌, ◌^◌, ◌*◌, ℤ, pos, length, IfOk, None, Ok};
 ghost use Rattle.std.specs.Option.{ForSome};
 ghost use Rattle.adjust_kernel.specs.Stations.{IsStation};
 ghost use Rattle.adjust_kernel.specs.declared.bounds.TheConstants.{LARGEST_RESIDUAL_LIMIT};
@@ -36,7 +36,7 @@ pub fn degrees_of(station: &Station) -> u64
 /// of 0.001 mgon: the root of the sum of squares over the degrees of freedom, rounded once, the
 /// middle of two upwards. None where there are no degrees of freedom.
 ///
-/// The only error is that memory was refused.
+/// The only error is that memory was refused, which is asked for where there are some.
 pub fn deviation_by(
     alloc: Global,
     station: &Station,
@@ -46,6 +46,7 @@ pub fn deviation_by(
     requires limited { KeepsLimit station.now adjustment.now LARGEST_RESIDUAL_LIMIT }
     requires tied { AreTied station.now }
     ensures deviation { IfOk result (spec.IsDeviation station.now) }
+    ensures none { spec.degrees_of station.now ≡ 0 → result ≡ Ok None }
     ensures bound { IfOk result (λ deviation. ForSome deviation (λ units. units < 2 ^ 31)) }
 {
     if degrees_of(station) == 0 {

@@ -1,6 +1,7 @@
 //! The head of a report.
-ghost use Rattle.std.specs.Prelude.{◌≡◌, ◌≤◌, ◌++◌, OnOk, codes, decimal, pos};
+ghost use Rattle.std.specs.Prelude.{◌≡◌, ◌≤◌, ◌++◌, OnOk, OnErr, codes, decimal, pos};
 ghost use Rattle.angle_texts.specs.MgonTexts.{short_mgon_text};
+ghost use Rattle.direction_table.specs.Beginnings.{IsBegun};
 ghost use Rattle.station_book.specs.declared.limits.TheConstants.{LARGEST_LIMIT};
 ghost use Rattle.station_report.specs.ReportTexts as spec;
 
@@ -49,8 +50,14 @@ fn push_limit(text: &mut Vec<u8>, name: &[u8], limit: u32) -> Result<(), AllocEr
 }
 
 /// Adds a line that names a file.
+///
+/// The only error is that memory was refused; then a beginning of it may have been added.
+#[tactic(auto, using(direction_table::proofs::Begun::of_first, direction_table::proofs::Begun::of_second))]
 pub fn push_file(text: &mut Vec<u8>, name: &[u8], path: &[u8]) -> Result<(), AllocError>
-    ensures { OnOk result (text.new.items ≡ text.old.items ++ spec.file_text name.now path.now) }
+    ensures added { OnOk result
+        (text.new.items ≡ text.old.items ++ spec.file_text name.now path.now) }
+    ensures begun { OnErr result
+        (IsBegun (spec.file_text name.now path.now) text.old.items text.new.items) }
 {
     push_left(text, ENTRY_NAMES, name)?;
     push_name(text, path)?;

@@ -31,8 +31,7 @@ fn a_fault_is_told_in_words(rt: HostRuntime) -> Result<(), Fail> {
         ),
         (
             Fault::Kernel(KernelFault::TargetSum(2)),
-            "the sheet is not the adjustment of its station, \
-             the residuals of target 2 do not add to 0",
+            "the sheet is refused, the residuals of target 2 do not add to 0",
         ),
         (Fault::Write, "a write failed"),
         (Fault::Memory, "out of memory"),

@@ -9,5 +9,5 @@ returns c =
     c.push_entry.new.text.items title_text
     (file_text (codes "Field file") c.args.path.now)
     (entry_text (codes "Station") c.args.station.now.name)
-    c.in_ok-push_title.ensures c.in_ok-push_file.ensures
+    c.in_ok-push_title.ensures c.in_ok-push_file.ensures.added
     (rw (c.bytes.ensures.value ∙ c.name.ensures.value) at c.in_ok-push_entry.ensures)

@@ -1,4 +1,4 @@
-use Rattle.std.proofs.Common.{◌≡◌, ◌∙◌, ◌++◌, codes, rules}
+use Rattle.std.proofs.Common.{codes}
 use Rattle.station_check.specs.declared.version.TheConstants.{VERSION}
 use Rattle.station_report.proofs.PlaceLaws.{three}
 use Rattle.station_report.proofs.head.push_title.Goals as goal

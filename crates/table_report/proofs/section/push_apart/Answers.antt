@@ -10,12 +10,12 @@ returns c =
     let whole = c.push.new.self.items in
     let last = three c.push_count.new.text.items c.extend_from_slice-4.new.self.items
     c.push_count-2.new.text.items whole (codes " targets, by ") apart (codes "\n")
-    c.in_ok-extend_from_slice-4.ensures.items c.in_ok-push_count-2.ensures
+    c.in_ok-extend_from_slice-4.ensures.items c.in_ok-push_count-2.ensures.added
     c.in_ok-push.ensures.items in
     let middle = three c.extend_from_slice-2.new.self.items c.extend_from_slice-3.new.self.items
     c.push_count.new.text.items whole (codes ": ") count
     (codes " targets, by " ++ (apart ++ codes "\n")) c.in_ok-extend_from_slice-3.ensures.items
-    (c.in_ok-push_count.ensures
+    (c.in_ok-push_count.ensures.added
     ∙ ap (λ (targets : List (List ℕ)). c.extend_from_slice-3.new.self.items
     ++ decimal (length targets)) c.targets.ensures.value) last in
     three c.args.text.now.items c.extend_from_slice.new.self.items

@@ -14,7 +14,7 @@ returns c =
     let whole = c.push_verdict.new.text.items in
     let last = three c.push_file.new.text.items c.push_limit.new.text.items
     c.push_left.new.text.items whole limit comparison verdict c.in_ok-push_limit.ensures
-    c.in_ok-push_left.ensures c.in_ok-push_verdict.ensures in
+    c.in_ok-push_left.ensures.added c.in_ok-push_verdict.ensures in
     three c.args.text.now.items c.push.new.self.items c.push_file.new.text.items whole (codes "\n")
-    table (limit ++ (comparison ++ verdict)) c.in_ok-push.ensures.items c.in_ok-push_file.ensures
+    table (limit ++ (comparison ++ verdict)) c.in_ok-push.ensures.items c.in_ok-push_file.ensures.added
     last

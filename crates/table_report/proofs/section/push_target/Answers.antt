@@ -23,13 +23,13 @@ returns c =
     ∙ ap mgon_text (to_z-of_z w32 row.difference fits) in
     let last = three c.push_left.new.text.items c.push_right.new.text.items
     c.push_right-2.new.text.items whole stated difference (codes "\n")
-    (c.in_ok-push_right.ensures
+    (c.in_ok-push_right.ensures.added
     ∙ ap (λ (f : List ℕ). c.push_left.new.text.items ++ right_text 18 f)
     (c.deref.ensures.value ∙ of_stated))
-    (c.in_ok-push_right-2.ensures
+    (c.in_ok-push_right-2.ensures.added
     ∙ ap (λ (f : List ℕ). c.push_right.new.text.items ++ right_text 14 f)
     (c.deref-2.ensures.value ∙ of_difference))
     c.in_ok-push.ensures.items in
     three c.args.text.now.items c.extend_from_slice.new.self.items c.push_left.new.text.items whole
     (codes "  ") name (stated ++ (difference ++ codes "\n")) c.in_ok-extend_from_slice.ensures.items
-    (rw c.bytes.ensures.value at c.in_ok-push_left.ensures) last
+    (rw c.bytes.ensures.value at c.in_ok-push_left.ensures.added) last
