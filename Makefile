@@ -1,5 +1,5 @@
-# station_check: proved, built, tested and installed. Needs the toolchain's `rt` and make; the gate needs Python 3.10 or
-# later, bash and git too.
+# station_check: proved, built, tested and installed. Needs the toolchain's `rt`, make and Python 3.10 or later; the gate
+# needs bash and git too.
 
 RT ?= rt
 PREFIX ?= /usr/local
