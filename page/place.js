@@ -132,6 +132,24 @@ const alone = (where, line) =>
 const KIND_OF_FAULT = { Target: 'target', Set: 'set', Obs: 'obs' };
 
 /**
+ * What a refusal of the comparison says of a station that was found: a target, or an observation.
+ * @param {(pattern: RegExp, place: (...words: string[]) => Place | null) => Place | null} at
+ * @param {import('./files.js').Station} station
+ * @returns {Place | null}
+ */
+function inStation(at, station) {
+  const { listed } = station;
+  return at(/^refused: table: Missing (\d+)/, nth => {
+    const target = each(pairsOf(listed).map(pair => pair.target))[Number(nth) - 1];
+    return alone(text('targetOfStation', { nth, station: listed.name }), target);
+  }) ?? at(/^refused: adjust: Residual (\d+)/, nth => {
+    const { set, target } = pairsOf(listed)[Number(nth) - 1];
+    const where = text('observationOfStation', { nth, station: listed.name });
+    return alone(where, text('setAndTarget', { set, target }));
+  });
+}
+
+/**
  * What a refusal speaks of; none where it names no place, or there is nothing.
  * @param {string} refusal
  * @param {Input} field
@@ -140,27 +158,17 @@ const KIND_OF_FAULT = { Target: 'target', Set: 'set', Obs: 'obs' };
  * @returns {Place | null}
  */
 export function placeOf(refusal, field, other, station) {
-  const found = (/** @type {RegExp} */ pattern) => refusal.match(pattern)?.slice(1);
-  let words;
-  if (words = found(/^refused: block (\d+): (.*)/))
-    return blockIn(field, Number(words[0]), words[1]);
-  if (words = found(/^refused: (?:sheet|table) row (\d+): /)) return rowIn(other, Number(words[0]));
-  if (words = found(/^refused: kernel: (Target|Set|Obs)(?:Row|Sum) (\d+)/))
-    return rowIn(other, Number(words[1]), KIND_OF_FAULT[words[0]]);
-  if (words = found(/^refused: kernel: Residual (\d+)/))
-    return rowIn(other, Number(words[0]), 'obs');
-  if (found(/^refused: kernel: Datum/)) return rowIn(other, 1, 'target');
-  if (found(/^refused: no station/) && !station && other) return rowIn(other, 1);
-  if (!station) return null;
-  const pairs = pairsOf(station.listed), name = station.listed.name;
-  if (words = found(/^refused: table: Missing (\d+)/)) {
-    const target = each(pairs.map(pair => pair.target))[Number(words[0]) - 1];
-    return alone(text('targetOfStation', { nth: words[0], station: name }), target);
-  }
-  if (words = found(/^refused: adjust: Residual (\d+)/)) {
-    const { set, target } = pairs[Number(words[0]) - 1];
-    const where = text('observationOfStation', { nth: words[0], station: name });
-    return alone(where, text('setAndTarget', { set, target }));
-  }
-  return null;
+  /** @type {(pattern: RegExp, place: (...words: string[]) => Place | null) => Place | null} */
+  const at = (pattern, place) => {
+    const words = refusal.match(pattern);
+    return words && place(...words.slice(1));
+  };
+  return at(/^refused: block (\d+): (.*)/, (block, fault) => blockIn(field, Number(block), fault))
+    ?? at(/^refused: (?:sheet|table) row (\d+): /, nth => rowIn(other, Number(nth)))
+    ?? at(/^refused: kernel: (Target|Set|Obs)(?:Row|Sum) (\d+)/,
+      (kind, nth) => rowIn(other, Number(nth), KIND_OF_FAULT[kind]))
+    ?? at(/^refused: kernel: Residual (\d+)/, nth => rowIn(other, Number(nth), 'obs'))
+    ?? at(/^refused: kernel: Datum/, () => rowIn(other, 1, 'target'))
+    ?? at(/^refused: no station/, () => station || !other ? null : rowIn(other, 1))
+    ?? (station ? inStation(at, station) : null);
 }

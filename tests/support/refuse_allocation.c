@@ -43,7 +43,7 @@ static int is_refused(void)
     return 1;
 }
 
-/* The function of this name in the libraries behind this one. */
+/* The function of this name in the libraries after this one. */
 static void *next_of(const char *name)
 {
     void *found = dlsym(RTLD_NEXT, name);

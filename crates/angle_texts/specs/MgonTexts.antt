@@ -1,15 +1,18 @@
 -- Small angles in mgon, as text (profile).
-use Rattle.std.specs.Prelude.{ℕ, ◌+◌, ◌/◌, ◌%◌, List, [], ◌∷◌, ◌++◌, codes, decimal}
+use Rattle.std.specs.Prelude.{ℕ, ◌/◌, List, [], ◌∷◌, ◌++◌, codes, decimal}
 use Rattle.std.specs.Prelude.{ℤ, pos, negsuc, unsigned_abs}
+use Rattle.direction_table.specs.DecimalNumbers.{point}
+use Rattle.direction_table.specs.Texts.{last_digit}
 
 -- a number of thousandths: the whole, a point, and three decimals
 abbrev pub thousandths_text : ℕ → List ℕ
 thousandths_text n =
-    decimal (n / 1_000) ++ (46 ∷ (48 + n / 100 % 10) ∷ (48 + n / 10 % 10) ∷ (48 + n % 10) ∷ [])
+    decimal (n / 1_000)
+    ++ (point ∷ last_digit (n / 100) ∷ last_digit (n / 10) ∷ last_digit n ∷ [])
 
 -- a number of hundredths: the whole, a point, and two decimals
 abbrev pub hundredths_text : ℕ → List ℕ
-hundredths_text n = decimal (n / 100) ++ (46 ∷ (48 + n / 10 % 10) ∷ (48 + n % 10) ∷ [])
+hundredths_text n = decimal (n / 100) ++ (point ∷ last_digit (n / 10) ∷ last_digit n ∷ [])
 
 -- what stands before a number: a minus where it is negative
 abbrev pub sign_text : ℤ → List ℕ

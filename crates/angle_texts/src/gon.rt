@@ -37,7 +37,7 @@ pub fn push_short_gon(text: &mut Vec<u8>, direction: u64) -> Result<(), AllocErr
 /// six decimals. What lies below the sixth decimal is left out.
 ///
 /// The only error is that memory was refused; then a beginning of it may have been added.
-#[tactic(auto, using(direction_table::proofs::Begun::of_five, direction_table::proofs::Begun::all_five))]
+#[tactic(auto, using(direction_table::proofs::Begun::of_six))]
 pub fn push_gon(text: &mut Vec<u8>, direction: u64) -> Result<(), AllocError>
     ensures added { OnOk result
         (text.new.items ≡ text.old.items ++ direction_text 6 direction) }

@@ -11,7 +11,7 @@ use std::alloc::AllocError;
 /// the whole, a point and three decimals.
 ///
 /// The only error is that memory was refused; then a beginning of it may have been added.
-#[tactic(auto, using(direction_table::proofs::Begun::of_first, direction_table::proofs::Begun::of_second))]
+#[tactic(auto, using(direction_table::proofs::Begun::of_two))]
 pub fn push_mgon(text: &mut Vec<u8>, units: i32) -> Result<(), AllocError>
     ensures added { OnOk result (text.new.items ≡ text.old.items ++ spec.mgon_text units) }
     ensures begun { OnErr result (IsBegun (spec.mgon_text units) text.old.items text.new.items) }
@@ -24,7 +24,7 @@ pub fn push_mgon(text: &mut Vec<u8>, units: i32) -> Result<(), AllocError>
 /// the whole, a point and two decimals.
 ///
 /// The only error is that memory was refused; then a beginning of it may have been added.
-#[tactic(auto, using(direction_table::proofs::Begun::of_first, direction_table::proofs::Begun::of_second))]
+#[tactic(auto, using(direction_table::proofs::Begun::of_two))]
 pub fn push_short_mgon(text: &mut Vec<u8>, units: i32) -> Result<(), AllocError>
     ensures added { OnOk result (text.new.items ≡ text.old.items ++ spec.short_mgon_text units) }
     ensures begun { OnErr result

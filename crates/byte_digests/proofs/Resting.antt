@@ -10,9 +10,9 @@ use Rattle.byte_digests.specs.DigestLines.{escaped}
 use Rattle.byte_digests.specs.PutAt.{IsPut}
 
 -- After a later end is what stayed after an earlier one.
-rest_behind : (old new : List ℕ) (end more : ℕ) → drop end new ≡ drop end old
+rest_beyond : (old new : List ℕ) (end more : ℕ) → drop end new ≡ drop end old
     → drop (end + more) new ≡ drop (end + more) old
-rest_behind old new end more h =
+rest_beyond old new end more h =
     sym (drop-drop more end new) ∙ (ap (drop more) h ∙ drop-drop more end old)
 
 -- Where a text is put after what stayed, what is after it stays.
@@ -20,7 +20,7 @@ pub both_rest : (text old now new : List ℕ) (middle end : ℕ) → drop middle
     → IsPut text middle now new end → drop end new ≡ drop end old
 both_rest text old now new middle end h p =
     p.rest ∙ subst (λ (e : ℕ). drop e now ≡ drop e old) (sym p.ends)
-    (rest_behind old now middle (length text) h)
+    (rest_beyond old now middle (length text) h)
 
 -- The bytes of a name up to the next one.
 next_taken : (name : List ℕ) (i : ℕ) → i < length name → flat_map escaped (take (i + 1) name)

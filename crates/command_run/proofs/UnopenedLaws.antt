@@ -19,3 +19,6 @@ pub shown_whole : (cs text : List ℕ) → IsUtf8 text → encode_utf8_all cs �
 shown_whole cs text is_text spelled =
     let all : cs ≡ chars text = chars_from_encodes cs text is_text spelled in
     rw all refl
+
+-- What is shown, one character more and in all.
+pub ruleset as_shown = (shown_then, shown_whole)

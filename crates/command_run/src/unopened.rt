@@ -13,7 +13,7 @@ pub(crate) struct Unopened<'a> {
 
 /// The line that names the path of a file that can't be opened, with a `?` in the place of each
 /// control character, so that a terminal shows it on one line.
-#[tactic(auto, using(crate::proofs::UnopenedLaws::shown_then, crate::proofs::UnopenedLaws::shown_whole))]
+#[tactic(auto, using(crate::proofs::UnopenedLaws::as_shown))]
 pub(crate) fn unopened_line(alloc: Global, path: &str) -> Result<String, AllocError>
     ensures { IfOk result (λ line. string_bytes line ≡ spec.unopened_line path.now) }
 {

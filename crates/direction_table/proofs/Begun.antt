@@ -1,10 +1,11 @@
 -- Beginnings of texts that have two parts.
-use Rattle.std.proofs.Common.{◌≡◌, ◌∙◌, ◌++◌, ◌∷◌, ◌+◌, ◌/◌, ◌%◌, ◌^◌, ℕ, List, [], length}
+use Rattle.std.proofs.Common.{◌≡◌, ◌∙◌, ◌++◌, ◌∷◌, ◌/◌, ◌^◌, ℕ, List, [], length}
 use Rattle.std.proofs.Common.{take, drop, decimal, ap, sym, refl, subst}
 use Rattle.std.proofs.Common.{append_assoc}
 use Rattle.std.proofs.lemmas.List.{take-append-drop, take_at}
 use Rattle.direction_table.specs.Beginnings.{IsBegun}
-use Rattle.direction_table.specs.Texts.{decimals_of, direction_text}
+use Rattle.direction_table.specs.DecimalNumbers.{point}
+use Rattle.direction_table.specs.Texts.{decimals_of, direction_text, last_digit}
 
 -- The first part is a beginning.
 pub first_part : (first rest old new : List ℕ) → new ≡ old ++ first
@@ -44,23 +45,30 @@ of_second first second old middle new h p =
           (sym (ap (take (length got)) whole ∙ take_at got rest (length got) refl))));
     }
 
+-- What was added of a text of two parts: a beginning of the first, or the first and a beginning of
+-- the second.
+pub ruleset of_two = (of_first, of_second)
+
 -- Six decimals are five and one more.
 pub six_decimals : (direction : ℕ) → direction_text 6 direction
-    ≡ direction_text 5 direction ++ ((48 + direction / 10 ^ 3 % 10) ∷ [])
+    ≡ direction_text 5 direction ++ (last_digit (direction / 10 ^ 3) ∷ [])
 six_decimals direction =
-    sym (append_assoc (decimal (direction / 10 ^ 9)) (46 ∷ decimals_of 5 direction)
-    ((48 + direction / 10 ^ 3 % 10) ∷ []))
+    sym (append_assoc (decimal (direction / 10 ^ 9)) (point ∷ decimals_of 5 direction)
+    (last_digit (direction / 10 ^ 3) ∷ []))
 
 -- A beginning of five decimals is one of six.
 pub of_five : (direction : ℕ) (old new : List ℕ) → IsBegun (direction_text 5 direction) old new
     → IsBegun (direction_text 6 direction) old new
 of_five direction old new p =
     subst (λ text. IsBegun text old new) (sym (six_decimals direction))
-    (of_first (direction_text 5 direction) ((48 + direction / 10 ^ 3 % 10) ∷ []) old new p)
+    (of_first (direction_text 5 direction) (last_digit (direction / 10 ^ 3) ∷ []) old new p)
 
 -- Five decimals are a beginning of six.
 pub all_five : (direction : ℕ) (old new : List ℕ) → new ≡ old ++ direction_text 5 direction
     → IsBegun (direction_text 6 direction) old new
 all_five direction old new h =
     subst (λ text. IsBegun text old new) (sym (six_decimals direction))
-    (first_part (direction_text 5 direction) ((48 + direction / 10 ^ 3 % 10) ∷ []) old new h)
+    (first_part (direction_text 5 direction) (last_digit (direction / 10 ^ 3) ∷ []) old new h)
+
+-- What was added of six decimals: a beginning of five, or all five.
+pub ruleset of_six = (of_five, all_five)

@@ -14,9 +14,10 @@ use Rattle.std.proofs.lemmas.List.Sums.{AllPass-from_list_all, prefix_len-le-len
 use Rattle.std.proofs.lemmas.List.Sums.{suffix_len-take_no}
 use Rattle.direction_table.specs.FieldForms.{without_blanks, without_blanks_before}
 use Rattle.direction_table.specs.Directions.{direction_value, is_direction, is_on_circle}
-use Rattle.direction_table.specs.Gons.{after_first, is_mark, is_negative, mark_of, size_value}
-use Rattle.direction_table.specs.Gons.{unsigned}
-use Rattle.direction_table.specs.PlainTables.{IsPlainDirection, after_point, minus, plain_size}
+use Rattle.direction_table.specs.DecimalNumbers.{after_first, is_mark, mark_of}
+use Rattle.direction_table.specs.Gons.{is_negative, size_value, unsigned}
+use Rattle.direction_table.specs.PlainTables.{IsPlainDirection, after_point, plain_sign}
+use Rattle.direction_table.specs.PlainTables.{plain_size}
 use Rattle.direction_table.proofs.Sizes.{Parts, decimals-is, whole-is}
 use Rattle.direction_table.specs.declared.unit.AngleUnit.TheVariants.{Gon}
 
@@ -53,8 +54,8 @@ after-is (d ∷ ds) = refl
 
 -- What stands without the sign, and the sign.
 signed-text : (negative : Bool) (front tail : List ℕ) → list_all is_ascii_digit front ≡ true
-    → 1 ≤ length front → (unsigned (minus negative ++ (front ++ tail)) ≡ front ++ tail)
-    × (is_negative (minus negative ++ (front ++ tail)) ≡ negative)
+    → 1 ≤ length front → (unsigned (plain_sign negative ++ (front ++ tail)) ≡ front ++ tail)
+    × (is_negative (plain_sign negative ++ (front ++ tail)) ≡ negative)
 signed-text true front tail e some = (refl, refl)
 signed-text false [] tail e some = absurd (omega (arith, some))
 signed-text false (c ∷ cs) tail e some =
@@ -134,17 +135,17 @@ dark-after : (decimals : List ℕ) → list_all is_ascii_digit decimals ≡ true
 dark-after [] e = refl
 dark-after (d ∷ ds) e = dark-digits (d ∷ ds) e
 
-dark-minus : (negative : Bool) → list_all is_dark (minus negative) ≡ true
-dark-minus true = refl
-dark-minus false = refl
+dark-sign : (negative : Bool) → list_all is_dark (plain_sign negative) ≡ true
+dark-sign true = refl
+dark-sign false = refl
 
 dark : (field : List ℕ) (direction : ℤ) → IsPlainDirection field direction
     → list_all is_dark field ≡ true
 dark field direction p = rw (
   p.spelled,
-  list_all-append is_dark (minus p.negative) (p.whole ++ after_point p.decimals),
+  list_all-append is_dark (plain_sign p.negative) (p.whole ++ after_point p.decimals),
   list_all-append is_dark p.whole (after_point p.decimals),
-  dark-minus p.negative,
+  dark-sign p.negative,
   dark-digits p.whole p.whole_digits,
 ) (dark-after p.decimals p.decimal_digits)
 

@@ -1,6 +1,7 @@
 -- The parts before and after the point of a number.
 use Rattle.std.proofs.Common.{◌≡◌, ◌∙◌, ℕ, List, take, drop, ap, sym}
-use Rattle.direction_table.specs.Gons.{after_first, decimals_part, mark_of, whole_part}
+use Rattle.direction_table.specs.DecimalNumbers.{after_first, decimals_part, mark_of}
+use Rattle.direction_table.specs.DecimalNumbers.{whole_part}
 
 -- The parts of a text, with the place of its point.
 pub record Parts (bytes front back decimals : List ℕ) (place : ℕ) : Type 0 where

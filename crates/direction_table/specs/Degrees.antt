@@ -4,11 +4,31 @@ use Rattle.std.specs.Prelude.{ℕ, ◌+◌, ◌-◌, ◌*◌, ◌^◌, ◌/◌, 
 use Rattle.std.specs.Prelude.{nat_lt, if◌then◌else◌, List, [], ◌∷◌, length, take, drop, unwrap_or}
 use Rattle.std.specs.List.{list_any, position}
 use Rattle.std.specs.Str.Parse.{digits_value}
-use Rattle.direction_table.specs.Gons.{after_first, decimals_part, is_size, is_whole, size_value}
-use Rattle.direction_table.specs.Gons.{whole_part}
+use Rattle.direction_table.specs.DecimalNumbers.{after_first, decimals_part, is_whole, whole_part}
+use Rattle.direction_table.specs.Gons.{is_size, size_value}
 use Rattle.direction_table.specs.declared.degrees.Sexagesimal.{Sexagesimal}
 use Rattle.direction_table.specs.declared.degrees.TheConstants.{DEGREE, MINUTE}
 use Rattle.direction_table.specs.declared.direction.TheConstants.{SECOND_PARTS}
+
+-- The hyphen.
+abbrev pub hyphen : ℕ
+hyphen = 45
+
+-- The first of the two bytes of the sign of degrees (UTF-8).
+abbrev pub degree_sign : ℕ
+degree_sign = 194
+
+-- The second.
+abbrev pub degree_sign_end : ℕ
+degree_sign_end = 176
+
+-- The sign of minutes.
+abbrev pub minute_sign : ℕ
+minute_sign = 39
+
+-- The sign of seconds.
+abbrev pub second_sign : ℕ
+second_sign = 34
 
 -- The place of the first of such bytes, or the end.
 abbrev pub place_of : ℕ → List ℕ → ℕ
@@ -36,9 +56,9 @@ numbers_view n =
 -- With a hyphen after the degrees and after the minutes.
 abbrev pub by_hyphens : List ℕ → Numbers
 by_hyphens bytes = record {
-  degrees = before 45 bytes;
-  minutes = before 45 (after 45 bytes);
-  seconds = after 45 (after 45 bytes);
+  degrees = before hyphen bytes;
+  minutes = before hyphen (after hyphen bytes);
+  seconds = after hyphen (after hyphen bytes);
 }
 
 -- The bytes after one that they begin with; none, where they begin with another.
@@ -55,27 +75,29 @@ without_last mark bytes =
 -- minutes and that of seconds at the end.
 abbrev pub by_signs : List ℕ → Numbers
 by_signs bytes = record {
-  degrees = before 194 bytes;
-  minutes = before 39 (without_first 176 (after 194 bytes));
-  seconds = without_last 34 (after 39 (without_first 176 (after 194 bytes)));
+  degrees = before degree_sign bytes;
+  minutes = before minute_sign (without_first degree_sign_end (after degree_sign bytes));
+  seconds = without_last second_sign
+      (after minute_sign (without_first degree_sign_end (after degree_sign bytes)));
 }
 
 -- A direction has minutes where it has a hyphen or the sign of degrees.
 abbrev pub has_minutes : List ℕ → Bool
-has_minutes bytes = list_any (λ b. (b == 45) || (b == 194)) bytes
+has_minutes bytes = list_any (λ b. (b == hyphen) || (b == degree_sign)) bytes
 
 -- Its numbers.
 abbrev pub numbers_of : List ℕ → Numbers
-numbers_of bytes = if list_any (λ b. b == 194) bytes then by_signs bytes else by_hyphens bytes
+numbers_of bytes =
+    if list_any (λ b. b == degree_sign) bytes then by_signs bytes else by_hyphens bytes
 
 -- Degrees: one to three digits.
 abbrev pub are_degrees : List ℕ → Bool
-are_degrees digits = nat_le 1 (length digits) && is_whole digits
+are_degrees digits = nat_le 1 (length digits) && is_whole 3 digits
 
 -- Minutes: two digits, below 60.
 abbrev pub are_minutes : List ℕ → Bool
 are_minutes digits =
-    (length digits == 2) && (is_whole digits && nat_lt (digits_value 10 digits) 60)
+    (length digits == 2) && (is_whole 3 digits && nat_lt (digits_value 10 digits) 60)
 
 -- Seconds: two digits and any number of decimals, below 60; those after the sixth are 0.
 abbrev pub are_seconds : List ℕ → Bool

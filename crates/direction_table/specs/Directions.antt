@@ -6,8 +6,8 @@ use Rattle.std.specs.Prelude.{length}
 use Rattle.std.specs.Prelude.{ℤ, pos}
 use Rattle.direction_table.specs.Degrees.{has_minutes, is_sexagesimal, numbers_of}
 use Rattle.direction_table.specs.Degrees.{sexagesimal_step, sexagesimal_value}
-use Rattle.direction_table.specs.Gons.{decimals_part, is_negative, is_size, signed, size_value}
-use Rattle.direction_table.specs.Gons.{unsigned}
+use Rattle.direction_table.specs.DecimalNumbers.{decimals_part}
+use Rattle.direction_table.specs.Gons.{is_negative, is_size, signed, size_value, unsigned}
 use Rattle.direction_table.specs.declared.direction.TheConstants.{CIRCLE_PARTS, DEGREE_PARTS}
 use Rattle.direction_table.specs.declared.gon.TheConstants.{GON}
 use Rattle.adjust_kernel.specs.declared.units.TheConstants.{PARTS}

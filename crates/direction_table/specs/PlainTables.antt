@@ -6,8 +6,10 @@ use Rattle.std.specs.Char.{is_ascii_digit}
 use Rattle.std.specs.List.{list_all}
 use Rattle.std.specs.Str.Parse.{digits_value}
 use Rattle.sheet_format.specs.Rows.{records_of}
+use Rattle.sheet_format.specs.Numbers.{minus}
+use Rattle.direction_table.specs.DecimalNumbers.{point}
 use Rattle.direction_table.specs.Faults.{HasNoFault}
-use Rattle.direction_table.specs.Gons.{point, signed}
+use Rattle.direction_table.specs.Gons.{signed}
 use Rattle.direction_table.specs.Rows.{beside_name}
 use Rattle.direction_table.specs.Tables.{stated_by}
 use Rattle.adjust_kernel.specs.declared.units.TheConstants.{CIRCLE, PARTS}
@@ -15,8 +17,8 @@ use Rattle.direction_table.specs.declared.reading.TheConstants.{LONGEST_TABLE}
 use Rattle.direction_table.specs.declared.unit.AngleUnit.TheVariants.{Gon}
 
 -- A minus, or nothing.
-abbrev pub minus : Bool → List ℕ
-minus negative = if negative then 45 ∷ [] else []
+abbrev pub plain_sign : Bool → List ℕ
+plain_sign negative = if negative then minus ∷ [] else []
 
 -- A point and the decimals after it, or nothing.
 abbrev pub after_point : List ℕ → List ℕ
@@ -34,7 +36,7 @@ pub record IsPlainDirection (field : List ℕ) (direction : ℤ) : Type 0 where
   pub negative : Bool
   pub whole : List ℕ
   pub decimals : List ℕ
-  pub spelled : field ≡ minus negative ++ (whole ++ after_point decimals)
+  pub spelled : field ≡ plain_sign negative ++ (whole ++ after_point decimals)
   pub some : 1 ≤ length whole
   pub short : length whole ≤ 3
   pub few : length decimals ≤ 9

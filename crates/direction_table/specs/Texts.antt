@@ -3,15 +3,19 @@ use Rattle.std.specs.Prelude.{◌≡◌, ℕ, zero, suc, ◌+◌, ◌-◌, ◌^�
 use Rattle.std.specs.Prelude.{◌++◌}
 use Rattle.std.specs.Fmt.{decimal}
 use Rattle.sheet_format.specs.Numbers.{zero_digit}
-use Rattle.direction_table.specs.Gons.{point}
+use Rattle.direction_table.specs.DecimalNumbers.{point}
 use Rattle.direction_table.specs.declared.decimals.TheConstants.{MOST_WRITTEN}
 use Rattle.adjust_kernel.specs.declared.units.TheConstants.{CIRCLE}
+
+-- The last digit of a number, as text.
+abbrev pub last_digit : ℕ → ℕ
+last_digit n = zero_digit + n % 10
 
 -- The first so many decimals of a direction, each as a digit (the place notation of decimals).
 abbrev pub decimals_of : ℕ → ℕ → List ℕ
 decimals_of zero direction = []
 decimals_of (suc k) direction =
-    decimals_of k direction ++ ((zero_digit + direction / 10 ^ (8 - k) % 10) ∷ [])
+    decimals_of k direction ++ (last_digit (direction / 10 ^ (8 - k)) ∷ [])
 
 -- A direction as text: the gon, a point, and so many decimals (profile).
 abbrev pub direction_text : ℕ → ℕ → List ℕ

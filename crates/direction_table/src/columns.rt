@@ -25,7 +25,7 @@ pub(crate) struct Columns<'a> {
 impl<'a> Columns<'a> {
     /// The columns of a row, if it has two, and after them none that isn't blank.
     #[tactic(auto, using(crate::proofs::TwoColumns::columns_tidy))]
-    pub(crate) fn of(targets: &[Name], row: &'a ByteRecord) -> Option<Columns<'a>>
+    pub(crate) fn parse(targets: &[Name], row: &'a ByteRecord) -> Option<Columns<'a>>
         ensures { option_map two_columns_view result
             ≡ two_columns_of (tidy targets.now (fields_of row.now)) }
     {

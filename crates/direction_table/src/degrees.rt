@@ -4,11 +4,13 @@ ghost use Rattle.std.specs.Prelude.{◌≡◌, ◌<◌, ◌≤◌, ◌==◌, ◌
 ghost use Rattle.std.specs.Prelude.{IfNone, OnSome};
 ghost use Rattle.std.specs.List.{list_any, position};
 ghost use Rattle.std.specs.Str.Parse.{digits_value};
+ghost use Rattle.direction_table.specs.DecimalNumbers.{decimals_part};
 ghost use Rattle.direction_table.specs.Degrees as spec;
-ghost use Rattle.direction_table.specs.Gons as gons;
+ghost use Rattle.direction_table.specs.Gons.{size_value};
 
+use crate::decimal::{after_first, whole_of};
 use crate::direction::{Angle, COARSEST_STEP, SECOND_PARTS};
-use crate::gon::{after_first, size_of, whole_of};
+use crate::gon::{MOST_WHOLE, size_of};
 
 /// Parts in a degree.
 pub const DEGREE: u64 = 90_000_000_000;
@@ -96,7 +98,7 @@ pub(crate) fn has_minutes(bytes: &[u8]) -> bool
 
 /// Whether bytes have the sign of degrees.
 fn has_sign(bytes: &[u8]) -> bool
-    ensures { result ≡ list_any (λ b. b == 194) bytes.now }
+    ensures { result ≡ list_any (λ b. b == spec.degree_sign) bytes.now }
 {
     bytes.iter().any(|b| *b == DEGREE_SIGN)
 }
@@ -156,7 +158,7 @@ fn degrees_of(digits: &[u8]) -> Option<u64>
     if digits.is_empty() {
         return None;
     }
-    whole_of(digits)
+    whole_of(digits, MOST_WHOLE)
 }
 
 /// Minutes of two digits, below 60.
@@ -169,7 +171,7 @@ fn minutes_of(digits: &[u8]) -> Option<u64>
     if digits.len() != SIXTIETHS_DIGITS {
         return None;
     }
-    let number = whole_of(digits)?;
+    let number = whole_of(digits, MOST_WHOLE)?;
     if number >= SIXTIETHS {
         return None;
     }
@@ -185,9 +187,9 @@ struct Seconds {
 
 /// Seconds of two digits and any decimals, below 60.
 fn seconds_of(bytes: &[u8]) -> Option<Seconds>
-    ensures value { IfSome result (λ seconds. seconds.value ≡ gons.size_value bytes.now) }
+    ensures value { IfSome result (λ seconds. seconds.value ≡ size_value bytes.now) }
     ensures decimals { IfSome result
-        (λ seconds. seconds.decimals ≡ length (gons.decimals_part bytes.now)) }
+        (λ seconds. seconds.decimals ≡ length (decimals_part bytes.now)) }
     ensures some { OnSome result (spec.are_seconds bytes.now ≡ true) }
     ensures none { IfNone result (spec.are_seconds bytes.now ≡ false) }
 {

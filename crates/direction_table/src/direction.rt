@@ -3,11 +3,13 @@
 ghost use Rattle.std.specs.Prelude.{◌≡◌, ◌<◌, ◌≤◌, ◌*◌, length, pos, true, false, IfSome, IfNone};
 ghost use Rattle.std.specs.Prelude.{OnSome};
 ghost use Rattle.adjust_kernel.specs.Within.{IsWithin};
+ghost use Rattle.direction_table.specs.DecimalNumbers.{decimals_part};
 ghost use Rattle.direction_table.specs.Directions as spec;
 ghost use Rattle.direction_table.specs.Gons as gons;
 
+use crate::decimal::Size;
 use crate::degrees::{has_minutes, sexagesimal_of};
-use crate::gon::{GON, MOST_DECIMALS, Size, size_of};
+use crate::gon::{GON, MOST_DECIMALS, size_of};
 use crate::unit::AngleUnit;
 use adjust_kernel::{CIRCLE, PARTS};
 
@@ -55,7 +57,7 @@ fn decimal_of(bytes: &[u8], parts: u64) -> Option<Angle>
     requires { parts ≤ DEGREE_PARTS }
     ensures size { IfSome result (λ angle. angle.size ≡ parts * gons.size_value bytes.now) }
     ensures step { IfSome result (λ angle.
-        angle.step ≡ parts * spec.last_unit (length (gons.decimals_part bytes.now))
+        angle.step ≡ parts * spec.last_unit (length (decimals_part bytes.now))
         (gons.size_value bytes.now)) }
     ensures bound { IfSome result (λ angle. angle.step ≤ COARSEST_STEP) }
     ensures some { OnSome result (gons.is_size bytes.now ≡ true) }

@@ -40,7 +40,7 @@ pub(crate) fn take_row(
         faults.stating_fault unit targets.now before (tidy targets.now (fields_of row.now))
         ≡ Some kind)) }
 {
-    let columns = Columns::of(targets, row).ok_or(RowKind::Fields)?;
+    let columns = Columns::parse(targets, row).ok_or(RowKind::Fields)?;
     let entry = entry_of(unit, &columns, targets)?;
     if directions[entry.place].is_some() {
         return Err(RowKind::Twice);

@@ -7,6 +7,7 @@
 #![tactic(auto)]
 
 mod columns;
+mod decimal;
 mod decimals;
 mod degrees;
 mod direction;
@@ -24,6 +25,7 @@ mod table;
 mod text;
 mod unit;
 
+pub use decimal::{MOST_DIGITS, Size, read_decimal};
 pub use decimals::{Decimals, MOST_WRITTEN};
 pub use direction::CIRCLE_PARTS;
 pub use fault::{RowKind, TableFault};

@@ -80,11 +80,11 @@ none_broken room front plain short le =
     (within_part room front plain short le)
 
 -- After a part and one more byte, the limit is first broken where it is with both before it.
-behind : (room : ℕ) (part : List ℕ) (byte : ℕ) (rest : List ℕ) → HasNoEnd part → length part ≤ 1024
+beyond : (room : ℕ) (part : List ℕ) (byte : ℕ) (rest : List ℕ) → HasNoEnd part → length part ≤ 1024
     → length part ≤ room → shortest_front (breaks room) (part ++ byte ∷ rest)
     ≡ option_map (λ g. part ++ g) (option_map (λ g. byte ∷ g)
     (shortest_front (λ f. breaks room (part ++ byte ∷ f)) rest))
-behind room part byte rest plain short le =
+beyond room part byte rest plain short le =
     first_after (breaks room) part (byte ∷ rest) (not_broken room part plain short le)
     ∙ ap (λ f. option_map (λ g. part ++ g) (cond (breaks room f) (Some [])
     (option_map (λ g. byte ∷ g) (shortest_front (λ f. breaks room (part ++ byte ∷ f)) rest))))
@@ -185,7 +185,7 @@ pub answers_line : (room : ℕ) (part : List ℕ) (sep : ℕ) (rest : List ℕ) 
 answers_line room part sep rest fails plain end short lt =
     let le : length part ≤ room = omega arith in
     same_answers room (part ++ sep ∷ rest) fails
-    ∙ ap (answers_by room (part ++ sep ∷ rest) fails) (behind room part sep rest plain short le)
+    ∙ ap (answers_by room (part ++ sep ∷ rest) fails) (beyond room part sep rest plain short le)
     ∙ ap (λ o. answers_by room (part ++ sep ∷ rest) fails
     (option_map (λ g. part ++ g) (option_map (λ g. sep ∷ g) o)))
     (same_first (λ f. breaks room (part ++ sep ∷ f)) (breaks (room - (length part + 1))) rest
@@ -206,7 +206,7 @@ broken : (room : ℕ) (front : List ℕ) (byte : ℕ) (rest : List ℕ) (fails :
     }
 broken room front byte rest fails plain short le bad =
     same_answers room (front ++ byte ∷ rest) fails
-    ∙ ap (answers_by room (front ++ byte ∷ rest) fails) (behind room front byte rest plain short le
+    ∙ ap (answers_by room (front ++ byte ∷ rest) fails) (beyond room front byte rest plain short le
     ∙ ap (λ o. option_map (λ g. front ++ g) (option_map (λ g. byte ∷ g) o))
     (first_here (λ f. breaks room (front ++ byte ∷ f)) rest (ap not bad)))
     ∙ ap (λ (zs : List ℕ). record {

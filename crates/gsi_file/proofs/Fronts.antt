@@ -15,11 +15,11 @@ map_same : (o : Option (List ℕ)) → o ≡ option_map (λ f. f) o
 map_same None = refl
 map_same (Some f) = refl
 
-map_behind : (x : ℕ) (front : List ℕ) (o : Option (List ℕ))
+map_beyond : (x : ℕ) (front : List ℕ) (o : Option (List ℕ))
     → option_map (λ f. x ∷ f) (option_map (λ f. front ++ f) o)
     ≡ option_map (λ f. x ∷ (front ++ f)) o
-map_behind x front None = refl
-map_behind x front (Some f) = refl
+map_beyond x front None = refl
+map_beyond x front (Some f) = refl
 
 -- Tests that agree pass the same first bytes.
 pub same_first : (p q : List ℕ → Bool) (xs : List ℕ) → ((f : List ℕ) → p f ≡ q f)
@@ -42,4 +42,4 @@ first_after p (x ∷ front) rest h =
     (shortest_front (λ f. p (x ∷ f)) (front ++ rest)))) here
     ∙ ap (option_map (λ f. x ∷ f)) (first_after (λ f. p (x ∷ f)) front rest
     (λ i lt. h (suc i) (omega arith)))
-    ∙ map_behind x front (shortest_front (λ f. p (x ∷ (front ++ f))) rest)
+    ∙ map_beyond x front (shortest_front (λ f. p (x ∷ (front ++ f))) rest)

@@ -203,10 +203,7 @@ impl<R: Source> Lines<R> {
         };
         self.window.set_line(found);
         self.room = found.room;
-        let shape = match check_line(self.window.line(), found.printable) {
-            Ok(shape) => shape,
-            Err(kind) => return Err(kind),
-        };
+        let shape = check_line(self.window.line(), found.printable)?;
         self.count += 1;
         if found.last {
             self.state = State::End;

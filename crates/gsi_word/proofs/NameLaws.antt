@@ -99,11 +99,11 @@ abbrev zeros : List ℕ → ℕ
 zeros bytes = prefix_len (λ b. b == 48) bytes
 
 -- Without the zeros before it a content is its name; of zeros alone the last one stays.
-pub name_behind : (n : ℕ) (bytes : List ℕ) → n ≤ zeros bytes → n < length bytes → (n ≡ zeros bytes)
+pub name_beyond : (n : ℕ) (bytes : List ℕ) → n ≤ zeros bytes → n < length bytes → (n ≡ zeros bytes)
     ⊎ (n + 1 ≡ length bytes) → drop n bytes ≡ name_of bytes
-name_behind zero bytes le lt h = name_kept bytes (first_kept bytes h)
-name_behind (suc n) [] le lt h = absurd (omega (arith, lt))
-name_behind (suc n) (b ∷ bytes) le lt h = split (name_behind n bytes) (b == 48) refl where
+name_beyond zero bytes le lt h = name_kept bytes (first_kept bytes h)
+name_beyond (suc n) [] le lt h = absurd (omega (arith, lt))
+name_beyond (suc n) (b ∷ bytes) le lt h = split (name_beyond n bytes) (b == 48) refl where
   rest : zeros (b ∷ bytes) ≡ 1 + zeros bytes → (suc n ≡ zeros (b ∷ bytes))
       ⊎ (suc n + 1 ≡ length (b ∷ bytes)) → (n ≡ zeros bytes) ⊎ (n + 1 ≡ length bytes)
   rest more (inl is) = inl (omega (arith, is, more))

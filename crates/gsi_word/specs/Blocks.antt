@@ -4,6 +4,7 @@ use Rattle.std.specs.Prelude.{◌≡◌, ℕ, ◌<◌, Bool, nat_eq, codes, List
 use Rattle.std.specs.Prelude.{map, All, replicate, if◌then◌else◌, ◌⊎◌}
 use Rattle.std.specs.List.{join_with_byte, starts_with}
 use Rattle.gsi_word.specs.declared.index.TheConstants.{POINT_NUMBER, CODE_NUMBER}
+use Rattle.gsi_word.specs.declared.word.TheConstants.{GSI_8, GSI_16}
 use Rattle.gsi_word.specs.Bytes.{blank}
 use Rattle.gsi_word.specs.Words.{GsiWord, IsWord, spelled}
 
@@ -18,7 +19,7 @@ is_starred line = starts_with nat_eq line (codes "*")
 
 -- How many bytes the content of each word of a line has.
 abbrev pub width_of : List ℕ → ℕ
-width_of line = if is_starred line then 16 else 8
+width_of line = if is_starred line then GSI_16 else GSI_8
 
 -- The bytes of a line in which its words stand: all, or those after the `*`.
 abbrev pub word_bytes : List ℕ → List ℕ

@@ -5,6 +5,7 @@ use Rattle.std.specs.Prelude.{nat_le, ◌==◌, IsTrue, List, [], ◌∷◌, len
 use Rattle.std.specs.Char.{is_ascii_digit}
 use Rattle.std.specs.Int.{is_in_range}
 use Rattle.std.specs.List.{list_any}
+use Rattle.gsi_word.specs.declared.word.TheConstants.{GSI_8, GSI_16}
 use Rattle.gsi_word.specs.Bytes.{blank, plus, minus, zero_digit, nine_digit}
 use Rattle.gsi_word.specs.Words.{GsiWord, IsWord}
 
@@ -38,7 +39,7 @@ words_from width (suc n) bytes =
 
 -- GSI-8 or GSI-16.
 abbrev pub is_width : ℕ → Bool
-is_width width = width == 8 || width == 16
+is_width width = width == GSI_8 || width == GSI_16
 
 -- Two digits stand first.
 pub record HasIndex (bytes : List ℕ) : Type 0 where

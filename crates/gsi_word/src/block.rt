@@ -24,11 +24,12 @@ impl<'a> Block<'a> {
     ghost use Rattle.gsi_word.specs.BlockViews.{block_of, words_left};
     ghost use Rattle.gsi_word.specs.FoundWords.{found};
     ghost use Rattle.gsi_word.specs.declared.found.Found.TheVariants.{One};
+    ghost use Rattle.gsi_word.specs.declared.word.TheConstants.{GSI_8, GSI_16};
 
     /// How many bytes the content of each word has: 8, or 16 in a line that begins with `*`.
     pub fn width(&self) -> u8
         ensures value { result ≡ (block_of self.now).width }
-        ensures known { (result ≡ 8) ⊎ (result ≡ 16) }
+        ensures known { (result ≡ GSI_8) ⊎ (result ≡ GSI_16) }
     {
         self.width
     }

@@ -5,6 +5,7 @@ ghost use Rattle.std.specs.Prelude.{true};
 ghost use Rattle.std.specs.Char.{is_ascii_digit};
 ghost use Rattle.std.specs.List.{list_all};
 ghost use Rattle.gsi_word.specs.Angles.{decimal_number, decimal_value};
+ghost use Rattle.gsi_word.specs.declared.word.TheConstants.{GSI_16};
 
 use crate::word::{GSI_8, GSI_16};
 use std::simd::prelude::*;
@@ -18,7 +19,7 @@ const WORTH_BEFORE_EIGHT: u64 = 100_000_000;
 /// The number that the bytes write, or `None` where one of them is no digit. No bytes write 0.
 #[inline(always)]
 pub fn decimal_number(bytes: &[u8]) -> Option<u64>
-    requires { length bytes.now ≤ 16 }
+    requires { length bytes.now ≤ GSI_16 }
     ensures { result ≡ decimal_number bytes.now }
 {
     if bytes.len() == GSI_8 {
@@ -35,7 +36,7 @@ pub fn decimal_number(bytes: &[u8]) -> Option<u64>
 // stay small.
 #[inline(never)]
 fn number_one_by_one(bytes: &[u8]) -> Option<u64>
-    requires { length bytes.now ≤ 16 }
+    requires { length bytes.now ≤ GSI_16 }
     ensures { result ≡ decimal_number bytes.now }
 {
     let mut number = 0;
@@ -63,7 +64,7 @@ fn number_of_eight(bytes: &[u8]) -> Option<u64>
 /// `decimal_number` of sixteen bytes: one test for all of them, and then each half as eight.
 #[inline(always)]
 fn number_of_sixteen(bytes: &[u8]) -> Option<u64>
-    requires { length bytes.now ≡ 16 }
+    requires { length bytes.now ≡ GSI_16 }
     ensures { result ≡ decimal_number bytes.now }
 {
     if !are_digits(bytes) {

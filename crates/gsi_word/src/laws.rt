@@ -11,6 +11,7 @@ ghost use Rattle.gsi_word.specs.declared.angle.TheConstants.{LAST_UNIT};
 ghost use Rattle.gsi_word.specs.declared.index.TheConstants.{POINT_NUMBER, HORIZONTAL_DIRECTION};
 ghost use Rattle.gsi_word.specs.declared.index.TheConstants.{VERTICAL_ANGLE, CODE_NUMBER};
 ghost use Rattle.gsi_word.specs.declared.index.TheConstants.{CODE_INFORMATION};
+ghost use Rattle.gsi_word.specs.declared.word.TheConstants.{GSI_8, GSI_16};
 
 /// A line is one block at most: it has one width and one list of words.
 pub fn one_block()
@@ -47,7 +48,7 @@ pub fn one_angle()
     ensures { (word : GsiWord) (units : ℕ) → (angle_of word ≡ Ok units) ↔ IsAngle word units }
 {}
 
-/// The indices and the greatest angle, in digits.
+/// The indices, the greatest angle and the widths, in digits.
 pub fn indices()
     ensures point_number { POINT_NUMBER ≡ 11 }
     ensures horizontal_direction { HORIZONTAL_DIRECTION ≡ 21 }
@@ -55,4 +56,6 @@ pub fn indices()
     ensures code_number { CODE_NUMBER ≡ 41 }
     ensures code_information { CODE_INFORMATION ≡ 42 }
     ensures last_unit { LAST_UNIT ≡ 39999999 }
+    ensures gsi_8 { GSI_8 ≡ 8 }
+    ensures gsi_16 { GSI_16 ≡ 16 }
 {}

@@ -32,5 +32,5 @@ pub use index::{
 };
 pub use line::read_block;
 pub use line_fault::LineFault;
-pub use word::Word;
+pub use word::{GSI_8, GSI_16, Word};
 pub use words::Words;

@@ -19,10 +19,10 @@ pub(crate) const SIGN: usize = 6;
 pub(crate) const CONTENT: usize = 7;
 
 /// How many bytes the content of a word has in a GSI-8 line.
-pub(crate) const GSI_8: usize = 8;
+pub const GSI_8: usize = 8;
 
 /// How many bytes the content of a word has in a GSI-16 line.
-pub(crate) const GSI_16: usize = 16;
+pub const GSI_16: usize = 16;
 
 /// A word of a block: its bytes in the line.
 #[derive(Debug, Drop)]
@@ -48,6 +48,7 @@ impl<'a> Word<'a> {
     ghost use Rattle.gsi_word.specs.Names.{name_of};
     ghost use Rattle.gsi_word.specs.Angles.{angle_of};
     ghost use Rattle.gsi_word.specs.declared.angle.TheConstants.{LAST_UNIT};
+    ghost use Rattle.gsi_word.specs.declared.word.TheConstants.{GSI_8, GSI_16};
 
     /// What the word is: 11 a point number, 21 a horizontal direction, 22 a vertical angle, 41 a
     /// code, 42 its first information.
@@ -95,7 +96,7 @@ impl<'a> Word<'a> {
     /// The 8 or 16 bytes of content.
     pub fn content(&self) -> &'a [u8]
         ensures value { result.now ≡ self.now.content }
-        ensures width { (length result.now ≡ 8) ⊎ (length result.now ≡ 16) }
+        ensures width { (length result.now ≡ GSI_8) ⊎ (length result.now ≡ GSI_16) }
         ensures printable { All IsLineByte result.now }
     {
         &self.bytes[CONTENT..]
@@ -107,7 +108,7 @@ impl<'a> Word<'a> {
     pub fn name(&self) -> &'a [u8]
         ensures value { result.now ≡ name_of self.now.content }
         ensures some_byte { 0 < length result.now }
-        ensures short { length result.now ≤ 16 }
+        ensures short { length result.now ≤ GSI_16 }
         ensures printable { All IsLineByte result.now }
     {
         &self.content()[self.zeros()..]

@@ -4,6 +4,7 @@ ghost use Rattle.std.specs.Prelude.{◌≡◌, ◌<◌, ◌==◌, length, drop, 
 ghost use Rattle.std.specs.List.{prefix_len};
 ghost use Rattle.gsi_word.specs.Bytes.{zero_digit};
 ghost use Rattle.gsi_word.specs.Names.{name_of};
+ghost use Rattle.gsi_word.specs.declared.word.TheConstants.{GSI_8, GSI_16};
 
 use crate::lanes::lowest_lane;
 use crate::word::{GSI_8, GSI_16};
@@ -12,7 +13,7 @@ use std::simd::prelude::*;
 /// How many zeros stand before the name that a content holds, at least one byte kept.
 #[inline(always)]
 pub(crate) fn zeros_before(content: &[u8]) -> usize
-    requires { (length content.now ≡ 8) ⊎ (length content.now ≡ 16) }
+    requires { (length content.now ≡ GSI_8) ⊎ (length content.now ≡ GSI_16) }
     ensures name { drop result content.now ≡ name_of content.now }
     ensures some_byte { result < length content.now }
 {
@@ -27,7 +28,7 @@ pub(crate) fn zeros_before(content: &[u8]) -> usize
 /// How many zeros the content begins with. All its bytes are looked at together.
 #[inline(always)]
 fn leading_zeros(content: &[u8]) -> usize
-    requires { (length content.now ≡ 8) ⊎ (length content.now ≡ 16) }
+    requires { (length content.now ≡ GSI_8) ⊎ (length content.now ≡ GSI_16) }
     ensures { result ≡ prefix_len (λ b. b == zero_digit) content.now }
 {
     if content.len() == GSI_8 {

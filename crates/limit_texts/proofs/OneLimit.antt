@@ -4,8 +4,8 @@ use Rattle.std.proofs.Common.{ap, codes, cond, drop, inl, inr, pos, refl, sym}
 use Rattle.std.specs.Prelude.{◌/◌}
 use Rattle.std.specs.Str.Parse.{AllDigits, IsNumeral, without_leading_sign}
 use Rattle.std.proofs.lemmas.List.{append_cancel_right}
-use Rattle.limit_texts.specs.Decimals.{thousandths_value}
 use Rattle.limit_texts.specs.Limits.{StatesLimit, StatesMgon, StatesUnits, thousandths_in}
+use Rattle.limit_texts.specs.Limits.{thousandths_value}
 use Rattle.limit_texts.specs.declared.limit.LimitUnit.{LimitUnit}
 use Rattle.limit_texts.specs.declared.limit.LimitUnit.TheVariants.{Hundredth, HalfUnit, Thousandth}
 use Rattle.limit_texts.proofs.Quotients.{is-quotient, stated-thousandths}

@@ -4,8 +4,7 @@ use Rattle.std.specs.Prelude.{◌/◌, ◌%◌}
 use Rattle.std.proofs.Math.Nat.{mul-div_cancel, mul-mod_left}
 use Rattle.std.proofs.lemmas.List.{append_cancel_right}
 use Rattle.std.proofs.lemmas.Nat.{div-add-mod'}
-use Rattle.limit_texts.specs.Decimals.{thousandths_value}
-use Rattle.limit_texts.specs.Limits.{StatesMgon}
+use Rattle.limit_texts.specs.Limits.{StatesMgon, thousandths_value}
 
 -- The number before `mgon` is one.
 pub same-number : (unit : ℕ) (text number : List ℕ) (limit : ℕ) → text ≡ number ++ codes "mgon"

@@ -1,3 +1,2 @@
--- The public definitions, which public contracts cite, in the order in which a reader needs them.
-pub mod Decimals
+-- The public definitions, which public contracts cite.
 pub mod Limits

@@ -1,8 +1,8 @@
 -- A limit as people state it: in mgon, as `0.3mgon`, or as a number of the units in which it is
 -- counted (profile).
-use Rattle.std.specs.Prelude.{◌≡◌, ◌⊎◌, ℕ, ◌*◌, true, List, ◌++◌, codes, pos}
+use Rattle.std.specs.Prelude.{◌≡◌, ◌⊎◌, ℕ, ◌*◌, Bool, true, List, ◌++◌, codes, pos}
 use Rattle.std.specs.Str.Parse.{IsNumeral, signed_digits_value, without_leading_sign}
-use Rattle.limit_texts.specs.Decimals.{is_number, thousandths_value}
+use Rattle.direction_table.specs.DecimalNumbers.{decimal_value, is_decimal}
 use Rattle.limit_texts.specs.declared.limit.LimitUnit.{LimitUnit}
 use Rattle.limit_texts.specs.declared.limit.LimitUnit.TheVariants.{Hundredth, HalfUnit, Thousandth}
 
@@ -11,6 +11,15 @@ abbrev pub thousandths_in : LimitUnit → ℕ
 thousandths_in Hundredth = 10
 thousandths_in HalfUnit = 5
 thousandths_in Thousandth = 1
+
+-- A number of mgon without a sign: at most nine digits before its point or comma, and any number
+-- after it, of which those after the third are 0 (profile).
+abbrev pub is_number : List ℕ → Bool
+is_number bytes = is_decimal 9 3 bytes
+
+-- The number that such bytes write, in thousandths.
+abbrev pub thousandths_value : List ℕ → ℕ
+thousandths_value bytes = decimal_value 3 bytes
 
 -- The text is a number of mgon with `mgon` after it, and is so many units of `unit` thousandths of
 -- a mgon: neither more nor less.

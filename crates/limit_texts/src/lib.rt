@@ -7,6 +7,5 @@
 
 pub mod laws;
 mod limit;
-mod number;
 
 pub use limit::{LimitUnit, limit_stated};

@@ -1,10 +1,17 @@
 //! The limit that a text states.
 
 ghost use Rattle.std.specs.Prelude.{◌≡◌, ◌≢◌, ◌<◌, ◌≤◌, ◌^◌, ◌++◌, ℕ, List, IfNone, IfSome};
-ghost use Rattle.std.specs.Prelude.{MatchOption, codes};
-ghost use Rattle.limit_texts.specs.Limits.{StatesLimit, StatesMgon, StatesUnits, thousandths_in};
+ghost use Rattle.std.specs.Prelude.{MatchOption, OnSome, codes, true, false};
+ghost use Rattle.limit_texts.specs.Limits.{StatesLimit, StatesMgon, StatesUnits, is_number};
+ghost use Rattle.limit_texts.specs.Limits.{thousandths_in, thousandths_value};
 
-use crate::number::thousandths_of;
+use direction_table::read_decimal;
+
+/// The most digits before the point of a number of mgon.
+const MOST_WHOLE: usize = 9;
+
+/// The decimals of a number of mgon that count: those after them are 0.
+const MOST_DECIMALS: usize = 3;
 
 /// The unit in which a limit is counted.
 #[derive(Clone, Copy, Debug, PartialEq, Eq)]
@@ -81,6 +88,16 @@ fn before_mgon(text: &[u8]) -> Option<&[u8]>
         (λ number. text.now ≡ number.now ++ codes "mgon") }
 {
     text.strip_suffix(b"mgon")
+}
+
+/// The number of mgon that bytes write, in thousandths.
+fn thousandths_of(bytes: &[u8]) -> Option<u64>
+    ensures value { IfSome result (λ number. number ≡ thousandths_value bytes.now) }
+    ensures some { OnSome result (is_number bytes.now ≡ true) }
+    ensures none { IfNone result (is_number bytes.now ≡ false) }
+{
+    let size = read_decimal(bytes, MOST_WHOLE, MOST_DECIMALS)?;
+    Some(size.value)
 }
 
 /// A number, if 32 bits hold it.

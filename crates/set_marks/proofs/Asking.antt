@@ -50,13 +50,13 @@ placed_among (n ∷ names) (suc place) name other is e =
     or_right (bytes_eq n name) (is_among names name) (placed_among names place name other is e)
 
 -- With a reading more, where the sets end.
-pub end_behind : (known : List (List ℕ)) (end at : ℕ) (rs : List Sight) (r : Sight)
+pub end_beyond : (known : List (List ℕ)) (end at : ℕ) (rs : List Sight) (r : Sight)
     → end_of known end at (rs ++ r ∷ [])
     ≡ (if is_among known r.target then at + (length rs + 1) else end_of known end at rs)
-end_behind known end at [] r =
+end_beyond known end at [] r =
     ap (λ (k : ℕ). if is_among known r.target then k else end) (omega arith)
-end_behind known end at (s ∷ rs) r =
-    end_behind known (if is_among known s.target then suc at else end) (suc at) rs r
+end_beyond known end at (s ∷ rs) r =
+    end_beyond known (if is_among known s.target then suc at else end) (suc at) rs r
     ∙ ap (λ (k : ℕ). if is_among known r.target then k else
     end_of known (if is_among known s.target then suc at else end) (suc at) rs) (omega arith)
 
@@ -203,13 +203,13 @@ pub end_here : (known : List (List ℕ)) (rs rest : List Sight) (r : Sight) → 
 end_here known rs rest r is e =
     let long : length rs ≡ 0 + (length rest + 1) =
     ap length is ∙ length-append rest (r ∷ []) ∙ omega arith in
-    long ∙ sym (ap (λ l. end_of known 0 0 l) is ∙ end_behind known 0 0 rest r
+    long ∙ sym (ap (λ l. end_of known 0 0 l) is ∙ end_beyond known 0 0 rest r
     ∙ ap (λ b. if b then 0 + (length rest + 1) else end_of known 0 0 rest) e)
 
 pub end_before : (known : List (List ℕ)) (rs rest : List Sight) (r : Sight) → rs ≡ rest ++ r ∷ []
     → is_among known r.target ≡ false → end_of known 0 0 rest ≡ end_of known 0 0 rs
 end_before known rs rest r is e =
-    sym (ap (λ l. end_of known 0 0 l) is ∙ end_behind known 0 0 rest r
+    sym (ap (λ l. end_of known 0 0 l) is ∙ end_beyond known 0 0 rest r
     ∙ ap (λ b. if b then 0 + (length rest + 1) else end_of known 0 0 rest) e)
 
 -- Where no reading of a set is left, it repeats what is left of the other if that is nothing.

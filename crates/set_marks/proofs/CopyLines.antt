@@ -21,7 +21,7 @@ use Rattle.set_marks.specs.Copies.{woven}
 use Rattle.set_marks.specs.MarkedFile.{codes_before, with_codes}
 use Rattle.set_marks.proofs.Identity.{is_block}
 use Rattle.set_marks.proofs.CodeLineText.{text_has_no_end}
-use Rattle.set_marks.proofs.WholeLines.{LastEnds, last_behind}
+use Rattle.set_marks.proofs.WholeLines.{LastEnds, last_beyond}
 use Rattle.set_marks.proofs.Unmarked.{line_ends}
 use Rattle.set_marks.proofs.Segments.{AreUp, AreFrom, from_later, none_before, earlier_codes}
 use Rattle.set_marks.proofs.NumberedLines.{numbered_append, one_numbered, one_part, some_part}
@@ -77,39 +77,39 @@ numbered_codes bytes at (m ∷ ms) more roomy =
     (text_is_line m.wide m.code) i ++ numbered_codes bytes at ms more roomy.1 i)
 
 -- each code line stands at this place or after it
-abbrev AreBehind : ℕ → List Mark → Type 0
-AreBehind at ms = AllByRecursion (λ m. at ≤ m.at) ms
+abbrev AreBeyond : ℕ → List Mark → Type 0
+AreBeyond at ms = AllByRecursion (λ m. at ≤ m.at) ms
 
-behind_both : (at : ℕ) (first ms : List Mark) → AreBehind at first → AreBehind at ms
-    → AreBehind at (first ++ ms)
-behind_both at [] ms a b = b
-behind_both at (m ∷ first) ms a b = (a.0, behind_both at first ms a.1 b)
+beyond_both : (at : ℕ) (first ms : List Mark) → AreBeyond at first → AreBeyond at ms
+    → AreBeyond at (first ++ ms)
+beyond_both at [] ms a b = b
+beyond_both at (m ∷ first) ms a b = (a.0, beyond_both at first ms a.1 b)
 
-behind_here : (bytes : List ℕ) (from at : ℕ) (ms : List BlockMark) → from ≤ at
-    → AreBehind from (map (placed_at bytes at) ms)
-behind_here bytes from at [] le = tt
-behind_here bytes from at (m ∷ ms) le = (le, behind_here bytes from at ms le)
+beyond_here : (bytes : List ℕ) (from at : ℕ) (ms : List BlockMark) → from ≤ at
+    → AreBeyond from (map (placed_at bytes at) ms)
+beyond_here bytes from at [] le = tt
+beyond_here bytes from at (m ∷ ms) le = (le, beyond_here bytes from at ms le)
 
-placed_behind : (bytes : List ℕ) (from at number : ℕ) (ms : List BlockMark) (ps : List (List ℕ))
-    → from ≤ at → AreBehind from (placed_from bytes at number ms ps)
-placed_behind bytes from at number ms [] le = tt
-placed_behind bytes from at number ms (p ∷ ps) le = elim (cases_Bool (is_line p)) [
-  | inl h ↦ rw h (behind_both from (map (placed_at bytes at) (marks_of_block (suc number) ms))
+placed_beyond : (bytes : List ℕ) (from at number : ℕ) (ms : List BlockMark) (ps : List (List ℕ))
+    → from ≤ at → AreBeyond from (placed_from bytes at number ms ps)
+placed_beyond bytes from at number ms [] le = tt
+placed_beyond bytes from at number ms (p ∷ ps) le = elim (cases_Bool (is_line p)) [
+  | inl h ↦ rw h (beyond_both from (map (placed_at bytes at) (marks_of_block (suc number) ms))
       (placed_from bytes (at + length p + 1) (suc number) (marks_after (suc number) ms) ps)
-      (behind_here bytes from at (marks_of_block (suc number) ms) le)
-      (placed_behind bytes from (at + length p + 1) (suc number) (marks_after (suc number) ms) ps
+      (beyond_here bytes from at (marks_of_block (suc number) ms) le)
+      (placed_beyond bytes from (at + length p + 1) (suc number) (marks_after (suc number) ms) ps
       (omega arith)))
-  | inr h ↦ rw h (placed_behind bytes from (at + length p + 1) number ms ps (omega arith))
+  | inr h ↦ rw h (placed_beyond bytes from (at + length p + 1) number ms ps (omega arith))
 ]
 
-woven_on : (from at : ℕ) (bytes : List ℕ) (ms : List Mark) → from ≤ at → AreBehind at ms
+woven_on : (from at : ℕ) (bytes : List ℕ) (ms : List Mark) → from ≤ at → AreBeyond at ms
     → woven from bytes ms ≡ take (at - from) (drop from bytes) ++ woven at bytes ms
-woven_on from at bytes [] le behind =
+woven_on from at bytes [] le beyond =
     sym (take-append-drop (at - from) (drop from bytes))
     ∙ ap (λ (bs : List ℕ). take (at - from) (drop from bytes) ++ bs)
     (drop-drop (at - from) from bytes ∙ ap (λ (k : ℕ). drop k bytes) (omega arith))
-woven_on from at bytes (m ∷ ms) le behind =
-    let later = behind.0 in
+woven_on from at bytes (m ∷ ms) le beyond =
+    let later = beyond.0 in
     let rest = line_of m ++ woven m.at bytes ms in
     ap (λ (k : ℕ). take k (drop from bytes) ++ rest)
     (let e : m.at - from ≡ (at - from) + (m.at - at) = omega (arith, later, le) in e)
@@ -162,7 +162,7 @@ with_line : (bytes : List ℕ) (at number : ℕ) (ms : List BlockMark) (p : List
     → numbered_lines
     (woven (at + length p + 1) bytes (placed_from bytes (at + length p + 1) n ls ps))
     ≡ lines_with n ls (filter is_line ps))
-    → ((later : List Mark) → AreBehind (at + length p + 1) later
+    → ((later : List Mark) → AreBeyond (at + length p + 1) later
     → woven at bytes later ≡ line ++ woven (at + length p + 1) bytes later)
     → ((more : List ℕ) → numbered_lines (line ++ more) ≡ numbered_lines line ++ numbered_lines more)
     → numbered_lines (woven at bytes (placed_from bytes at number ms (p ∷ ps)))
@@ -171,7 +171,7 @@ with_line bytes at number ms p ps line roomy one rest on joins =
     let next = at + length p + 1 in
     let first = marks_of_block (suc number) ms in
     let after = marks_after (suc number) ms in
-    let far = λ (n : ℕ) (ls : List BlockMark). placed_behind bytes next next n ls ps (omega arith)
+    let far = λ (n : ℕ) (ls : List BlockMark). placed_beyond bytes next next n ls ps (omega arith)
     in
     let later = placed_from bytes next (suc number) after ps in
     let same = placed_from bytes next number ms ps in
@@ -203,7 +203,7 @@ from_place bytes at number ms [] le e roomy = absurd (some_part (drop at bytes) 
 from_place bytes at number ms (p ∷ ps) le e roomy = elim (first_cut (drop at bytes) p ps e) [
   | inl a ↦ subst (λ (qs : List (List ℕ)). numbered_lines (woven at bytes
       (placed_from bytes at number ms (p ∷ qs))) ≡ lines_with number ms (filter is_line (p ∷ qs)))
-      (sym a.behind) (at_last bytes at number ms p a.is a.none roomy)
+      (sym a.beyond) (at_last bytes at number ms p a.is a.none roomy)
   | inr c ↦
       let next = at + length p + 1 in
       let long : length (drop at bytes) ≡ length p + suc (length c.rest) =
@@ -213,7 +213,7 @@ from_place bytes at number ms (p ∷ ps) le e roomy = elim (first_cut (drop at b
       let split : drop at bytes ≡ line ++ c.rest = c.is
       ∙ sym (append_assoc p (c.end ∷ []) c.rest) in
       let count : length line ≡ length p + 1 = length-append p (c.end ∷ []) in
-      let behind : drop next bytes ≡ c.rest =
+      let beyond : drop next bytes ≡ c.rest =
       ap (λ (k : ℕ). drop k bytes) (let q : next ≡ at + (length p + 1) = omega arith in q)
       ∙ sym (drop-drop (length p + 1) at bytes)
       ∙ ap (λ (bs : List ℕ). drop (length p + 1) bs) split
@@ -222,8 +222,8 @@ from_place bytes at number ms (p ∷ ps) le e roomy = elim (first_cut (drop at b
       ap (λ (k : ℕ). take k (drop at bytes)) (let q : next - at ≡ length p + 1 = omega arith in q)
       ∙ ap (λ (bs : List ℕ). take (length p + 1) bs) split
       ∙ take_at line c.rest (length p + 1) count in
-      let parted = ap (λ (bs : List ℕ). parts bs) behind ∙ c.behind in
-      let last : LastEnds line = last_behind p (c.end ∷ [])
+      let parted = ap (λ (bs : List ℕ). parts bs) beyond ∙ c.beyond in
+      let last : LastEnds line = last_beyond p (c.end ∷ [])
       (record { byte = c.end; rest = []; are = refl; last = c.ends }) in
       let one : numbered_lines line ≡ filter is_line (p ∷ [] ∷ []) =
       ap (λ (ps : List (List ℕ)). filter is_line ps)

@@ -87,7 +87,7 @@ well_from bytes at number ms [] le e begins roomy = absurd (some_part (drop at b
 well_from bytes at number ms (p ∷ ps) le e begins roomy = elim (first_cut (drop at bytes) p ps e) [
   | inl a ↦ subst
       (λ (qs : List (List ℕ)). AreWell bytes at (placed_from bytes at number ms (p ∷ qs)))
-      (sym a.behind) (well_line bytes at number ms p [] roomy begins
+      (sym a.beyond) (well_line bytes at number ms p [] roomy begins
       (has_first bytes at p [] (a.is ∙ sym (append-nil p)) a.none)
       (λ n ls r. record { ordered = le; each = tt }))
   | inr c ↦
@@ -99,7 +99,7 @@ well_from bytes at number ms (p ∷ ps) le e begins roomy = elim (first_cut (dro
       let split : drop at bytes ≡ line ++ c.rest = c.is
       ∙ sym (append_assoc p (c.end ∷ []) c.rest) in
       let count : length line ≡ length p + 1 = length-append p (c.end ∷ []) in
-      let behind : drop next bytes ≡ c.rest =
+      let beyond : drop next bytes ≡ c.rest =
       ap (λ (k : ℕ). drop k bytes) (let q : next ≡ at + (length p + 1) = omega arith in q)
       ∙ sym (drop-drop (length p + 1) at bytes)
       ∙ ap (λ (bs : List ℕ). drop (length p + 1) bs) split
@@ -108,7 +108,7 @@ well_from bytes at number ms (p ∷ ps) le e begins roomy = elim (first_cut (dro
       ap (λ (k : ℕ). get_or bytes k 0) (let q : next - 1 ≡ at + length p = omega arith in q)
       ∙ sym (get_or-drop at bytes (length p) 0)
       ∙ ap (λ (bs : List ℕ). get_or bs (length p) 0) c.is ∙ at_seam p c.end c.rest in
-      let parted = ap (λ (bs : List ℕ). parts bs) behind ∙ c.behind in
+      let parted = ap (λ (bs : List ℕ). parts bs) beyond ∙ c.beyond in
       let positive : 0 < next = omega arith in
       let again : BeginsAt bytes next =
       inr (positive, ap (λ (k : ℕ). is_line_end k) before ∙ c.ends) in

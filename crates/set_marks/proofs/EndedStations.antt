@@ -137,6 +137,9 @@ pub flawed_before : (old new : Readings) → is_some old.flaw ≡ true → new.m
 flawed_before old new some marking flaw = λ ended are.
     rw (marking, flaw) (flawed_by ended (open_in old) old.marking old.flaw some are)
 
+-- Where nothing is marked, nothing ends.
+pub ruleset nothing_ends = (none_open, flawed_before)
+
 at_most : (n : ℕ) (b : GsiBlock) → BeginBy n (set_up_in n b)
 at_most n b = elim (cases_Bool (sets_up b)) [
   | inl h ↦ rw h (omega arith, tt)

@@ -211,3 +211,6 @@ pub order_flaw_is : (first rs : List Sight) (a b c : Option Flaw) (o p q : Optio
     → first_of (a ∷ b ∷ c ∷ []) ≡ order_flaw first rs
 order_flaw_is first rs a b c o p q short apart elsewhere ea eb ec e1 e2 e3 e4 e5 e6 =
     rw (ea, eb, ec, e1, e2, e3, e4, e5, e6) refl
+
+-- What is known of a station whose sets are taken.
+pub ruleset with_sets = (few_sets, some_reading, has_room)

@@ -199,13 +199,13 @@ woven_is_copy from bytes (m ∷ ms) ordered begin =
     let piece = take (m.at - from) (drop from bytes) in
     let line = line_of m in
     let cut : Cut = record { piece = piece; line = line } in
-    let behind : drop (m.at - from) (drop from bytes) ≡ drop m.at bytes =
+    let beyond : drop (m.at - from) (drop from bytes) ≡ drop m.at bytes =
     drop-drop (m.at - from) from bytes ∙ ap (λ (k : ℕ). drop k bytes) (omega arith) in
     record {
       cuts = cut ∷ tail.cuts;
       rest = tail.rest;
       from = sym (take-append-drop (m.at - from) (drop from bytes))
-          ∙ ap (λ (r : List ℕ). piece ++ r) (behind ∙ tail.from)
+          ∙ ap (λ (r : List ℕ). piece ++ r) (beyond ∙ tail.from)
           ∙ sym (append_assoc piece (flat_map (λ (c : Cut). c.piece) tail.cuts) tail.rest);
       to = ap (λ (r : List ℕ). piece ++ (line ++ r)) tail.to
           ∙ sym (append_assoc piece line (flat_map joined tail.cuts ++ tail.rest))

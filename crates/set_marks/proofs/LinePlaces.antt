@@ -1,6 +1,6 @@
 -- Where lines begin, from one part of a file to the next, and code lines by these places.
-use Rattle.std.proofs.Common.{◌≡◌, ℕ, zero, suc, ◌+◌, ◌-◌, ◌<◌, ◌≤◌, Bool, true, false, List, [], ◌∷◌}
-use Rattle.std.proofs.Common.{◌++◌, length, take, drop, map, sym, ap, subst, ◌∙◌, append_assoc}
+use Rattle.std.proofs.Common.{◌≡◌, ℕ, zero, suc, ◌+◌, ◌-◌, ◌<◌, ◌≤◌, Bool, true, false, List, []}
+use Rattle.std.proofs.Common.{◌∷◌, ◌++◌, length, take, drop, map, sym, ap, subst, ◌∙◌, append_assoc}
 use Rattle.std.proofs.Common.{arith, get_or, inl, inr, refl, All, drop-cons, add-one}
 use Rattle.std.specs.Prelude.{slice_get, slice_index, if◌then◌else◌, None, Some}
 use Rattle.std.proofs.lemmas.Bool.{ne_eqb}
@@ -79,7 +79,8 @@ of_used at n used rest first (inr two) inside =
     of_first at n rest first
     ∙ ap (λ (l : List ℕ). begun_at (is_line (take n rest)) at ++ l)
     (of_first (at + (n + 1)) 0 (drop (n + 1) rest) next
-    ∙ ap (λ (l : List ℕ). begins_of (at + (n + 1) + (0 + 1)) (parts l)) (drop-drop (0 + 1) (n + 1) rest)
+    ∙ ap (λ (l : List ℕ). begins_of (at + (n + 1) + (0 + 1)) (parts l))
+    (drop-drop (0 + 1) (n + 1) rest)
     ∙ ap (λ (k : ℕ). begins_of k (parts (drop (n + 1 + (0 + 1)) rest))) (omega (arith, e))
     ∙ ap (λ (k : ℕ). begins_of (at + used) (parts (drop k rest))) (omega (arith, e)))
 
@@ -129,7 +130,8 @@ pub in_order : (b stated : Bool) (at next : ℕ) (part : List ℕ) (old new : Wa
     → TakesPart b stated at part old new → AreAscending 0 at old.begins.items → at ≤ next
     → AreAscending 0 next new.begins.items
 in_order b stated at next part old new takes ordered le =
-    subst (λ (l : List ℕ). AreAscending 0 next l) (sym (places_after b stated at part old new takes))
+    subst (λ (l : List ℕ). AreAscending 0 next l)
+    (sym (places_after b stated at part old new takes))
     (up_to 0 at next (old.begins.items ++ begun_at b at)
     (and_more b 0 at old.begins.items ordered) le)
 

@@ -99,3 +99,6 @@ refused_after station bytes answers r (At number kind) are f = record {
   fault_is = later_fault station answers r (At number kind) are (f station are.blocks are.kept);
 }
 refused_after station bytes answers r Memory are f = tt
+
+-- A copy, or why there is none.
+pub ruleset as_answered = (is_marking, refused_before, refused_after)

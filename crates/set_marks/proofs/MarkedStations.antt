@@ -208,9 +208,9 @@ of_left rs more (m ∷ ms) of = (
   of_left rs more ms of.1,
 )
 
-of_behind : (n : ℕ) (rs : List Sight) (ms : List BlockMark) → AreMarksOf (drop n rs) ms
+of_beyond : (n : ℕ) (rs : List Sight) (ms : List BlockMark) → AreMarksOf (drop n rs) ms
     → AreMarksOf rs ms
-of_behind n rs ms of = subst (λ (xs : List Sight). AreMarksOf xs ms) (take-append-drop n rs)
+of_beyond n rs ms of = subst (λ (xs : List Sight). AreMarksOf xs ms) (take-append-drop n rs)
     (of_more (take n rs) (drop n rs) ms of)
 
 of_set_marks : (k : ℕ) (starts : List ℕ) (rs : List Sight) → AreMarksOf rs (set_marks k starts rs)
@@ -228,16 +228,16 @@ of_station in_set s NoSets = of_close in_set s.sights
 of_station in_set s (Flawed f) = of_close in_set s.sights
 of_station in_set s (Sets leading) =
     let rs = s.sights in
-    let behind = drop leading rs in
-    let sets = set_marks 1 (starts_of behind) behind in
-    let last = mark_at (slice_get behind (end_in behind)) Close in
+    let beyond = drop leading rs in
+    let sets = set_marks 1 (starts_of beyond) beyond in
+    let last = mark_at (slice_get beyond (end_in beyond)) Close in
     of_both rs (close_mark (in_set && nat_lt 0 leading) rs)
     (mark_at (slice_get rs leading) (Station s.name) ++ (sets ++ last))
     (of_close (in_set && nat_lt 0 leading) rs)
     (of_both rs (mark_at (slice_get rs leading) (Station s.name)) (sets ++ last)
     (of_place rs leading (Station s.name))
-    (of_behind leading rs (sets ++ last) (of_both behind sets last
-    (of_set_marks 1 (starts_of behind) behind) (of_place behind (end_in behind) Close))))
+    (of_beyond leading rs (sets ++ last) (of_both beyond sets last
+    (of_set_marks 1 (starts_of beyond) beyond) (of_place beyond (end_in beyond) Close))))
 
 -- The code lines of stations are before their readings.
 pub of_stations : (in_set : Bool) (ss : List Occupation)
@@ -277,7 +277,7 @@ pub record Parted (rs : List Sight) (leading : ℕ) (r : Sight) (others : List S
     (sets : List (List Sight))
     : Type 0 where
   pub are : sets_of (drop leading rs) ≡ (r ∷ others) ∷ sets
-  pub behind : drop leading rs ≡ (r ∷ others) ++ (one_after_another sets
+  pub beyond : drop leading rs ≡ (r ∷ others) ++ (one_after_another sets
       ++ drop (end_in (drop leading rs)) (drop leading rs))
 
 -- A station with sets before those that are done.
@@ -294,9 +294,9 @@ pub with_sets : (in_set : Bool) (names : List (List ℕ)) (s : Occupation) (ss :
 with_sets in_set names s ss n bs leading r others sets ready clean e is all parted bare new go =
     let rs = s.sights in
     let lead = take leading rs in
-    let behind = drop leading rs in
+    let beyond = drop leading rs in
     let set = r ∷ others in
-    let last = drop (end_in behind) behind in
+    let last = drop (end_in beyond) beyond in
     let more = all_sights ss in
     let after = is_open_after in_set s (Sets leading) in
     let later = marks_from after ss in
@@ -313,17 +313,17 @@ with_sets in_set names s ss n bs leading r others sets ready clean e is all part
     let inner = one_after_another sets ++ (last ++ more) in
     let of_set = of_both (set ++ inner) (marks_at set begun) rest_sets
     (of_first set inner begun) (of_more set inner rest_sets of_rest) in
-    let shape : behind ++ more ≡ set ++ inner = ap (λ (xs : List Sight). xs ++ more) parted.behind
+    let shape : beyond ++ more ≡ set ++ inner = ap (λ (xs : List Sight). xs ++ more) parted.beyond
     ∙ append_assoc set (one_after_another sets ++ last) more
     ∙ ap (λ (xs : List Sight). set ++ xs) (append_assoc (one_after_another sets) last more) in
     let split : sights_from n bs ≡ lead ++ (set ++ inner) = e
     ∙ ap (λ (xs : List Sight). xs ++ more) (sym (take-append-drop leading rs))
-    ∙ append_assoc lead behind more ∙ ap (λ (xs : List Sight). lead ++ xs) shape in
+    ∙ append_assoc lead beyond more ∙ ap (λ (xs : List Sight). lead ++ xs) shape in
     let a = segment lead (set ++ inner) (closing in_set) from_set n bs ready clean split of_set in
     let b = segment set inner begun rest_sets a.next a.rest a.ready a.clean_rest a.there of_rest in
     let each : All ReadsEachOnce (set ∷ sets) =
     subst (λ (xs : List (List Sight)). All ReadsEachOnce xs) parted.are all.each in
-    let count : length (sets_of behind) ≡ suc (length sets) =
+    let count : length (sets_of beyond) ≡ suc (length sets) =
     ap (λ (xs : List (List Sight)). length xs) parted.are in
     let c = sets_done s.name 1 sets (last ++ more) closed b.next b.rest
     (let few = all.few in omega (arith, few, count)) (All-tail ReadsEachOnce set sets each)
@@ -342,7 +342,7 @@ with_sets in_set names s ss n bs leading r others sets ready clean e is all part
     let f : Option Found = Some (record { station = Some s.name; set = Some 1 }) in
     let lead_told : for_each None lead ≡ for_readings None front =
     sym (codes_see_nothing in_set lead a.group ∙ told_is None n a.group lead a.here) in
-    let sets_told : in_sets s.name 1 (sets_of behind)
+    let sets_told : in_sets s.name 1 (sets_of beyond)
     ≡ for_readings f b.group ++ told_of_sets s.name 2 c.marked =
     ap (λ (xs : List (List Sight)). in_sets s.name 1 xs) parted.are
     ∙ sym (λ i. told_is f a.next b.group set b.here i ++ c.told i) in
@@ -350,7 +350,7 @@ with_sets in_set names s ss n bs leading r others sets ready clean e is all part
     (λ i. station_marks in_set s (is i) ++ marks_from (is_open_after in_set s (is i)) ss)
     ∙ ap (λ (ms : List BlockMark). ms ++ later)
     (λ i. lead_is in_set leading rs i
-    ++ (begin i ++ (numbered i ++ mark_is (end_in behind) behind Close i)))
+    ++ (begin i ++ (numbered i ++ mark_is (end_in beyond) beyond Close i)))
     ∙ append_assoc (marks_at lead (closing in_set))
     (marks_at set (Station s.name ∷ [])
     ++ (marks_of_sets 1 (set ∷ sets) ++ marks_at last (Close ∷ []))) later
@@ -392,7 +392,7 @@ with_sets in_set names s ss n bs leading r others sets ready clean e is all part
             c.are,
           );
           outside = outside_of true after last d.group done.outside
-              (after_is behind (end_in behind))
+              (after_is beyond (end_in beyond))
               (no_codes d.group d.clean_group) d.none done.out;
         },
         done.are,
@@ -403,7 +403,7 @@ with_sets in_set names s ss n bs leading r others sets ready clean e is all part
       begin : mark_at (slice_get s.sights leading) (Station s.name)
           ≡ marks_at (r ∷ others) (Station s.name ∷ [])
       begin = mark_is leading s.sights (Station s.name)
-          ∙ ap (λ (xs : List Sight). marks_at xs (Station s.name ∷ [])) parted.behind
+          ∙ ap (λ (xs : List Sight). marks_at xs (Station s.name ∷ [])) parted.beyond
 
       numbered : set_marks 1 (starts_of (drop leading s.sights)) (drop leading s.sights)
           ≡ marks_of_sets 1 ((r ∷ others) ∷ sets)
@@ -425,9 +425,9 @@ first_part rs leading are ([] ∷ sets) e =
     (subst (λ (xs : List (List Sight)). All ReadsEachOnce xs) e are.each)).many in omega arith)
 first_part rs leading are ((r ∷ others) ∷ sets) e =
     let lead = take leading rs in
-    let behind = drop leading rs in
-    let all = one_after_another (sets_of behind) ++ drop (end_in behind) behind in
-    let same : behind ≡ all = sym (drop_at lead behind (length lead) refl)
+    let beyond = drop leading rs in
+    let all = one_after_another (sets_of beyond) ++ drop (end_in beyond) beyond in
+    let same : beyond ≡ all = sym (drop_at lead beyond (length lead) refl)
     ∙ ap (λ (xs : List Sight). drop (length lead) xs) (take-append-drop leading rs ∙ are.in_order)
     ∙ drop_at lead all (length lead) refl in (
       r,
@@ -435,9 +435,9 @@ first_part rs leading are ((r ∷ others) ∷ sets) e =
       sets,
       record {
         are = e;
-        behind = same
-            ∙ ap (λ (xs : List (List Sight)). one_after_another xs ++ drop (end_in behind) behind) e
-            ∙ append_assoc (r ∷ others) (one_after_another sets) (drop (end_in behind) behind);
+        beyond = same
+            ∙ ap (λ (xs : List (List Sight)). one_after_another xs ++ drop (end_in beyond) beyond) e
+            ∙ append_assoc (r ∷ others) (one_after_another sets) (drop (end_in beyond) beyond);
       },
     )
 

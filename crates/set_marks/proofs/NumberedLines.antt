@@ -71,19 +71,19 @@ pub record IsCut (tail part : List ℕ) (more : List (List ℕ)) : Type 0 where
   pub is : tail ≡ part ++ end ∷ rest
   pub none : HasNoEnd part
   pub ends : is_line_end end ≡ true
-  pub behind : parts rest ≡ more
+  pub beyond : parts rest ≡ more
 
 -- The bytes are one part, or are cut by a byte that ends a line.
 pub record IsAlone (tail part : List ℕ) (more : List (List ℕ)) : Type 0 where
   pub is : tail ≡ part
   pub none : HasNoEnd part
-  pub behind : more ≡ []
+  pub beyond : more ≡ []
 
 cut_or_alone : (tail : List ℕ)
     → IsAlone tail tail [] ⊎ ((part : List ℕ) × (rest : List (List ℕ))
     × (parts tail ≡ part ∷ rest) × IsCut tail part rest)
 cut_or_alone [] = inl
-    (record { is = refl; none = All-nil (λ b. is_line_end b ≡ false); behind = refl })
+    (record { is = refl; none = All-nil (λ b. is_line_end b ≡ false); beyond = refl })
 cut_or_alone (x ∷ xs) = elim (cases_Bool (is_line_end x)) [
   | inl h ↦ inr (
     [],
@@ -95,14 +95,14 @@ cut_or_alone (x ∷ xs) = elim (cases_Bool (is_line_end x)) [
       is = refl;
       none = All-nil (λ b. is_line_end b ≡ false);
       ends = h;
-      behind = refl;
+      beyond = refl;
     },
   )
   | inr h ↦ elim (cut_or_alone xs) [
     | inl a ↦ inl (record {
       is = refl;
       none = All-cons (λ b. is_line_end b ≡ false) x xs h a.none;
-      behind = refl;
+      beyond = refl;
     })
     | inr c ↦
         let cut = c.3 in
@@ -116,7 +116,7 @@ cut_or_alone (x ∷ xs) = elim (cases_Bool (is_line_end x)) [
             is = ap (λ bs. x ∷ bs) cut.is;
             none = All-cons (λ b. is_line_end b ≡ false) x c.0 h cut.none;
             ends = cut.ends;
-            behind = cut.behind;
+            beyond = cut.beyond;
           },
         )
   ]
@@ -130,7 +130,7 @@ first_cut tail part more e = elim (cut_or_alone tail) [
       let f : tail ∷ [] ≡ part ∷ more = sym (one_part tail a.none) ∙ e in
       let g : tail ≡ part = cc in
       let h : [] ≡ more = cc in
-      inl (record { is = g; none = subst HasNoEnd g a.none; behind = sym h })
+      inl (record { is = g; none = subst HasNoEnd g a.none; beyond = sym h })
   | inr c ↦
       let f : c.0 ∷ c.1 ≡ part ∷ more = sym c.2 ∙ e in
       let g : c.0 ≡ part = cc in

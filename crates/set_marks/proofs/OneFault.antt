@@ -14,8 +14,8 @@ use Rattle.set_marks.specs.Markings.{AreBlocks, IsFileFault}
 use Rattle.set_marks.proofs.CopyRead.{one_each}
 
 -- The blocks of a file are one list.
-pub one_history : (answers : FileAnswers) (g h : History) → AreBlocks answers g → AreBlocks answers h
-    → g ≡ h
+pub one_history : (answers : FileAnswers) (g h : History) → AreBlocks answers g
+    → AreBlocks answers h → g ≡ h
 one_history answers g h a b = sym (reverse-reverse g)
     ∙ ap (λ (bs : List GsiBlock). reverse bs) (one_each answers.lines (reverse g) (reverse h)
     a.each b.each) ∙ reverse-reverse h

@@ -63,16 +63,16 @@ station_roomy in_set names s NoSets is bare fault = close_roomy in_set s.sights
 station_roomy in_set names s (Flawed f) is bare fault = close_roomy in_set s.sights
 station_roomy in_set names s (Sets leading) is bare fault =
     let rs = s.sights in
-    let behind = drop leading rs in
+    let beyond = drop leading rs in
     let none = all_none (
     flaw_when (is_among names s.name) kinds.StationTwice (slice_get rs 0)
     ∷ flaw_when (nat_le MOST_STATIONS (length names)) kinds.TooManyStations (slice_get rs 0)
     ∷ flaw_when (is_too_long s.name (slice_get rs leading)) kinds.NameTooLong (slice_get rs leading)
     ∷ []) fault in
-    let count = as_many (end_in behind) (starts_of behind) behind in
+    let count = as_many (end_in beyond) (starts_of beyond) beyond in
     let few = (sets_in_words rs leading is).few in
-    let sets = set_marks 1 (starts_of behind) behind in
-    let last = mark_at (slice_get behind (end_in behind)) Close in
+    let sets = set_marks 1 (starts_of beyond) beyond in
+    let last = mark_at (slice_get beyond (end_in beyond)) Close in
     both (close_mark (in_set && nat_lt 0 leading) rs)
     (mark_at (slice_get rs leading) (Station s.name) ++ (sets ++ last))
     (close_roomy (in_set && nat_lt 0 leading) rs)
@@ -80,8 +80,8 @@ station_roomy in_set names s (Sets leading) is bare fault =
     (station_here (slice_get rs leading) s.name bare
     (no_flaw (is_too_long s.name (slice_get rs leading)) kinds.NameTooLong (slice_get rs leading)
     none.1.1.0))
-    (both sets last (sets_roomy 1 (starts_of behind) behind (omega (arith, count, few)))
-    (close_here (slice_get behind (end_in behind)))))
+    (both sets last (sets_roomy 1 (starts_of beyond) beyond (omega (arith, count, few)))
+    (close_here (slice_get beyond (end_in beyond)))))
 
 -- What the code lines of stations say has room.
 pub marks_roomy : (in_set : Bool) (names : List (List ℕ)) (end : ℕ) (ss : List Occupation)

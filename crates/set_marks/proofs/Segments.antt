@@ -258,7 +258,7 @@ segment (r ∷ rs) later codes ms n (b ∷ bs) ready clean e of =
     ap (λ (k : ℕ). codes_before (first ++ ms) k) at
     ∙ codes_here r codes ms (ap (λ (k : ℕ). codes_before ms k) (sym at)
     ∙ none_before n next ms (omega arith) from) in
-    let behind : with_codes (first ++ ms) (suc n) bs ≡ s.group ++ with_codes ms next s.rest =
+    let beyond : with_codes (first ++ ms) (suc n) bs ≡ s.group ++ with_codes ms next s.rest =
     earlier_codes r.block (suc n) first ms bs (omega (arith, at)) (marks_block r codes)
     ∙ ap (λ (xs : List GsiBlock). with_codes ms (suc n) xs) s.split
     ∙ later_codes (suc n) s.group s.rest ms from in
@@ -272,7 +272,7 @@ segment (r ∷ rs) later codes ms n (b ∷ bs) ready clean e of =
       clean_group = (clean.0, s.clean_group);
       clean_rest = s.clean_rest;
       none = λ e. cc;
-      copied = (λ i. here i ++ (b ∷ behind i))
+      copied = (λ i. here i ++ (b ∷ beyond i))
           ∙ sym (append_assoc (map (λ c. code_block r.wide c) codes) (b ∷ s.group)
           (with_codes ms next s.rest));
       up = λ u. subst (λ (k : ℕ). AreUp k (first ++ ms)) (sym at)

@@ -28,9 +28,9 @@ use Rattle.set_marks.proofs.Fewest.{fewest}
 two_parts : (from to end : ℕ) (rs : List Sight) → from ≤ to → to ≤ end
     → part from to rs ++ part to end rs ≡ part from end rs
 two_parts from to end rs le le2 =
-    let behind : drop to rs ≡ drop (to - from) (drop from rs) =
+    let beyond : drop to rs ≡ drop (to - from) (drop from rs) =
     sym (drop-drop (to - from) from rs ∙ ap (λ (k : ℕ). drop k rs) (omega arith)) in
-    ap (λ xs. part from to rs ++ take (end - to) xs) behind
+    ap (λ xs. part from to rs ++ take (end - to) xs) beyond
     ∙ sym (take-add (to - from) (end - to) (drop from rs))
     ∙ ap (λ (k : ℕ). take k (drop from rs)) (omega arith)
 
@@ -198,19 +198,19 @@ sets_in_words rs leading e = elim (cases_Bool (is_in_one_face rs)) [
       let found = by_leading rs leading (leading_of rs) refl (rw h at e) in
       let divides = (fewest rs leading found).divides in
       let are = rest_are leading (drop leading rs) (none_is (flaw_of rs leading) divides) in
-      let behind = drop leading rs in
+      let beyond = drop leading rs in
       let by_them : divided_by rs (leading_of rs) ≡ Sets leading = rw h at e in
-      let sure = are_sure (take leading rs) behind (no_doubt (doubt_flaw rs leading) leading leading
+      let sure = are_sure (take leading rs) beyond (no_doubt (doubt_flaw rs leading) leading leading
       (ap (λ (o : Option ℕ). divided_by rs o) (sym found) ∙ by_them)) in
       record {
         some = are.some;
         few = are.few;
         each = are.each;
         single = sure.single;
-        known = all_known (first_set (starts_of behind) behind) (sets_of behind) are.each
+        known = all_known (first_set (starts_of beyond) beyond) (sets_of beyond) are.each
             sure.strangers;
         in_order = sym (take-append-drop leading rs)
-            ∙ ap (λ xs. take leading rs ++ xs) (sym (take-append-drop (end_in behind) behind)
-            ∙ ap (λ xs. xs ++ drop (end_in behind) behind) (sym are.same));
+            ∙ ap (λ xs. take leading rs ++ xs) (sym (take-append-drop (end_in beyond) beyond)
+            ∙ ap (λ xs. xs ++ drop (end_in beyond) beyond) (sym are.same));
       }
 ]

@@ -104,11 +104,11 @@ all_from : (s : SetUp) (later : List SetUp) (rs : List Sight) → AreAscending (
     → all_sights (occupations (s ∷ later) rs) ≡ drop s.from rs
 all_from s [] rs up = append-nil (drop s.from rs)
 all_from s (t ∷ later) rs up =
-    let behind : drop (t.from - s.from) (drop s.from rs) ≡ drop t.from rs =
+    let beyond : drop (t.from - s.from) (drop s.from rs) ≡ drop t.from rs =
     drop-drop (t.from - s.from) s.from rs
     ∙ ap (λ (k : ℕ). drop k rs) (let le = up.0 in omega arith) in
     ap (λ (xs : List Sight). take (t.from - s.from) (drop s.from rs) ++ xs)
-    (all_from t later rs up.1 ∙ sym behind)
+    (all_from t later rs up.1 ∙ sym beyond)
     ∙ take-append-drop (t.from - s.from) (drop s.from rs)
 
 all_of : (ss : List SetUp) (rs : List Sight) → AreInOrder ss rs → all_sights (occupations ss rs)

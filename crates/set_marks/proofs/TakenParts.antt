@@ -1,7 +1,7 @@
 -- The parts of a file are taken one by one: what is to come after each, and what is kept.
-use Rattle.std.proofs.Common.{◌≡◌, ℕ, zero, suc, ◌+◌, ◌*◌, ◌-◌, ◌<◌, ◌≤◌, Bool, true, false, cond, List, []}
-use Rattle.std.proofs.Common.{◌∷◌, ◌++◌, length, take, drop, Option, Some, None, refl, sym, ap}
-use Rattle.std.proofs.Common.{subst, ◌∙◌, arith, inl, inr, length-take, drop-cons}
+use Rattle.std.proofs.Common.{◌≡◌, ℕ, zero, suc, ◌+◌, ◌*◌, ◌-◌, ◌<◌, ◌≤◌, Bool, true, false, cond}
+use Rattle.std.proofs.Common.{List, [], ◌∷◌, ◌++◌, length, take, drop, Option, Some, None, refl}
+use Rattle.std.proofs.Common.{sym, ap, subst, ◌∙◌, arith, inl, inr, length-take, drop-cons}
 use Rattle.std.proofs.Common.{drop-drop, add-one}
 use Rattle.std.specs.Prelude.{slice_index, Ok, Err}
 use Rattle.std.proofs.lemmas.List.{take-append-drop, take-take, append-nil}
@@ -217,7 +217,8 @@ pub next_answers : (at n used : ℕ) (rest next : List ℕ) (fails : Bool) → n
     ≡ with_line (take n rest) (answers_within (LONGEST_FILE - (at + used)) next fails)
 next_answers at n used rest next fails is first short lt up inside fits =
     over_part (LONGEST_FILE - at) n used rest fails first short lt up inside fits
-    ∙ ap (λ (k : ℕ). with_line (take n rest) (answers_within k (drop used rest) fails)) (omega arith)
+    ∙ ap (λ (k : ℕ). with_line (take n rest) (answers_within k (drop used rest) fails))
+    (omega arith)
     ∙ ap (λ (l : List ℕ). with_line (take n rest)
     (answers_within (LONGEST_FILE - (at + used)) l fails)) (sym is)
 

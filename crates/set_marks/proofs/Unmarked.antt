@@ -19,7 +19,7 @@ use Rattle.set_marks.specs.Unmarked.{begins_with_feed, whole_lines, is_put_in, u
 use Rattle.set_marks.specs.Unmarked.{BeginsSomeLine}
 use Rattle.set_marks.proofs.Identity.{ends_line}
 use Rattle.set_marks.proofs.CodeLineText.{text_has_no_end}
-use Rattle.set_marks.proofs.WholeLines.{LastEnds, last_ends, SomeLast, last_behind, one_line}
+use Rattle.set_marks.proofs.WholeLines.{LastEnds, last_ends, SomeLast, last_beyond, one_line}
 use Rattle.set_marks.proofs.WholeLines.{unmarked_append, unmarked_without}
 
 begins_as : (wide : Bool) (code : Code) (more : List ℕ)
@@ -58,7 +58,7 @@ end_ends Both = record { byte = 13; rest = 10 ∷ []; are = refl; last = refl }
 
 -- A code line ends a line.
 pub line_ends : (m : Mark) → LastEnds (line_of m)
-line_ends m = last_behind (text_of m) (end_bytes m.line_end) (end_ends m.line_end)
+line_ends m = last_beyond (text_of m) (end_bytes m.line_end) (end_ends m.line_end)
 
 -- The bytes from a place where a line with a byte begins do not begin with a line feed.
 no_feed : (bytes : List ℕ) (at : ℕ) → at < length bytes
@@ -92,7 +92,7 @@ unmarked_woven from bytes (m ∷ ms) ordered each =
     let last : LastEnds piece = last_ends piece
     (ends_line from bytes m ordered.0 ordered.1 here.begins) in
     let feed = no_feed bytes m.at here.inside here.some_byte in
-    let behind : drop (m.at - from) (drop from bytes) ≡ drop m.at bytes =
+    let beyond : drop (m.at - from) (drop from bytes) ≡ drop m.at bytes =
     drop-drop (m.at - from) from bytes ∙ ap (λ (k : ℕ). drop k bytes) (omega arith) in
     let rest = unmarked_woven m.at bytes ms ordered.3 (All-tail (BeginsSomeLine bytes) m ms each) in
     unmarked_append piece (line ++ more) last (line_begins more m)
@@ -100,7 +100,7 @@ unmarked_woven from bytes (m ∷ ms) ordered each =
     (woven_begins m.at bytes ms feed)
     ∙ ap (λ bs. bs ++ unmarked more) (unmarked_line m ordered.2) ∙ rest)
     ∙ sym (unmarked_append piece (drop m.at bytes) last feed)
-    ∙ ap (λ bs. unmarked bs) (ap (λ bs. piece ++ bs) (sym behind)
+    ∙ ap (λ bs. unmarked bs) (ap (λ bs. piece ++ bs) (sym beyond)
     ∙ take-append-drop (m.at - from) (drop from bytes))
 
 -- Where the bytes have no such line, they come back.

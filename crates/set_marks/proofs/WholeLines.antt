@@ -47,8 +47,8 @@ last_after (a ∷ []) b bytes last = last
 last_after (a ∷ c ∷ text) b bytes last = last_after (c ∷ text) b bytes last
 
 -- Bytes end a line where the last of them do.
-pub last_behind : (text bytes : List ℕ) → SomeLast bytes → LastEnds (text ++ bytes)
-last_behind text bytes h = subst (λ (bs : List ℕ). LastEnds (text ++ bs)) (sym h.are)
+pub last_beyond : (text bytes : List ℕ) → SomeLast bytes → LastEnds (text ++ bytes)
+last_beyond text bytes h = subst (λ (bs : List ℕ). LastEnds (text ++ bs)) (sym h.are)
     (last_after text h.byte h.rest h.last)
 
 record SomeLine (bytes : List ℕ) : Type 0 where

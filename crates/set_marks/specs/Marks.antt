@@ -3,6 +3,7 @@ use Rattle.std.specs.Prelude.{ℕ, ◌+◌, ◌-◌, ◌/◌, ◌%◌, ◌≤◌
 use Rattle.std.specs.Prelude.{if◌then◌else◌, replicate, codes, map, false, ⊤}
 use Rattle.std.specs.List.{join_with_byte}
 use Rattle.gsi_word.specs.declared.index.TheConstants.{CODE_NUMBER, CODE_INFORMATION}
+use Rattle.gsi_word.specs.declared.word.TheConstants.{GSI_8, GSI_16}
 use Rattle.gsi_word.specs.Bytes.{blank, zero_digit}
 use Rattle.gsi_word.specs.Words.{GsiWord, spelled}
 use Rattle.gsi_word.specs.Blocks.{GsiBlock}
@@ -15,7 +16,7 @@ use Rattle.set_marks.specs.Lines.{end_bytes}
 
 -- How many bytes the content of each of its words has.
 abbrev pub width_of : Bool → ℕ
-width_of wide = if wide then 16 else 8
+width_of wide = if wide then GSI_16 else GSI_8
 
 -- A content: the name, filled with zeros from the left, as the instrument fills it.
 abbrev pub filled : ℕ → List ℕ → List ℕ

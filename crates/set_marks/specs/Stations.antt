@@ -9,6 +9,7 @@ use Rattle.std.specs.List.{list_any}
 use Rattle.std.specs.Option.{option_map}
 use Rattle.gsi_word.specs.declared.index.TheConstants.{POINT_NUMBER, CODE_NUMBER}
 use Rattle.gsi_word.specs.declared.index.TheConstants.{HORIZONTAL_DIRECTION, VERTICAL_ANGLE}
+use Rattle.gsi_word.specs.declared.word.TheConstants.{GSI_16}
 use Rattle.gsi_word.specs.Words.{GsiWord}
 use Rattle.gsi_word.specs.Blocks.{GsiBlock}
 use Rattle.gsi_word.specs.Names.{name_of}
@@ -49,7 +50,7 @@ sets_up b = is_measurement (role_of b) && (lacks HORIZONTAL_DIRECTION b && tells
 abbrev pub sight_in : ℕ → GsiBlock → List Sight
 sight_in number b = if has_direction b then record {
   block = number;
-  wide = b.width == 16;
+  wide = b.width == GSI_16;
   target = target b;
   second = is_of_face Two b;
 } ∷ [] else []

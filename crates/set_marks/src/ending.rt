@@ -52,7 +52,7 @@ impl Readings {
     }
 
     /// Marks the station that is open, or notes its flaw.
-    #[tactic(auto, using(crate::proofs::EndedStations::none_open, crate::proofs::EndedStations::flawed_before))]
+    #[tactic(auto, using(crate::proofs::EndedStations::nothing_ends))]
     fn mark_station(&mut self, alloc: Global) -> Result<(), AllocError>
         requires room { All IsRoomy self.old.marking.marks.items }
         ensures room { All IsRoomy self.new.marking.marks.items }

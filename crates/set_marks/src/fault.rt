@@ -1,6 +1,7 @@
 //! Why a field file is not marked.
 
 ghost use Rattle.std.specs.Prelude.{◌≡◌, ◌≤◌, length};
+ghost use Rattle.adjust_kernel.specs.declared.bounds.TheConstants.{LONGEST_FAULT_NAME};
 ghost use Rattle.set_marks.specs.FaultNames.{mark_kind_name, mark_fault_name};
 ghost use Rattle.set_marks.specs.declared.fault.MarkFault.TheVariants.{File, Memory};
 
@@ -94,7 +95,7 @@ impl MarkKind {
     /// Its name, as the line of a refusal has it.
     pub fn name(self) -> &'static str
         ensures name { result.now ≡ mark_kind_name self }
-        ensures short { length result.now ≤ 16 }
+        ensures short { length result.now ≤ LONGEST_FAULT_NAME }
     {
         match self {
             MarkKind::TwoLines => "TwoLines",
@@ -142,7 +143,7 @@ impl MarkFault {
     /// Its name, as the line of a refusal has it.
     pub fn name(self) -> &'static str
         ensures name { result.now ≡ mark_fault_name self }
-        ensures short { length result.now ≤ 16 }
+        ensures short { length result.now ≤ LONGEST_FAULT_NAME }
     {
         match self {
             MarkFault::File(fault) => fault.name(),

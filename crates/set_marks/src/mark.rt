@@ -3,6 +3,7 @@
 ghost use Rattle.std.specs.Prelude.{◌≡◌, ◌<◌, ◌≤◌, ◌+◌, ◌-◌, ◌++◌, ◌∷◌, length, replicate};
 ghost use Rattle.arrayvec.specs.ArrayVec.{array_vec_len};
 ghost use Rattle.gsi_word.specs.declared.index.TheConstants.{CODE_NUMBER, CODE_INFORMATION};
+ghost use Rattle.gsi_word.specs.declared.word.TheConstants.{GSI_16};
 ghost use Rattle.gsi_word.specs.Bytes.{blank, zero_digit};
 ghost use Rattle.gsi_word.specs.Words.{spelled};
 ghost use Rattle.set_marks.specs.Marks.{width_of, word_of, digits, HasRoom, line_of, words_text};
@@ -10,6 +11,7 @@ ghost use Rattle.set_marks.specs.Marks.{width_of, word_of, digits, HasRoom, line
 use crate::line_end::LineEnd;
 use adjust_kernel::Name;
 use arrayvec::ArrayVec;
+use gsi_word::{GSI_8, GSI_16};
 
 /// What a code line says.
 #[derive(Clone, Copy, Debug, Drop)]
@@ -46,8 +48,8 @@ pub struct BlockMark {
     pub code: Code,
 }
 
-/// Bytes of a code word, at most: an index, an information, a sign, and 16 of a content.
-const LONGEST_CODE_WORD: usize = 23;
+/// Bytes of a code word, at most: an index of 2, an information of 4, a sign, and a content.
+const LONGEST_CODE_WORD: usize = 2 + 4 + 1 + GSI_16;
 
 /// Bytes of the words of a code line, at most: two, and a blank.
 const LONGEST_CODE_WORDS: usize = 2 * LONGEST_CODE_WORD + 1;
@@ -58,18 +60,18 @@ pub const LONGEST_CODE_LINE: usize = LONGEST_CODE_WORDS + 3;
 /// The bytes of a code line, in no memory but its own.
 pub type CodeLine = ArrayVec<u8, LONGEST_CODE_LINE>;
 
-const ZEROS: [u8; 16] = [b'0'; 16];
+const ZEROS: [u8; GSI_16] = [b'0'; GSI_16];
 
 /// How many bytes the content of each word of a line has.
 pub(crate) fn width(wide: bool) -> usize
     ensures { result ≡ width_of wide }
 {
-    if wide { 16 } else { 8 }
+    if wide { GSI_16 } else { GSI_8 }
 }
 
-/// Zeros, at most 16.
+/// Zeros, no more than a content of GSI-16 has bytes.
 fn zeros(count: usize) -> &'static [u8]
-    requires { count ≤ 16 }
+    requires { count ≤ GSI_16 }
     ensures { result.now ≡ replicate count zero_digit }
 {
     &ZEROS[..count]
@@ -87,10 +89,11 @@ fn add(line: &mut CodeLine, bytes: &[u8])
 /// Adds a word of these first bytes, whose content is the name, filled with zeros.
 fn add_word(line: &mut CodeLine, front: &[u8], wide: bool, name: &[u8])
     requires name { length name.now ≤ width_of wide }
-    requires room { array_vec_len line.old + length front.now + 16 ≤ LONGEST_CODE_LINE }
+    requires room { array_vec_len line.old + length front.now + GSI_16 ≤ LONGEST_CODE_LINE }
     ensures items { line.new.items ≡ line.old.items
         ++ (front.now ++ (replicate (width_of wide - length name.now) zero_digit ++ name.now)) }
-    ensures len { array_vec_len line.new ≤ array_vec_len line.old + length front.now + 16 }
+    ensures len { array_vec_len line.new
+        ≤ array_vec_len line.old + length front.now + GSI_16 }
 {
     add(line, front);
     add(line, zeros(width(wide) - name.len()));

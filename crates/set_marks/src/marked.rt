@@ -31,7 +31,7 @@ pub struct Marked {
 ///
 /// The first fault of the file's lines; else the first of a block; else the first of a station; or
 /// `Memory`.
-#[tactic(auto, using(crate::proofs::Making::is_marking, crate::proofs::Making::refused_before, crate::proofs::Making::refused_after))]
+#[tactic(auto, using(crate::proofs::Making::as_answered))]
 pub fn mark_file(
     alloc: Global,
     bytes: &[u8],

@@ -254,7 +254,7 @@ impl Marking {
     }
 
     /// Takes a station, or answers its flaw.
-    #[tactic(auto, using(crate::proofs::Few::few_sets, crate::proofs::Few::some_reading, crate::proofs::Few::has_room))]
+    #[tactic(auto, using(crate::proofs::Few::with_sets))]
     pub(crate) fn take(
         &mut self,
         alloc: Global,

@@ -21,7 +21,7 @@ use crate::fault::{MarkFault, MarkKind};
 use crate::readings::Readings;
 use crate::sight::Sight;
 use adjust_kernel::Name;
-use gsi_word::{Block, CODE_NUMBER, Found, POINT_NUMBER, VERTICAL_ANGLE, Word};
+use gsi_word::{Block, CODE_NUMBER, Found, GSI_16, POINT_NUMBER, VERTICAL_ANGLE, Word};
 use station_book::{CIRCLE, HALF_CIRCLE, Reading, Role, read, role_of, target};
 use std::alloc::{AllocError, Global};
 
@@ -241,7 +241,7 @@ impl Readings {
                 if self.station.is_none() {
                     return Err(MarkFault::At(number, MarkKind::NoSetUp));
                 }
-                self.add_sight(number, block.width() == 16, &reading)?;
+                self.add_sight(number, usize::from(block.width()) == GSI_16, &reading)?;
                 Ok(())
             }
             Err(kind) => {

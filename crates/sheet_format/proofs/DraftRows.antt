@@ -96,7 +96,7 @@ room (Some k) n most e = cc e
 
 -- The fields of a row that has five columns.
 abbrev listed : Fields → List (List ℕ)
-listed c = c.kind ∷ c.number ∷ c.name ∷ c.value ∷ c.turn ∷ []
+listed c = c.row_type ∷ c.number ∷ c.name ∷ c.value ∷ c.turn ∷ []
 
 -- The first of a list that passes a test passes it.
 first-passes : {X : Type 0} (p : X → Bool) (xs : List X) (x : X) → find p xs ≡ Some x → p x ≡ true
@@ -148,7 +148,7 @@ abbrev IsSheetRow : Fields → Header → Type 0
 IsSheetRow c h = (listed c ≡ sheet_fields h.version h.name h.denominator)
     × IsVersionedHeader (Some h)
 
-versioned-row : (v : Version) (c : Fields) → c.kind ≡ row_type_text row_type.Sheet
+versioned-row : (v : Version) (c : Fields) → c.row_type ≡ row_type_text row_type.Sheet
     → c.number ≡ version_text v → versioned_fault v c ≡ None
     → IsSheetRow c (record {
       version = v;
@@ -165,7 +165,7 @@ versioned-row v c named version none =
       (name-found c.name name, n.least, n.most),
     )
 
-sheet-row : (c : Fields) → c.kind ≡ row_type_text row_type.Sheet → sheet_row_fault c ≡ None
+sheet-row : (c : Fields) → c.row_type ≡ row_type_text row_type.Sheet → sheet_row_fault c ≡ None
     → IsSheetRow c (header_of c)
 sheet-row c named none = by (version_of c.number) refl none
   where
@@ -175,7 +175,7 @@ sheet-row c named none = by (version_of c.number) refl none
     by None x e = cc e
     by (Some v) x e = rw x (versioned-row v c named (version-found c.number v x) e)
 
-target-row : (v : Version) (c : Fields) → c.kind ≡ row_type_text row_type.Target
+target-row : (v : Version) (c : Fields) → c.row_type ≡ row_type_text row_type.Target
     → target_fault v c ≡ None → (listed c ≡ target_fields (direction_of c))
     × IsDirectionOf v (direction_of c)
 target-row v c named none =
@@ -189,7 +189,8 @@ target-row v c named none =
       (name-found c.name name, within-found (largest_angle v) (value_of c.value) range),
     )
 
-set-row : (v : Version) (c : Fields) → c.kind ≡ row_type_text row_type.Set → set_fault v c ≡ None
+set-row : (v : Version) (c : Fields) → c.row_type ≡ row_type_text row_type.Set
+    → set_fault v c ≡ None
     → (listed c ≡ set_fields (orientation_of c)) × IsOrientationOf v (orientation_of c)
 set-row v c named none =
     let (empty, t1) = met _ _ _ none in
@@ -204,7 +205,7 @@ set-row v c named none =
       ((n.least, n.most), within-found (largest_angle v) (value_of c.value) value_range),
     )
 
-obs-row : (c : Fields) → c.kind ≡ row_type_text row_type.Obs → obs_fault c ≡ None
+obs-row : (c : Fields) → c.row_type ≡ row_type_text row_type.Obs → obs_fault c ≡ None
     → (listed c ≡ obs_fields (obs_row_of c)) × IsRow (obs_row_of c)
 obs-row c named none =
     let (name, t1) = met _ _ _ none in
@@ -242,7 +243,7 @@ ready d row_type.Obs ok follows = grind (arith, nat_tests, nil_from_length, ok.b
 
 -- A row without a fault, of whatever type: the draft stands for one row more.
 columns-taken : (d : DraftValue) (c : Fields) (k : RowType) → IsDraft d
-    → c.kind ≡ row_type_text k → may_follow (last_of_draft d) k ≡ true
+    → c.row_type ≡ row_type_text k → may_follow (last_of_draft d) k ≡ true
     → columns_fault (said_by_draft d) k c ≡ None → Takes d (listed c) (with_columns k d c)
 columns-taken d c row_type.Sheet ok named follows none =
     let (row, header) = sheet-row c named none in
@@ -289,23 +290,23 @@ columns-taken d c row_type.Obs ok named follows none =
     }
 
 type-taken : (d : DraftValue) (c : Fields) (k : Option RowType) → IsDraft d
-    → row_type_of c.kind ≡ k → row_type_fault (said_by_draft d) k c ≡ None
+    → row_type_of c.row_type ≡ k → row_type_fault (said_by_draft d) k c ≡ None
     → Takes d (listed c) (with_row_type k d c)
 type-taken d c None ok x none = cc none
 type-taken d c (Some k) ok x none =
     let (follows, tests) = met _ _ _ none in
-    columns-taken d c k ok (row_type-found c.kind k x) follows tests
+    columns-taken d c k ok (row_type-found c.row_type k x) follows tests
 
 -- A row without a fault adds its entry to a draft: the draft then stands for one row more.
 pub row-taken : (d : DraftValue) (row : List (List ℕ)) → IsDraft d
     → row_fault (said_by_draft d) row ≡ None → Takes d row (with_row d row)
 unfolding row_fault with_row
-row-taken d (kind ∷ number ∷ name ∷ value ∷ turn ∷ []) ok none =
+row-taken d (named ∷ number ∷ name ∷ value ∷ turn ∷ []) ok none =
     type-taken d (record {
-      kind = kind;
+      row_type = named;
       number = number;
       name = name;
       value = value;
       turn = turn;
-    }) (row_type_of kind) ok refl none
+    }) (row_type_of named) ok refl none
 row-taken d row ok none = cc none

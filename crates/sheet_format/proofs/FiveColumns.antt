@@ -10,7 +10,7 @@ at fs i = unwrap_or (field_at fs i) []
 -- A row of five fields has them as its columns, in their order.
 pub five : (fs : List (List ℕ)) → length fs ≡ 5
     → columns_of fs ≡ Some (record {
-      kind = at fs 0;
+      row_type = at fs 0;
       number = at fs 1;
       name = at fs 2;
       value = at fs 3;

@@ -180,7 +180,7 @@ with_row_type (Some k) d c = with_columns k d c
 -- the same, where the row has its five columns
 abbrev pub with_fields : DraftValue → Option Fields → DraftValue
 with_fields d None = d
-with_fields d (Some c) = with_row_type (row_type_of c.kind) d c
+with_fields d (Some c) = with_row_type (row_type_of c.row_type) d c
 
 -- the draft with the entry of one more row
 unfoldable pub with_row : DraftValue → List (List ℕ) → DraftValue

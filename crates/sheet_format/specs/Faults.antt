@@ -148,7 +148,7 @@ row_type_fault b (Some k) c =
 -- the fault of a row by the number of its columns, and then by what they hold
 abbrev pub fields_fault : Before → Option Fields → Option RowKind
 fields_fault b None = Some fault.Fields
-fields_fault b (Some c) = row_type_fault b (row_type_of c.kind) c
+fields_fault b (Some c) = row_type_fault b (row_type_of c.row_type) c
 
 -- the fault of a row, if it has one, by what the rows before it say: the number of its columns, its
 -- type, and then its columns

@@ -12,7 +12,7 @@ const COLUMNS: usize = 5;
 /// The fields of a row that has five.
 #[derive(Clone, Copy)]
 pub(crate) struct Columns<'a> {
-    pub(crate) kind: &'a [u8],
+    pub(crate) row_type: &'a [u8],
     pub(crate) number: &'a [u8],
     pub(crate) name: &'a [u8],
     pub(crate) value: &'a [u8],
@@ -34,7 +34,7 @@ impl<'a> Columns<'a> {
             return None;
         }
         Some(Columns {
-            kind: field(row, 0),
+            row_type: field(row, 0),
             number: field(row, 1),
             name: field(row, 2),
             value: field(row, 3),

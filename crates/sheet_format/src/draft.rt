@@ -166,7 +166,7 @@ impl Draft {
         let Some(columns) = Columns::parse(row) else {
             return Err(Refusal::Fault(RowKind::Fields));
         };
-        let Some(row_type) = RowType::parse(columns.kind) else {
+        let Some(row_type) = RowType::parse(columns.row_type) else {
             return Err(Refusal::Fault(RowKind::Kind));
         };
         if !row_type.may_follow(self.last()) {

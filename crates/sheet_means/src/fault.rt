@@ -1,5 +1,6 @@
 //! Why there is no sheet of means.
 ghost use Rattle.std.specs.Prelude.{◌≡◌, ◌≤◌, length};
+ghost use Rattle.adjust_kernel.specs.declared.bounds.TheConstants.{LONGEST_FAULT_NAME};
 ghost use Rattle.sheet_means.specs.FaultNames.{means_fault_name};
 ghost use Rattle.sheet_means.specs.declared.fault.MeansFault.TheVariants.{Memory};
 
@@ -22,7 +23,7 @@ impl MeansFault {
     /// Its name, as the line of a refusal has it.
     pub fn name(self) -> &'static str
         ensures name { result.now ≡ means_fault_name self }
-        ensures short { length result.now ≤ 16 }
+        ensures short { length result.now ≤ LONGEST_FAULT_NAME }
     {
         match self {
             MeansFault::Incomplete => "Incomplete",

@@ -4,6 +4,7 @@ ghost use Rattle.std.specs.Prelude.{◌≡◌, ◌<◌, None, Some, IfOk, IfErr,
 ghost use Rattle.gsi_word.specs.BlockViews.{block_of};
 ghost use Rattle.adjust_kernel.specs.Sheets.{IsSetNumber};
 ghost use Rattle.gsi_word.specs.Names.{name_of};
+ghost use Rattle.gsi_word.specs.declared.word.TheConstants.{GSI_16};
 ghost use Rattle.station_book.specs.Faults.{twice_informed, first_of, station_faults};
 ghost use Rattle.station_book.specs.Blocks.{named, number, number_of_name, target};
 ghost use Rattle.station_book.specs.Readings.{face_of, read};
@@ -27,7 +28,7 @@ fn name_in(word: &Word<'_>) -> Name
 }
 
 /// The name of the station that a block of code 10 opens.
-#[tactic(auto, unfolding(crate::specs::Blocks::named, crate::specs::Blocks::has_two, crate::specs::Blocks::lacks))]
+#[tactic(auto, unfolding(crate::proofs::BlockWords::said))]
 pub(crate) fn station_name(block: &Block<'_>) -> Result<Name, BookKind>
     ensures ok { IfOk result (λ name. named (block_of block.now) ≡ Some name) }
     ensures clean { OnOk result (first_of (station_faults (block_of block.now)) ≡ None) }
@@ -42,7 +43,7 @@ pub(crate) fn station_name(block: &Block<'_>) -> Result<Name, BookKind>
 
 /// The number that a name writes, 1 to 9999.
 fn number_of(name: &[u8]) -> Option<u16>
-    requires { length name.now ≤ 16 }
+    requires { length name.now ≤ GSI_16 }
     ensures value { result ≡ number_of_name (Some name.now) }
     ensures valid { IfSome result IsSetNumber }
 {
@@ -53,7 +54,7 @@ fn number_of(name: &[u8]) -> Option<u16>
 }
 
 /// The number of the set that a block of code 20 opens, if it says one.
-#[tactic(auto, unfolding(crate::specs::Blocks::number, crate::specs::Blocks::named, crate::specs::Blocks::has_two))]
+#[tactic(auto, unfolding(crate::proofs::BlockWords::said))]
 pub(crate) fn set_number(block: &Block<'_>) -> Result<Option<u16>, BookKind>
     ensures ok { IfOk result (λ n. n ≡ number (block_of block.now)) }
     ensures valid { IfOk result (λ n. IfSome n IsSetNumber) }
@@ -91,7 +92,7 @@ pub fn target(block: &Block<'_>) -> Name
 
 /// What a measurement block says: nothing where it has no direction.
 #[inline(always)]
-#[tactic(auto, unfolding(crate::specs::Blocks::has_two, crate::specs::Blocks::lacks, crate::specs::Blocks::angle_fault, crate::specs::Blocks::angles, crate::specs::Blocks::target))]
+#[tactic(auto, unfolding(crate::proofs::BlockWords::said))]
 pub fn read(block: &Block<'_>) -> Result<Option<Reading>, BookKind>
     ensures value { result ≡ read (block_of block.now) }
     ensures angles { IfOk result (λ o. IfSome o (λ s. AreOnCircle s.angles)) }

@@ -31,3 +31,9 @@ eight_more n low high =
     ∙ ap (λ (k : ℕ). k + 4) (length_four (n / 10000) (omega arith) (omega arith)
     ∙ ap (λ (m : ℕ). length (decimal m) + 4) twice)
     ∙ omega arith
+
+-- Of a number below 10,000.
+pub ruleset few_digits = (one_digit, two_digits, three_digits, four_digits)
+
+-- Of a larger one.
+pub ruleset more_digits = (four_more, eight_more)

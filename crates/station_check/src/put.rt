@@ -82,7 +82,7 @@ pub(crate) fn put_number<I: Integer>(room: &mut Room, at: usize, number: I) -> u
 
 /// How many digits a number below 10,000 has.
 #[inline(always)]
-#[tactic(auto, using(crate::proofs::DigitCounts::one_digit, crate::proofs::DigitCounts::two_digits, crate::proofs::DigitCounts::three_digits, crate::proofs::DigitCounts::four_digits))]
+#[tactic(auto, using(crate::proofs::DigitCounts::few_digits))]
 fn short_count(number: u32) -> usize
     requires { number < 10000 }
     ensures value { result ≡ length (decimal number) }
@@ -100,7 +100,7 @@ fn short_count(number: u32) -> usize
 
 /// How many digits a number has in plain decimals.
 #[inline(always)]
-#[tactic(auto, using(crate::proofs::DigitCounts::four_more, crate::proofs::DigitCounts::eight_more))]
+#[tactic(auto, using(crate::proofs::DigitCounts::more_digits))]
 fn digit_count(number: u32) -> usize
     ensures value { result ≡ length (decimal number) }
     ensures bound { result ≤ LONGEST_U32 }

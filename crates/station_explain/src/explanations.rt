@@ -706,8 +706,9 @@ the instrument was set up again and no line says so, or the first set lacks many
         remedy: "\
 If the instrument was set up again there, mark two copies, each with its own --station
 NAME: with 'prepare.py --blocks' of the examples leave out all from this block on in one, and all
-before it in the other. If it is one station, put the codes in with 'prepare.py --codes STATION
-BLOCKS LAST' of the examples: BLOCKS are the first ones of the sets, as 2,14,26, and LAST ends them.",
+before it in the other. If it is one station, put the codes in with
+'prepare.py --codes STATION BLOCKS LAST' of the examples: BLOCKS are the first ones of the sets,
+as 2,14,26, and LAST ends them.",
     },
 ];
 

@@ -101,9 +101,10 @@ set_text its set = codes "\n" ++ each_place (length its.station.obs) (line_of it
 -- The readings, set by set.
 abbrev pub readings_text : SurveyedStation → List ℕ
 readings_text its =
-    codes "\nReadings in gon, mean of both faces counted from the first row of the set, 2c and 2i in mgon\n\n"
+    codes "\nReadings in gon, mean of both faces counted from the first row of the set, "
+    ++ (codes "2c and 2i in mgon\n\n"
     ++ (codes "  Set  Target                Face I     Face II         Mean         2c         2i\n"
-    ++ each_place (length its.station.sets) (set_text its))
+    ++ each_place (length its.station.sets) (set_text its)))
 
 -- The line of a target: its name, and its adjusted direction.
 abbrev pub direction_line : StationValue → List ℕ → ℕ → List ℕ

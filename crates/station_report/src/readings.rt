@@ -248,7 +248,8 @@ pub(crate) fn push_readings(
 {
     let mut field = Vec::new(alloc);
     text.extend_from_slice(
-        b"\nReadings in gon, mean of both faces counted from the first row of the set, 2c and 2i in mgon\n\n",
+        b"\nReadings in gon, mean of both faces counted from the first row of the set, \
+          2c and 2i in mgon\n\n",
     )?;
     text.extend_from_slice(
         b"  Set  Target                Face I     Face II         Mean         2c         2i\n",

@@ -54,6 +54,7 @@ verdict_text path station apart limit =
 -- The section.
 abbrev pub section_text : List ℕ → StationValue → List TargetDifference → ℕ → ℕ → List ℕ
 section_text path station rows apart limit =
-    codes "\nStated directions in gon, differences in mgon: stated less adjusted, after the best rotation\n\n"
+    codes "\nStated directions in gon, differences in mgon: "
+    ++ (codes "stated less adjusted, after the best rotation\n\n"
     ++ (codes "  Target                      Stated    Difference\n\n"
-    ++ (target_lines rows ++ verdict_text path station apart limit))
+    ++ (target_lines rows ++ verdict_text path station apart limit)))

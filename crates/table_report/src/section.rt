@@ -25,7 +25,8 @@ pub(crate) fn section_text(
 {
     let mut text = Vec::new(alloc);
     text.extend_from_slice(
-        b"\nStated directions in gon, differences in mgon: stated less adjusted, after the best rotation\n\n",
+        b"\nStated directions in gon, differences in mgon: \
+          stated less adjusted, after the best rotation\n\n",
     )?;
     text.extend_from_slice(b"  Target                      Stated    Difference\n\n")?;
     push_targets(alloc, &mut text, rows)?;

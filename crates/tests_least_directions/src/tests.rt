@@ -1,44 +1,12 @@
 //! Stated directions of stations worked by hand.
 
-use adjust_kernel::{CIRCLE, MOST_TARGETS, Name, Obs, PARTS, Station};
+use adjust_kernel::{CIRCLE, MOST_TARGETS, PARTS, Station};
 use exact_adjustment::{AdjustError, AdjustFault};
 use least_directions::{apart_from_least, rounded_directions};
 use std::alloc::Global;
 use std::process::Abort;
 use std::test::Fail;
-
-fn name(rt: &impl Abort, letter: u8) -> Name {
-    Name::new(&[letter]).expect(rt, "a name")
-}
-
-/// A station of targets A, B and so on, and of this many sets, with these observations: set,
-/// target, value in half units.
-fn station_of(
-    rt: &impl Abort,
-    alloc: Global,
-    sets: u16,
-    letters: &[u8],
-    observed: &[(u32, u32, u32)],
-) -> Result<Station, Fail> {
-    let mut names = Vec::new(alloc);
-    for letter in letters {
-        names.push(name(rt, *letter))?;
-    }
-    let mut numbers = Vec::new(alloc);
-    for number in 1..=sets {
-        numbers.push(number)?;
-    }
-    let mut obs = Vec::new(alloc);
-    for (set, target, value) in observed {
-        obs.push(Obs {
-            set: *set,
-            target: *target,
-            value: *value,
-        })?;
-    }
-    let station = Station::new(name(rt, b'S'), names, numbers, obs);
-    Ok(station.expect(rt, "a station"))
-}
+use test_support::{Observed, station_of};
 
 /// How far stated directions in units of 0.000000001 gon are apart.
 fn apart(
@@ -57,7 +25,7 @@ fn apart(
 }
 
 /// Two sets of two targets, 50 gon and some apart: 10,000,004 and 10,000,008 half units.
-const TWO_SETS: [(u32, u32, u32); 4] = [
+const TWO_SETS: [Observed; 4] = [
     (0, 0, 6),
     (0, 1, 10_000_010),
     (1, 0, 20_000_004),
@@ -66,7 +34,7 @@ const TWO_SETS: [(u32, u32, u32); 4] = [
 
 #[test]
 fn stated_directions_lie_beside_the_least_ones(rt: HostRuntime) -> Result<(), Fail> {
-    let station = station_of(&rt, rt.alloc(), 2, b"AB", &TWO_SETS)?;
+    let station = station_of(rt.alloc(), 2, b"AB", &TWO_SETS)?;
     // The least direction of B is 10,000,006 half units: 50.00003 gon.
     let cases = [
         ([0, 50_000_030_000], 0),
@@ -87,9 +55,8 @@ fn stated_directions_lie_beside_the_least_ones(rt: HostRuntime) -> Result<(), Fa
 
 #[test]
 fn what_holds_nothing_or_lies_far_off_is_refused(rt: HostRuntime) -> Result<(), Fail> {
-    let parts = station_of(&rt, rt.alloc(), 2, b"AB", &[(0, 0, 0), (1, 1, 4)])?;
+    let parts = station_of(rt.alloc(), 2, b"AB", &[(0, 0, 0), (1, 1, 4)])?;
     let tie = station_of(
-        &rt,
         rt.alloc(),
         2,
         b"AB",
@@ -110,7 +77,7 @@ fn what_holds_nothing_or_lies_far_off_is_refused(rt: HostRuntime) -> Result<(), 
 
 /// Three sets of two of three targets in a ring, 400.06 gon round and some more: each residual is a
 /// sixth of what is more than 400 gon.
-const fn ring(more: u16) -> [(u32, u32, u32); 6] {
+const fn ring(more: u16) -> [Observed; 6] {
     [
         (0, 0, 0),
         (0, 1, 20_012_000 + more as u32),
@@ -123,7 +90,7 @@ const fn ring(more: u16) -> [(u32, u32, u32); 6] {
 
 #[test]
 fn the_largest_residual_is_kept_and_a_sixth_more_is_not(rt: HostRuntime) -> Result<(), Fail> {
-    let kept = station_of(&rt, rt.alloc(), 3, b"ABC", &ring(0))?;
+    let kept = station_of(rt.alloc(), 3, b"ABC", &ring(0))?;
     assert_rounded(
         &rt,
         rt.alloc(),
@@ -133,7 +100,7 @@ fn the_largest_residual_is_kept_and_a_sixth_more_is_not(rt: HostRuntime) -> Resu
     );
     let stated = [0, 100_040_000_000, 250_020_000_000];
     assert_eq!(rt; apart(&rt, rt.alloc(), &kept, &stated), Ok(0));
-    let above = station_of(&rt, rt.alloc(), 3, b"ABC", &ring(1))?;
+    let above = station_of(rt.alloc(), 3, b"ABC", &ring(1))?;
     assert_eq!(rt;
         apart(&rt, rt.alloc(), &above, &stated),
         Err(AdjustFault::Residual(1).into())
@@ -142,7 +109,7 @@ fn the_largest_residual_is_kept_and_a_sixth_more_is_not(rt: HostRuntime) -> Resu
 }
 
 /// Four targets 25 gon apart, in three sets, complete.
-const WHOLE: [(u32, u32, u32); 12] = [
+const WHOLE: [Observed; 12] = [
     (0, 0, 0),
     (0, 1, 5_000_000),
     (0, 2, 10_000_000),
@@ -158,7 +125,7 @@ const WHOLE: [(u32, u32, u32); 12] = [
 ];
 
 /// The same with a gap in each set.
-const GAPS: [(u32, u32, u32); 6] = [
+const GAPS: [Observed; 6] = [
     (0, 0, 0),
     (0, 1, 5_000_000),
     (1, 1, 25_000_000),
@@ -170,9 +137,9 @@ const GAPS: [(u32, u32, u32); 6] = [
 #[test]
 fn more_targets_and_gaps_take_no_more_than_they_need(rt: HostRuntime) -> Result<(), Fail> {
     let stated = [0, 25_000_000_000, 50_000_000_000, 75_000_000_000];
-    let cases: [&[(u32, u32, u32)]; 2] = [&WHOLE, &GAPS];
+    let cases: [&[Observed]; 2] = [&WHOLE, &GAPS];
     for observed in cases {
-        let station = station_of(&rt, rt.alloc(), 3, b"ABCD", observed)?;
+        let station = station_of(rt.alloc(), 3, b"ABCD", observed)?;
         let answer = apart(&rt, rt.alloc(), &station, &stated);
         assert_eq!(rt; answer, Ok(0));
     }
@@ -202,7 +169,7 @@ fn assert_rounded(rt: &impl Abort, alloc: Global, station: &Station, step: u32, 
 #[test]
 fn least_directions_are_rounded_to_steps(rt: HostRuntime) -> Result<(), Fail> {
     // B lies 50.00003 gon from A.
-    let station = station_of(&rt, rt.alloc(), 2, b"AB", &TWO_SETS)?;
+    let station = station_of(rt.alloc(), 2, b"AB", &TWO_SETS)?;
     let cases = [
         (1_000, [0, 50_000_030_000]),
         (10_000, [0, 50_000_030_000]),
@@ -231,14 +198,14 @@ fn directions_stand_on_the_circle_from_0(rt: HostRuntime) -> Result<(), Fail> {
         ((0, 10_000_005), 10_000, 50_000_030_000),
     ];
     for ((first, second), step, want) in cases {
-        let station = station_of(&rt, rt.alloc(), 1, b"AB", &[(0, 0, first), (0, 1, second)])?;
+        let station = station_of(rt.alloc(), 1, b"AB", &[(0, 0, first), (0, 1, second)])?;
         assert_rounded(&rt, rt.alloc(), &station, step, &[0, want]);
     }
     Ok(())
 }
 
 /// Three sets of two targets, 1, 2 and 2 half units apart: 5/3 of 0.000005 gon, 0.000008333.. gon.
-const THIRDS: [(u32, u32, u32); 6] = [
+const THIRDS: [Observed; 6] = [
     (0, 0, 0),
     (0, 1, 1),
     (1, 0, 0),
@@ -249,7 +216,7 @@ const THIRDS: [(u32, u32, u32); 6] = [
 
 #[test]
 fn the_nearest_step_is_taken(rt: HostRuntime) -> Result<(), Fail> {
-    let station = station_of(&rt, rt.alloc(), 3, b"AB", &THIRDS)?;
+    let station = station_of(rt.alloc(), 3, b"AB", &THIRDS)?;
     let cases = [(1, 8_333), (10, 8_330), (1_000, 8_000), (10_000, 10_000)];
     for (step, want) in cases {
         assert_rounded(&rt, rt.alloc(), &station, step, &[0, want]);
@@ -260,7 +227,7 @@ fn the_nearest_step_is_taken(rt: HostRuntime) -> Result<(), Fail> {
 #[test]
 fn what_was_rounded_is_apart_by_half_of_what_it_is_off(rt: HostRuntime) -> Result<(), Fail> {
     // 8,333.3.. units of 0.000000001 gon: off by 0.3.., 333.3.., 1,666.6.. and 2,666.6..
-    let station = station_of(&rt, rt.alloc(), 3, b"AB", &THIRDS)?;
+    let station = station_of(rt.alloc(), 3, b"AB", &THIRDS)?;
     let cases = [(8_333, 1), (8_000, 1), (10_000, 1), (11_000, 2)];
     for (second, want) in cases {
         let stated = [0, second];

@@ -1,7 +1,7 @@
 //! Stations worked in exact fractions, beside what is stated of their targets; and tables beside
 //! the worked station S1, through the whole.
 
-use adjust_kernel::{Name, Obs, PARTS, Station};
+use adjust_kernel::{PARTS, Station};
 use byte_ends::{Held, Script};
 use direction_table::{AngleUnit, RowKind, TableFault};
 use exact_adjustment::{AdjustError, AdjustFault};
@@ -14,10 +14,7 @@ use station_differences::{
 use std::alloc::Global;
 use std::process::Abort;
 use std::test::Fail;
-use test_support::{S1, TIE, TWO_PARTS};
-
-/// An observation: the places of its set and its target, and its two-face direction in half units.
-type Observed = (u32, u32, u32);
+use test_support::{Observed, S1, TIE, TWO_PARTS, station_of};
 
 /// A table of S1, its rows in another order than the station's targets, turned by 100 gon.
 const STATED: &[u8] = b"B;150,0001\nA;100,0001\n";
@@ -29,35 +26,6 @@ B,150.000100,50.000030,-0.015\n";
 
 fn limits(rt: &impl Abort) -> Limits {
     Limits::new(100, 100).expect(rt, "limits")
-}
-
-/// A station of targets A, B and so on, and of this many sets, with these observations.
-fn station_of(
-    rt: &impl Abort,
-    alloc: Global,
-    sets: u16,
-    letters: &[u8],
-    observed: &[Observed],
-) -> Result<Station, Fail> {
-    let name = |letter: u8| Name::new(&[letter]).expect(rt, "a name");
-    let mut names = Vec::new(alloc);
-    for letter in letters {
-        names.push(name(*letter))?;
-    }
-    let mut numbers = Vec::new(alloc);
-    for number in 1..=sets {
-        numbers.push(number)?;
-    }
-    let mut obs = Vec::new(alloc);
-    for (set, target, value) in observed {
-        obs.push(Obs {
-            set: *set,
-            target: *target,
-            value: *value,
-        })?;
-    }
-    let station = Station::new(name(b'S'), names, numbers, obs);
-    Ok(station.expect(rt, "a station"))
 }
 
 /// The text of stated directions, in units of 0.000000001 gon, beside a station.
@@ -152,7 +120,7 @@ fn two_targets_lie_on_both_sides_of_their_middle(rt: HostRuntime) -> Result<(), 
             B,50.000025,50.000025,100000.000\n",
         ),
     ];
-    let station = station_of(&rt, rt.alloc(), 2, b"AB", &TWO)?;
+    let station = station_of(rt.alloc(), 2, b"AB", &TWO)?;
     for (stated, want) in cases {
         assert_eq!(rt; text(&rt, rt.alloc(), &station, &stated)?.as_slice(), want);
     }
@@ -178,7 +146,7 @@ fn an_incomplete_station_has_differences_of_fractions(rt: HostRuntime) -> Result
             C,150.000029000,150.000049,-0.510\n",
         ),
     ];
-    let station = station_of(&rt, rt.alloc(), 3, b"ABC", &GAPS)?;
+    let station = station_of(rt.alloc(), 3, b"ABC", &GAPS)?;
     for (stated, want) in cases {
         assert_eq!(rt; text(&rt, rt.alloc(), &station, &stated)?.as_slice(), want);
     }
@@ -226,7 +194,7 @@ fn four_targets_have_one_rotation(rt: HostRuntime) -> Result<(), Fail> {
             D,50.000000,300.000000,75000.000\n",
         ),
     ];
-    let station = station_of(&rt, rt.alloc(), 1, b"ABCD", &QUARTERS)?;
+    let station = station_of(rt.alloc(), 1, b"ABCD", &QUARTERS)?;
     for (stated, want) in cases {
         assert_eq!(rt; text(&rt, rt.alloc(), &station, &stated)?.as_slice(), want);
     }
@@ -235,7 +203,7 @@ fn four_targets_have_one_rotation(rt: HostRuntime) -> Result<(), Fail> {
 
 #[test]
 fn one_target_has_no_difference(rt: HostRuntime) -> Result<(), Fail> {
-    let station = station_of(&rt, rt.alloc(), 1, b",", &[(0, 0, 7)])?;
+    let station = station_of(rt.alloc(), 1, b",", &[(0, 0, 7)])?;
     let want: &[u8] = b"target,stated,least squares,difference\n\",\",399.000000,0.000000,0.000\n";
     assert_eq!(rt;
         text(&rt, rt.alloc(), &station, &[399 * GON])?.as_slice(),
@@ -254,7 +222,7 @@ fn a_residual_above_10_mgon_is_refused(rt: HostRuntime) -> Result<(), Fail> {
         (2, 0, 0),
         (2, 1, 6_001),
     ];
-    let station = station_of(&rt, rt.alloc(), 3, b"AB", &far)?;
+    let station = station_of(rt.alloc(), 3, b"AB", &far)?;
     assert_eq!(rt; station.targets().len(), 2);
     let answer = target_differences(rt.alloc(), &station, &[0, 0]);
     assert!(rt; matches!(answer, Err(AdjustError::Fault(AdjustFault::Residual(5)))));

@@ -1,6 +1,6 @@
 //! Stations worked in exact fractions: their observations, adjusted, and the text of these.
 
-use adjust_kernel::{Name, Obs, Station};
+use adjust_kernel::Station;
 use byte_ends::{Held, Script};
 use exact_adjustment::{AdjustError, AdjustFault};
 use station_book::Limits;
@@ -12,10 +12,7 @@ use station_residuals::{
 use std::alloc::Global;
 use std::process::Abort;
 use std::test::Fail;
-use test_support::{S1, TIE, TWO_PARTS};
-
-/// An observation: the places of its set and its target, and its two-face direction in half units.
-type Observed = (u32, u32, u32);
+use test_support::{Observed, S1, TIE, TWO_PARTS, station_of};
 
 /// What is printed of S1.
 const RESIDUALS: &[u8] = b"set,target,direction,adjusted,residual\n\
@@ -26,35 +23,6 @@ const RESIDUALS: &[u8] = b"set,target,direction,adjusted,residual\n\
 
 fn limits(rt: &impl Abort) -> Limits {
     Limits::new(100, 100).expect(rt, "limits")
-}
-
-/// A station of targets A, B and so on, and of this many sets, with these observations.
-fn station_of(
-    rt: &impl Abort,
-    alloc: Global,
-    sets: u16,
-    letters: &[u8],
-    observed: &[Observed],
-) -> Result<Station, Fail> {
-    let name = |letter: u8| Name::new(&[letter]).expect(rt, "a name");
-    let mut names = Vec::new(alloc);
-    for letter in letters {
-        names.push(name(*letter))?;
-    }
-    let mut numbers = Vec::new(alloc);
-    for number in 1..=sets {
-        numbers.push(number)?;
-    }
-    let mut obs = Vec::new(alloc);
-    for (set, target, value) in observed {
-        obs.push(Obs {
-            set: *set,
-            target: *target,
-            value: *value,
-        })?;
-    }
-    let station = Station::new(name(b'S'), names, numbers, obs);
-    Ok(station.expect(rt, "a station"))
 }
 
 /// The text of a station's residuals.
@@ -159,7 +127,7 @@ fn observations_are_adjusted_and_rounded_once(rt: HostRuntime) -> Result<(), Fai
         ),
     ];
     for (sets, letters, observed, want) in cases {
-        let station = station_of(&rt, rt.alloc(), sets, letters, observed)?;
+        let station = station_of(rt.alloc(), sets, letters, observed)?;
         assert_eq!(rt; text(rt.alloc(), &station)?.as_slice(), want);
     }
     Ok(())
@@ -169,7 +137,7 @@ fn observations_are_adjusted_and_rounded_once(rt: HostRuntime) -> Result<(), Fai
 fn a_residual_above_10_mgon_is_refused(rt: HostRuntime) -> Result<(), Fail> {
     let mut above = LARGEST;
     above[5].2 += 1;
-    let station = station_of(&rt, rt.alloc(), 3, b"AB", &above)?;
+    let station = station_of(rt.alloc(), 3, b"AB", &above)?;
     let answer = adjusted_observations(rt.alloc(), &station);
     assert!(rt; matches!(answer, Err(AdjustError::Fault(AdjustFault::Residual(5)))));
     Ok(())

@@ -64,7 +64,6 @@ impl Wide {
     }
 
     /// The number times a factor, with another added; None where that does not fit.
-    #[tactic(auto, using(crate::proofs::LimbLaws::carried), unfolding(crate::specs::Limbs::WIDE_LIMIT))]
     pub fn checked_mul_add(&self, factor: u64, addend: u64) -> Option<Wide>
         ensures some { IfSome result (λ sum. sum ≡ self.now * factor + addend) }
         ensures fits { IfSome result (λ sum. sum < WIDE_LIMIT) }

@@ -2,7 +2,7 @@
 
 use super::answers::{AMPLE, Command, usual_limits};
 use super::files::{
-    ACCEPTED, Broken, Endless, LIST, Noted, SHEET, STATION, Stuck, THREE_LINES, THREE_LINES_WORDS,
+    ACCEPTED, Endless, LIST, Noted, SHEET, STATION, THREE_LINES, THREE_LINES_WORDS,
     with_blank_lines,
 };
 use byte_ends::{Held, OfRead, OfWrite, Script};
@@ -14,7 +14,7 @@ use station_check::{
 use std::alloc::Global;
 use std::process::Abort;
 use std::test::Fail;
-use test_support::{Recovers, Resumes};
+use test_support::{Broken, Recovers, Resumes, Stuck};
 
 /// A field file that is read in pieces.
 fn in_pieces(gsi: &[u8]) -> Script<'_> {

@@ -1,7 +1,7 @@
 //! Field files worked out by hand, what is printed of them, and readers and writers no file has.
 
 use std::alloc::Global;
-use std::io::{self, Error, ErrorKind, Read, Write};
+use std::io::{self, Read, Write};
 use std::test::Fail;
 
 /// The station S1 in two sets, twelve blocks.
@@ -91,40 +91,6 @@ pub fn with_blank_lines(alloc: Global, text: &[u8]) -> Result<Vec<u8>, Fail> {
         long.push(b'\n')?;
     }
     Ok(long)
-}
-
-/// A reader and a writer that fail at once.
-#[derive(Drop)]
-pub struct Broken;
-
-impl Read for Broken {
-    fn read(&mut self, _buf: &mut [u8]) -> io::Result<usize> {
-        Err(Error::from(ErrorKind::BrokenPipe))
-    }
-}
-
-impl Write for Broken {
-    fn write(&mut self, _buf: &[u8]) -> io::Result<usize> {
-        Err(Error::from(ErrorKind::BrokenPipe))
-    }
-
-    fn flush(&mut self) -> io::Result<()> {
-        Err(Error::from(ErrorKind::BrokenPipe))
-    }
-}
-
-/// A writer that takes no byte.
-#[derive(Drop)]
-pub struct Stuck;
-
-impl Write for Stuck {
-    fn write(&mut self, _buf: &[u8]) -> io::Result<usize> {
-        Ok(0)
-    }
-
-    fn flush(&mut self) -> io::Result<()> {
-        Ok(())
-    }
 }
 
 /// A writer that counts what it gets.

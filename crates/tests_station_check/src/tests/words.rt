@@ -2,12 +2,13 @@
 
 ghost use Rattle.std.specs.Prelude.{◌<◌};
 
-use super::files::{Broken, Endless, Noted, STATION, Stuck, THREE_LINES, THREE_LINES_WORDS};
+use super::files::{Endless, Noted, STATION, THREE_LINES, THREE_LINES_WORDS};
 use byte_ends::{Held, OfRead, OfWrite, Script};
 use gsi_file::{FileFault, FileKind};
 use station_check::{Fault, run_words, write_words};
 use std::alloc::Global;
 use std::test::Fail;
+use test_support::{Broken, Stuck};
 
 /// Bytes that a sink has room for where no test wants less.
 const AMPLE: usize = 4_000;

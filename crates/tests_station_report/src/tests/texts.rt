@@ -1,47 +1,12 @@
 //! Stations worked in exact fractions: what a report computes of them, and its text.
 
 use super::worked::{AMPLE, PATH, STEPS, given, limits, refused, report_of, room_for, s1, s4};
-use adjust_kernel::{Name, Obs, Station};
 use exact_adjustment::{AdjustError, AdjustFault};
 use station_check::Fault;
 use station_compare::CompareFault;
 use station_report::{computed_of, degrees_of, report_text, run_report, write_report};
-use std::alloc::Global;
-use std::process::Abort;
 use std::test::Fail;
-use test_support::{TIE, TWO_PARTS};
-
-/// An observation: the places of its set and its target, and its two-face direction in half units.
-type Observed = (u32, u32, u32);
-
-/// A station of targets A, B and so on, and of this many sets, with these observations.
-fn station_of(
-    rt: &impl Abort,
-    alloc: Global,
-    sets: u16,
-    letters: &[u8],
-    observed: &[Observed],
-) -> Result<Station, Fail> {
-    let name = |letter: u8| Name::new(&[letter]).expect(rt, "a name");
-    let mut names = Vec::new(alloc);
-    for letter in letters {
-        names.push(name(*letter))?;
-    }
-    let mut numbers = Vec::new(alloc);
-    for number in 1..=sets {
-        numbers.push(number)?;
-    }
-    let mut obs = Vec::new(alloc);
-    for (set, target, value) in observed {
-        obs.push(Obs {
-            set: *set,
-            target: *target,
-            value: *value,
-        })?;
-    }
-    let station = Station::new(name(b'S'), names, numbers, obs);
-    Ok(station.expect(rt, "a station"))
-}
+use test_support::{Observed, TIE, TWO_PARTS, station_of};
 
 /// The last reading is 30 mgon off: two residuals are 10 mgon, no more than there may be.
 const LARGEST: [Observed; 6] = [
@@ -82,7 +47,7 @@ fn the_standard_deviation_is_rounded_once(rt: HostRuntime) -> Result<(), Fail> {
         (2, b"A", &[(0, 0, 7), (1, 0, 79_999_999)], 0, None, 0),
     ];
     for (sets, letters, observed, degrees, deviation, greatest) in cases {
-        let station = station_of(&rt, rt.alloc(), sets, letters, observed)?;
+        let station = station_of(rt.alloc(), sets, letters, observed)?;
         let computed = computed_of(rt.alloc(), &station).map_err(|_| "no adjustment")?;
         assert_eq!(rt; degrees_of(&station), degrees);
         assert_eq!(rt; computed.deviation, deviation);
@@ -100,7 +65,7 @@ fn the_most_sets_have_a_standard_deviation(rt: HostRuntime) -> Result<(), Fail> 
         observed.push((set, 0, set * 1_000))?;
         observed.push((set, 1, set * 1_000 + 5_000_000 + set * set % 7))?;
     }
-    let station = station_of(&rt, rt.alloc(), 40, b"AB", &observed)?;
+    let station = station_of(rt.alloc(), 40, b"AB", &observed)?;
     let computed = computed_of(rt.alloc(), &station).map_err(|_| "no adjustment")?;
     assert_eq!(rt; degrees_of(&station), 39);
     assert_eq!(rt; computed.deviation, Some(5));
@@ -111,7 +76,7 @@ fn the_most_sets_have_a_standard_deviation(rt: HostRuntime) -> Result<(), Fail> 
 fn a_residual_above_10_mgon_is_refused(rt: HostRuntime) -> Result<(), Fail> {
     let mut above = LARGEST;
     above[5].2 += 1;
-    let station = station_of(&rt, rt.alloc(), 3, b"AB", &above)?;
+    let station = station_of(rt.alloc(), 3, b"AB", &above)?;
     let answer = computed_of(rt.alloc(), &station);
     assert!(rt; matches!(answer, Err(AdjustError::Fault(AdjustFault::Residual(5)))));
     Ok(())

@@ -18,7 +18,7 @@ row_taken : (c : After-is_some) (before : List (List (List ℕ)))
     (tidy c.args.targets.now (fields_of c.args.row.now)) c.in_ok-entry.entry.place
     (two_columns_view c.in_ok-columns.columns)
 row_taken c before same = record {
-  columns = sym c.of.ensures ∙ ap (λ (o : Option Columns). option_map two_columns_view o)
+  columns = sym c.parse.ensures ∙ ap (λ (o : Option Columns). option_map two_columns_view o)
       c.in_ok-columns.ensures.ok_part;
   clean = c.in_ok-entry.ensures.faultless;
   inside = c.in_ok-entry.ensures.inside;

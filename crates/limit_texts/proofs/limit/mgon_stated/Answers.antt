@@ -1,7 +1,6 @@
 use Rattle.std.proofs.Common.{◌≡◌, ◌∙◌, ◌≤◌, ℕ, List, ◌++◌, ◌*◌, ap, arith, codes, sym, true≢false}
 use Rattle.std.specs.Prelude.{◌/◌}
-use Rattle.limit_texts.specs.Decimals.{is_number}
-use Rattle.limit_texts.specs.Limits.{StatesMgon}
+use Rattle.limit_texts.specs.Limits.{StatesMgon, is_number}
 use Rattle.limit_texts.proofs.Quotients.{is-quotient, nothing-over, same-number}
 use Rattle.limit_texts.proofs.Quotients.{stated-thousandths, whole-quotient}
 use Rattle.limit_texts.proofs.limit.mgon_stated.Goals as goal

@@ -4,7 +4,8 @@ use Rattle.std.specs.Prelude.{slice_get, nat_lt, ◌&&◌}
 use Rattle.adjust_kernel.specs.declared.bounds.TheConstants.{MOST_SETS}
 use Rattle.set_marks.specs.declared.sight.Sight.{Sight}
 use Rattle.set_marks.specs.declared.fault.MarkKind.TheVariants as kinds
-use Rattle.set_marks.specs.Divisions.{sets_flaw, first_set, end_by, starts_from, rest_flaw, flaw_when}
+use Rattle.set_marks.specs.Divisions.{sets_flaw, first_set, end_by, starts_from, rest_flaw}
+use Rattle.set_marks.specs.Divisions.{flaw_when}
 use Rattle.set_marks.proofs.FewStarts.{flaw_in_sets, flaw_of_one}
 use Rattle.set_marks.proofs.division.flaw_of.Goals as goal
 

@@ -1,5 +1,5 @@
-use Rattle.std.proofs.Common.{◌≡◌, ◌<◌, ◌+◌, ◌-◌, ◌∷◌, ◌++◌, [], ℕ, List, Some, None, length, drop, sym, ap}
-use Rattle.std.proofs.Common.{subst, ◌∙◌, arith, rules}
+use Rattle.std.proofs.Common.{◌≡◌, ◌<◌, ◌+◌, ◌-◌, ◌∷◌, ◌++◌, [], ℕ, List, Some, None, length, drop}
+use Rattle.std.proofs.Common.{sym, ap, subst, ◌∙◌, arith, rules}
 use Rattle.std.specs.Prelude.{slice_get, slice_index}
 use Rattle.std.proofs.lemmas.List.{append-nil}
 use Rattle.std.proofs.lemmas.List.Elements.{All-nil, All-drop}
@@ -15,7 +15,9 @@ use Rattle.set_marks.proofs.LinePlaces.{up_to_end}
 use Rattle.set_marks.proofs.Ordering.{up_to}
 use Rattle.set_marks.proofs.placing.placed.Goals as goal
 use Rattle.set_marks.proofs.placing.placed.Goals.{then-block-number-via-then-block-number}
-use Rattle.set_marks.proofs.placing.placed.Goals.{then-block-number-via-else-block-number+then-block-number-2}
+use Rattle.set_marks.proofs.placing.placed.Goals.{
+  then-block-number-via-else-block-number+then-block-number-2,
+}
 
 pub marks-init : goal.marks-init
 marks-init c =
@@ -54,8 +56,9 @@ marks-preserved c =
           c.place_block.new.placed.items ++ placed_by bytes block (drop (k + 1) bs)
           (marks_after block l) ≡ placed bytes c.args.marks.now) (sym split)
           (next_placed bytes number k block bs m ms c.marks.found.items
-          c.place_block.new.placed.items (placed bytes c.args.marks.now) (omega (arith, past)) (search rules) inside
-          (rw split at c.in_ok-left.ensures.value) (rw split at c.marks.invariant.value)));
+          c.place_block.new.placed.items (placed bytes c.args.marks.now) (omega (arith, past))
+          (search rules) inside (rw split at c.in_ok-left.ensures.value)
+          (rw split at c.marks.invariant.value)));
       room = c.in_ok-left.ensures.room;
       ordered = (
         slice_index bs k,

@@ -1,5 +1,6 @@
 use Rattle.std.proofs.Common.{◌≡◌, ◌≤◌, ◌<◌, ◌+◌, ◌-◌, ℕ, List, Option, None, Err}
-use Rattle.std.proofs.Common.{length, drop, take, refl, sym, ap, subst, ◌∙◌, arith, rules, inl, Bool}
+use Rattle.std.proofs.Common.{length, drop, take, refl, sym, ap, subst, ◌∙◌, arith, rules, inl}
+use Rattle.std.proofs.Common.{Bool}
 use Rattle.std.proofs.lemmas.List.{length-drop, take_all}
 use Rattle.std.proofs.lemmas.List.Elements.{All-nil}
 use Rattle.std.proofs.lemmas.List.Splits.{slice_split_none}
@@ -20,10 +21,18 @@ use Rattle.set_marks.proofs.TakenParts.{coming, over_part, next_answers, part_ta
 use Rattle.set_marks.proofs.TakenParts.{whole_taken, fault_found, refused_for, refused_at, broken}
 use Rattle.set_marks.proofs.TakenParts.{few_lines}
 use Rattle.set_marks.proofs.walk.readings_of.Goals as goal
-use Rattle.set_marks.proofs.walk.readings_of.Goals.{then-end-gt-LONGEST_LINE-via-then-end-gt-LONGEST_LINE}
-use Rattle.set_marks.proofs.walk.readings_of.Goals.{then-end-gt-LONGEST_LINE-via-else-end-gt-LONGEST_LINE+then-end-left}
-use Rattle.set_marks.proofs.walk.readings_of.Goals.{then-rest-gt-LONGEST_LINE-via-then-rest-gt-LONGEST_LINE}
-use Rattle.set_marks.proofs.walk.readings_of.Goals.{then-rest-gt-LONGEST_LINE-via-else-rest-gt-LONGEST_LINE+then-rest-left}
+use Rattle.set_marks.proofs.walk.readings_of.Goals.{
+  then-end-gt-LONGEST_LINE-via-then-end-gt-LONGEST_LINE,
+}
+use Rattle.set_marks.proofs.walk.readings_of.Goals.{
+  then-end-gt-LONGEST_LINE-via-else-end-gt-LONGEST_LINE+then-end-left,
+}
+use Rattle.set_marks.proofs.walk.readings_of.Goals.{
+  then-rest-gt-LONGEST_LINE-via-then-rest-gt-LONGEST_LINE,
+}
+use Rattle.set_marks.proofs.walk.readings_of.Goals.{
+  then-rest-gt-LONGEST_LINE-via-else-rest-gt-LONGEST_LINE+then-rest-left,
+}
 
 pub parts-init : goal.parts-init
 parts-init c =
@@ -73,7 +82,8 @@ returns-then-end-gt-LONGEST_LINE-clause-answers c =
     (refused_for c.args.station told (answers_within left rest c.args.fails) c.parts.walk.number
     c.parts.walk.readings c.parts.walk.fault c.broken_limit.result (omega (arith, few, room))
     (broken left n rest c.args.fails c.broken_limit.result first.plain (omega (arith, inside)) low
-    high (λ short. let le = low short in omega (arith, le, inside)) c.broken_limit.ensures.file c.broken_limit.ensures.line)
+    high (λ short. let le = low short in omega (arith, le, inside)) c.broken_limit.ensures.file
+    c.broken_limit.ensures.line)
     inv.taken)
 
 pub returns-in_err-take_part-clause-answers : goal.returns-in_err-take_part-clause-answers
@@ -193,7 +203,8 @@ returns-then-fails-clause-answers c =
     let few = inv.few in
     let room = inv.fits in
     let plain : HasNoEnd rest = no_end rest c.in_default.ensures.place in
-    subst (λ (e : _). AnswersReadings c.args.station told (Err e)) (sym c.at_line-then-fails.ensures)
+    subst (λ (e : _). AnswersReadings c.args.station told (Err e))
+    (sym c.at_line-then-fails.ensures)
     (refused_for c.args.station told (answers_within left rest c.args.fails) c.parts.walk.number
     c.parts.walk.readings c.parts.walk.fault Read (omega (arith, few, room))
     (ap (λ (fails : Bool). answers_within left rest fails) c.if-fails.true

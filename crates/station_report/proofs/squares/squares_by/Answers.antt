@@ -134,8 +134,11 @@ subtract-requires c =
     rw (← c.denominator-denominator.ensures.value) (omega (arith, c.times.ensures)) in
     omega (arith, ints, sum, some, off)
 
-pub returns-clause-squares : goal.returns-clause-squares
-returns-clause-squares c =
+-- What is left of the sum, once what lifted it is taken off.
+left_over : (c : goal.After-subtract) → pos c.subtract.new.self
+    ≡ products c.args.station.now c.obs-obs.ensures.valid c.args.adjustment.now
+    c.requires.exact c.args.directions.now c.args.orientations.now
+left_over c =
     let station = c.args.station.now in
     let a = c.args.adjustment.now in
     let l = c.loop-place in
@@ -156,35 +159,16 @@ returns-clause-squares c =
     let off : c.subtract.new.self + a.denominator * (2_000 * l.factors) ≡ l.sum =
     rw (← c.denominator-denominator.ensures.value)
     (omega (arith, c.subtract.ensures, c.times.ensures)) in
-    let is : pos c.subtract.new.self
-    ≡ products station c.obs-obs.ensures.valid a c.requires.exact ds os =
-    omega (arith, ints, sum, off) in
-    squares_are station c.obs-obs.ensures.valid a c.requires.exact ds os c.subtract.new.self is
+    omega (arith, ints, sum, off)
+
+pub returns-clause-squares : goal.returns-clause-squares
+returns-clause-squares c =
+    squares_are c.args.station.now c.obs-obs.ensures.valid c.args.adjustment.now
+    c.requires.exact c.args.directions.now c.args.orientations.now c.subtract.new.self
+    (left_over c)
 
 pub returns-clause-bound : goal.returns-clause-bound
 returns-clause-bound c =
-    let station = c.args.station.now in
-    let a = c.args.adjustment.now in
-    let l = c.loop-place in
-    let ds = c.args.directions.now in
-    let os = c.args.orientations.now in
-    let count = ap length c.obs-obs.ensures.value in
-    let whole : take l.place (observed_by station a) ≡ observed_by station a =
-    take_all l.place (observed_by station a) (omega (
-      arith,
-      count,
-      length-turned station.obs a.turns c.requires.exact.each,
-      c.loop-place-test.false,
-    )) in
-    let sum : (pos l.sum -ℤ pos (a.denominator * (2_000 * l.factors)))
-    ≡ products station c.obs-obs.ensures.valid a c.requires.exact ds os =
-    l.invariant.sum
-    ∙ ap (int_sum_by (λ r. residual (choice_by a) r *ℤ near ds os r)) whole in
-    let off : c.subtract.new.self + a.denominator * (2_000 * l.factors) ≡ l.sum =
-    rw (← c.denominator-denominator.ensures.value)
-    (omega (arith, c.subtract.ensures, c.times.ensures)) in
-    let is : pos c.subtract.new.self
-    ≡ products station c.obs-obs.ensures.valid a c.requires.exact ds os =
-    omega (arith, ints, sum, off) in
-    squares_within station c.obs-obs.ensures.valid a c.requires.exact ds os c.requires.limited
-    c.subtract.new.self is
+    squares_within c.args.station.now c.obs-obs.ensures.valid c.args.adjustment.now
+    c.requires.exact c.args.directions.now c.args.orientations.now c.requires.limited
+    c.subtract.new.self (left_over c)
