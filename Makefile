@@ -74,7 +74,7 @@ endif
 # proved beside them by one, which takes less processor time in all, and yields to them.
 CHAIN := adjust_kernel sheet_format station_check station_compare station_residuals station_report table_report station_record command_run station_program
 CHAIN_OF_BLOCKS := gsi_word station_book station_check
-CHAIN_OF_WORDS := sheet_format direction_table limit_texts command_line command_run
+CHAIN_OF_WORDS := station_check station_explain command_line command_run
 CHAINS := $(CHAIN) $(CHAIN_OF_BLOCKS) $(CHAIN_OF_WORDS)
 IS_BESIDE = $(if $(filter $*,$(CHAINS))$(filter 1,$(JOBS)),,yes)
 
