@@ -71,7 +71,7 @@ endif
 
 # The longest chains of proofs, in which each crate stands on the one before: the whole takes as long
 # as they do. So each of them is proved by as many processes as there are processors, and what is
-# proved beside them by one, which takes less processor time in all, and yields to them.
+# proved beside them by one, which takes less processor time in all.
 CHAIN := adjust_kernel sheet_format station_check station_compare station_residuals station_report table_report station_record command_run station_program
 CHAIN_OF_BLOCKS := gsi_word station_book station_check
 CHAIN_OF_WORDS := station_check station_explain command_line command_run
@@ -189,7 +189,7 @@ $(CRATES:%=$(PROVED)/%): $(PROVED)/%: crates.txt | $(PROVED)
 	@$(NEED_TOOLCHAIN)
 	@rm -f $@ $(foreach crate,$(CRATES),$(if $(filter $*,$(under_$(crate))),$(PROVED)/$(crate)))
 	@touch $(MADE)/$*.begun
-	@RT='$(RT)' $(if $(IS_BESIDE),nice )$(PYTHON) tools/prove.py $* --jobs $(if $(IS_BESIDE),1,$(JOBS)) \
+	@RT='$(RT)' $(PYTHON) tools/prove.py $* --jobs $(if $(IS_BESIDE),1,$(JOBS)) \
 	  < /dev/null > $(MADE)/$*.log 2>&1 || { \
 	  $(call say,$* is NOT PROVED: $(MADE)/$*.log ends with); tail -n 20 $(MADE)/$*.log >&2; exit 1; }
 	@flock $(PROVED) sh -c 'touch -r $(MADE)/$*.begun $(MADE)/$*.log && mv $(MADE)/$*.log $@ && \

@@ -57,7 +57,7 @@ named = [words[at + 1].split("=") for at, word in enumerate(words) if word == "-
 for name, library in named:
     assert "/kit/" in library or Path(library, "whole").exists(), f"{name} is not proved"
 jobs = words[words.index("--jobs") + 1]
-(calls.parent / f"asked_{crate}").write_text(f"{os.nice(0)} {jobs} {'--statements' in words}")
+(calls.parent / f"asked_{crate}").write_text(f"{jobs} {'--statements' in words}")
 say(f"begin {crate} {' '.join(name for name, _ in named)}\\n")
 meet = os.environ.get("MEET", "").split()
 end = time.monotonic() + 10
@@ -184,19 +184,18 @@ class MakeTest(ProgramTest):
                     running.append(running[-1] + (1 if call.startswith("begin") else -1))
                 self.assertEqual(most > 1, max(running) > 1)
 
-    def test_what_is_proved_beside_the_longest_chain_yields_to_it(self):
-        """It has one process, and a lower priority; where crates are proved one by one none has. Of
-        libraries the statements are kept."""
-        here = os.nice(0)
-        beside, alone = f"{min(here + 10, 19)} 1 True", f"{here} 1 True"
-        for jobs, low in [(4, beside), (1, alone)]:
+    def test_what_is_proved_beside_the_longest_chains_has_one_process(self):
+        """Those of the chains have as many as crates are proved side by side. Of libraries the
+        statements are kept."""
+        for jobs in (4, 1):
             with self.subTest(jobs):
                 self.make("clean")
                 self.make("run", f"JOBS={jobs}")
                 asked = {crate: (self.folder / f"asked_{crate}").read_text() for crate in PROVED}
-                self.assertEqual(f"{here} {jobs} True", asked["station_compare"])
-                self.assertEqual(f"{here} {jobs} False", asked["station_program"])
-                self.assertEqual({low}, {asked[crate] for crate in ("low", "middle", "station_explain")})
+                chain, beside = f"{jobs} True", "1 True"
+                self.assertEqual({chain}, {asked[crate] for crate in ("station_compare", "station_explain")})
+                self.assertEqual(f"{jobs} False", asked["station_program"])
+                self.assertEqual({beside}, {asked[crate] for crate in ("low", "other_low", "middle")})
 
     def test_the_longest_chains_are_of_crates(self):
         """Each ends with the program, or goes on as the first does."""
