@@ -1,3 +1,4 @@
 pub mod CommandsLaws
 pub mod NamingLaws
 pub mod LimitLaws
+pub mod MistakeLaws

@@ -3,4 +3,5 @@ pub mod Commands
 pub mod Stated
 pub mod CommandLine
 -- The inside.
+pub mod LimitOptions
 pub mod Mistakes

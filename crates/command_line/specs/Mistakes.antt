@@ -1,28 +1,76 @@
--- What is mistaken in words that the grammar takes, by what is found of them.
-use Rattle.std.specs.Prelude.{ℕ, IsSome, List, None, codes}
+-- What is mistaken in words that the grammar takes, by what is found of them, and what is told.
+use Rattle.std.specs.Prelude.{◌++◌, ◌<◌, ◌⊎◌, ℕ, IsSome, List, ⊤, codes}
 use Rattle.clap.specs.Words.{matched_of}
 use Rattle.clap.specs.declared.parser.matches.Found.{Found}
-use Rattle.command_line.specs.Stated.{IsGiven, NoLimitIsStated, StatesForm, StatesUnit}
-use Rattle.command_line.specs.Stated.{StatesWithin}
-use Rattle.command_line.specs.declared.mistakes.LimitOption.{LimitOption}
+use Rattle.command_line.specs.LimitOptions.{option_largest, option_limits, option_name, option_unit}
+use Rattle.command_line.specs.LimitOptions.{place}
+use Rattle.command_line.specs.Stated.{IsGiven, NoLimitIsStated, StatesDigests, StatesForm}
+use Rattle.command_line.specs.Stated.{StatesUnit}
+use Rattle.command_line.specs.declared.limit_option.LimitOption.{LimitOption}
 use Rattle.command_line.specs.declared.mistakes.Mistake.{Mistake}
 use Rattle.command_line.specs.declared.mistakes.Mistake.TheVariants as mistake
-use Rattle.command_line.specs.declared.request.ListForm.TheVariants.{Lines, Rows}
-use Rattle.direction_table.specs.declared.unit.AngleUnit.TheVariants.{Gon, Degrees}
+use Rattle.command_line.specs.declared.request.Digests.TheVariants.{Printed}
+use Rattle.command_line.specs.declared.request.ListForm.TheVariants.{Rows}
+use Rattle.direction_table.specs.declared.unit.AngleUnit.TheVariants.{Degrees}
 
 -- This is the text of the option, and no limit up to the option's largest is stated there.
 abbrev pub IsNoLimit : Found → LimitOption → List ℕ → Type 0
-IsNoLimit found option text = IsGiven found option.name.now text
-    × NoLimitIsStated found option.name.now option.unit option.largest
+IsNoLimit found option text = IsGiven found (option_name option) text
+    × NoLimitIsStated found (option_name option) (option_unit option) (option_largest option)
 
--- What a mistake names stands in what is found. It names a station's name only where neither rows
--- nor anything of a table is asked for.
-abbrev pub IsMistakeAmong : Found → Mistake → Type 0
-IsMistakeAmong found (mistake.Limit option text) = IsNoLimit found option text.now
-IsMistakeAmong found mistake.Rows = StatesForm found Rows
-IsMistakeAmong found mistake.Within =
-    StatesForm found Lines × IsSome (matched_of found (codes "within"))
-IsMistakeAmong found mistake.Degrees =
-    StatesForm found Lines × StatesWithin found None × StatesUnit found Degrees
-IsMistakeAmong found mistake.Name =
-    StatesForm found Lines × StatesWithin found None × StatesUnit found Gon
+-- No text of the option is wrong: it has none, or one that states a limit up to its largest.
+abbrev pub IsRightLimit : Found → LimitOption → Type 0
+IsRightLimit found option = (text : List ℕ) → ¬ (IsNoLimit found option text)
+
+-- So it is with each option that states a limit.
+abbrev pub AreRightLimits : Found → Type 0
+AreRightLimits found = (option : LimitOption) → IsRightLimit found option
+
+-- Something is found of this option.
+abbrev pub HasOption : Found → List ℕ → Type 0
+HasOption found name = IsSome (matched_of found name)
+
+-- What may not stand beside rows is stated: a table, a limit of a comparison, that a table is in
+-- degrees, or that digests be printed.
+abbrev pub StandsBesideRows : Found → Type 0
+StandsBesideRows found = HasOption found (codes "table") ⊎ HasOption found (codes "within")
+    ⊎ StatesUnit found Degrees ⊎ StatesDigests found Printed
+
+-- This mistake is there: the text of an option is no limit; rows are asked for, and something
+-- beside them; the limit of a comparison, or that a table is in degrees, is stated without a table.
+-- That no station can have the name is told where no other mistake is there: no more is said of it.
+abbrev pub IsThere : Found → Mistake → Type 0
+IsThere found (mistake.Limit option text) = IsNoLimit found option text.now
+IsThere found mistake.Rows = StatesForm found Rows × StandsBesideRows found
+IsThere found mistake.Within =
+    ¬ (HasOption found (codes "table")) × HasOption found (codes "within")
+IsThere found mistake.Degrees = ¬ (HasOption found (codes "table")) × StatesUnit found Degrees
+IsThere found mistake.Name = ⊤
+
+-- The place of a mistake in the order in which mistakes are told: wrong limits by the places of
+-- their options, then rows, then what is stated without a table, and a name last.
+abbrev pub rank : Mistake → ℕ
+rank (mistake.Limit option text) = place option
+rank mistake.Rows = 4
+rank mistake.Within = 5
+rank mistake.Degrees = 6
+rank mistake.Name = 7
+
+-- The mistake that is told of what is found: it is there, and none that is told before it is.
+pub record IsMistakeAmong (found : Found) (mistake : Mistake) : Type 0 where
+  pub there : IsThere found mistake
+  pub first : (other : Mistake) → rank other < rank mistake → ¬ (IsThere found other)
+
+-- The text of a mistake.
+abbrev pub mistake_text : Mistake → List ℕ
+mistake_text (mistake.Limit option text) =
+    codes "invalid value '" ++ text.now ++ codes "' for '--" ++ option_name option
+    ++ codes " <LIMIT>': " ++ option_limits option
+mistake_text mistake.Rows =
+    codes "'--csv' prints rows alone: not with '--table', '--degrees', '--within' or '--sha256'"
+mistake_text mistake.Within =
+    codes "'--within <LIMIT>' limits how far a table may be off: name it with '--table <TABLE>'"
+mistake_text mistake.Degrees =
+    codes "'--degrees' says in what a table is: name it with '--table <TABLE>'"
+mistake_text mistake.Name =
+    codes "the name of a station has 1 to 16 characters of ASCII, from the blank to '~'"

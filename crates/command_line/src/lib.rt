@@ -6,7 +6,7 @@
 //! | `request` | the types of a request |
 //! | `commands`, `arguments`, `help` | the grammar as `clap` builds it, and its help |
 //! | `subcommands`, `found` | the request of each subcommand, by the words after its name |
-//! | `mistakes` | the mistakes of words that the grammar takes |
+//! | `mistakes`, `limit_option` | the mistakes of words that the grammar takes, and their texts |
 #![tactic(auto)]
 
 mod arguments;
@@ -14,6 +14,7 @@ mod asked;
 mod commands;
 mod found;
 mod help;
+mod limit_option;
 mod mistakes;
 mod request;
 mod subcommands;

@@ -1,61 +1,21 @@
 //! The mistakes of a command line that the grammar takes.
 
-ghost use Rattle.std.specs.Prelude.{◌≡◌, IfErr, IfOk, IfSome};
+ghost use Rattle.std.specs.Prelude.{◌≡◌, ◌↔◌, IfErr, IfNone, IfOk, IfSome, IsTrue, string_bytes};
 ghost use Rattle.clap.specs.Words.{found_of, kind_of};
-ghost use Rattle.command_line.specs.Mistakes.{IsMistakeAmong, IsNoLimit};
+ghost use Rattle.command_line.specs.Mistakes.{AreRightLimits, IsMistakeAmong, IsNoLimit};
+ghost use Rattle.command_line.specs.Mistakes.{IsRightLimit, StandsBesideRows, mistake_text};
 
-use crate::arguments::{RESIDUAL, TWO_C, TWO_I, WITHIN};
+use crate::arguments::{STATED_TABLE, WITHIN};
 use crate::commands::command_named;
-use crate::found::{form_of, limit_of, unit_of};
+use crate::found::{digests_of, form_of, limit_of, unit_of};
 use crate::help;
-use crate::request::ListForm;
-use adjust_kernel::LARGEST_RESIDUAL_LIMIT;
+use crate::limit_option::{LIMIT_OPTIONS, LimitOption};
+use crate::request::{Digests, ListForm};
 use clap::error::ErrorKind;
 use clap::{ArgMatches, Error};
-use direction_table::{AngleUnit, LARGEST_WITHIN};
-use limit_texts::LimitUnit;
-use station_book::LARGEST_LIMIT;
+use direction_table::AngleUnit;
 use station_explain::{Explanation, list_of_near_names};
-use std::alloc::Global;
-
-/// An option that states a limit.
-#[derive(Clone, Copy)]
-pub(crate) struct LimitOption {
-    pub(crate) name: &'static str,
-    pub(crate) unit: LimitUnit,
-    /// The largest limit, in its unit.
-    pub(crate) largest: u32,
-    /// What may be stated.
-    stated_as: &'static str,
-}
-
-/// The options that state a limit.
-const LIMIT_OPTIONS: [LimitOption; 4] = [
-    LimitOption {
-        name: TWO_C,
-        unit: LimitUnit::Hundredth,
-        largest: LARGEST_LIMIT,
-        stated_as: help::FACE_LIMITS,
-    },
-    LimitOption {
-        name: TWO_I,
-        unit: LimitUnit::Hundredth,
-        largest: LARGEST_LIMIT,
-        stated_as: help::FACE_LIMITS,
-    },
-    LimitOption {
-        name: RESIDUAL,
-        unit: LimitUnit::HalfUnit,
-        largest: LARGEST_RESIDUAL_LIMIT,
-        stated_as: help::RESIDUAL_LIMITS,
-    },
-    LimitOption {
-        name: WITHIN,
-        unit: LimitUnit::Thousandth,
-        largest: LARGEST_WITHIN,
-        stated_as: help::TABLE_LIMITS,
-    },
-];
+use std::alloc::{AllocError, Global};
 
 /// A mistake in the words after a subcommand's name, with the usage of that in a program that was
 /// called so.
@@ -103,51 +63,79 @@ pub(crate) fn mistake_in(
     ensures kind { IfOk result (λ error. kind_of error ≡ ErrorKind.ValueValidation) }
     ensures memory { IfErr result (λ error. kind_of error ≡ ErrorKind.OutOfMemory) }
 {
+    let message = message_of(alloc, mistake_among(found))?;
     let kind = ErrorKind::ValueValidation;
-    let message = match mistake_among(found) {
-        Mistake::Limit(option, text) => {
-            let message = format!(in alloc;
-                "invalid value '{text}' for '--{} <LIMIT>': {}",
-                option.name, option.stated_as
-            )?;
-            return mistake_of(alloc, called, name, kind, message.as_str());
-        }
-        Mistake::Rows => help::ROWS_ALONE,
-        Mistake::Within => help::WITHIN_ALONE,
-        Mistake::Degrees => help::DEGREES_ALONE,
-        Mistake::Name => help::NO_NAME,
-    };
-    mistake_of(alloc, called, name, kind, message)
+    mistake_of(alloc, called, name, kind, message.as_str())
 }
 
-/// The mistake that is told of what is found: the first option whose limit may not be stated, else
-/// rows beside something else, else what is said of no table.
+/// The text of a mistake.
+fn message_of(alloc: Global, mistake: Mistake<'_>) -> Result<String, AllocError>
+    ensures { IfOk result (λ said. string_bytes said ≡ mistake_text mistake.entry) }
+{
+    match mistake {
+        Mistake::Limit(option, text) => format!(in alloc;
+            "invalid value '{text}' for '--{} <LIMIT>': {}",
+            option.name(),
+            option.stated_as()
+        ),
+        Mistake::Rows => help::ROWS_ALONE.to_string(alloc),
+        Mistake::Within => help::WITHIN_ALONE.to_string(alloc),
+        Mistake::Degrees => help::DEGREES_ALONE.to_string(alloc),
+        Mistake::Name => help::NO_NAME.to_string(alloc),
+    }
+}
+
+/// The mistake that is told of what is found: the first that is there. A name that no station can
+/// have is what is left, since the parse has tested all else.
 fn mistake_among<'a>(found: &ArgMatches<'a>) -> Mistake<'a>
     ensures { IsMistakeAmong (found_of found.now) result }
 {
+    if let Some(mistake) = wrong_limit(found) {
+        return mistake;
+    }
+    let table = found.contains_id(STATED_TABLE);
+    match form_of(found) {
+        ListForm::Rows if has_more_than_rows(found) => Mistake::Rows,
+        _ if !table && found.contains_id(WITHIN) => Mistake::Within,
+        _ if !table && unit_of(found) == AngleUnit::Degrees => Mistake::Degrees,
+        _ => Mistake::Name,
+    }
+}
+
+/// The mistake of the first option after which no limit stands that may be stated.
+fn wrong_limit<'a>(found: &ArgMatches<'a>) -> Option<Mistake<'a>>
+    ensures first { IfSome result (IsMistakeAmong (found_of found.now)) }
+    ensures none { IfNone result (AreRightLimits (found_of found.now)) }
+{
     for option in LIMIT_OPTIONS {
         if let Some(text) = text_of_no_limit(found, option) {
-            return Mistake::Limit(option, text);
+            return Some(Mistake::Limit(option, text));
         }
     }
-    match form_of(found) {
-        ListForm::Rows => Mistake::Rows,
-        ListForm::Lines if found.contains_id(WITHIN) => Mistake::Within,
-        ListForm::Lines if unit_of(found) == AngleUnit::Degrees => Mistake::Degrees,
-        ListForm::Lines => Mistake::Name,
-    }
+    None
 }
 
 /// What stands after an option where it is no limit that may be stated.
 fn text_of_no_limit<'a>(found: &ArgMatches<'a>, option: LimitOption) -> Option<&'a str>
-    ensures { IfSome result (λ text. IsNoLimit (found_of found.now) option text.now) }
+    ensures mistake { IfSome result (λ text. IsNoLimit (found_of found.now) option text.now) }
+    ensures none { IfNone result (IsRightLimit (found_of found.now) option) }
 {
-    let text = found.get_str(option.name)?;
-    match limit_of(found, option.name, option.unit) {
-        Some(limit) if limit <= option.largest => None,
+    let text = found.get_str(option.name())?;
+    match limit_of(found, option.name(), option.unit()) {
+        Some(limit) if limit <= option.largest() => None,
         Some(_) => Some(text),
         None => Some(text),
     }
+}
+
+/// Whether something is stated that may not stand beside rows.
+fn has_more_than_rows(found: &ArgMatches<'_>) -> bool
+    ensures { IsTrue result ↔ StandsBesideRows (found_of found.now) }
+{
+    found.contains_id(STATED_TABLE)
+        || found.contains_id(WITHIN)
+        || unit_of(found) == AngleUnit::Degrees
+        || matches!(digests_of(found), Digests::Printed)
 }
 
 /// The mistake of a line with a name that no fault of the table has: names near it are in its text.

@@ -1,7 +1,6 @@
-use Rattle.std.proofs.Common.{◌∙◌, ap, refl}
+use Rattle.std.proofs.Common.{◌∙◌, ap}
 use Rattle.std.proofs.lemmas.Result.{IfOk-weaker}
 use Rattle.command_line.specs.Commands.{limited, of_table}
-use Rattle.command_line.proofs.CommandsLaws.{adds_rule}
 use Rattle.command_line.proofs.commands.differences_command.Goals as goal
 
 pub returns-clause-words : goal.returns-clause-words
