@@ -8,6 +8,10 @@ pub mod FoundLaws
 pub mod PrintableLaws
 pub mod Unprintable
 pub mod AngleLaws
+pub mod BoundedLoads
+pub mod PlainLoads
+pub mod PlainWords
+pub mod PlainLines
 pub mod LineCases
 pub mod WordsLeft
 pub mod LawLemmas

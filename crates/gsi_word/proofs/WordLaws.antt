@@ -14,7 +14,7 @@ use Rattle.gsi_word.specs.LineFaults.{EndsWord, BeginsWord}
 use Rattle.gsi_word.specs.Layout.{word_of, begins_word, HasIndex, IsWordBytes}
 
 -- The head of a word and what follows.
-abbrev headed : ℕ → ℕ → ℕ → ℕ → ℕ → ℕ → ℕ → List ℕ → List ℕ
+abbrev pub headed : ℕ → ℕ → ℕ → ℕ → ℕ → ℕ → ℕ → List ℕ → List ℕ
 headed a b i j k m s rest = a ∷ b ∷ i ∷ j ∷ k ∷ m ∷ s ∷ rest
 
 -- Seven places on, the bytes are those after the head.
@@ -29,12 +29,12 @@ drop_head : (width a b i j k m s : ℕ) (rest : List ℕ)
     → drop (7 + width) (headed a b i j k m s rest) ≡ drop width rest
 drop_head width a b i j k m s rest = rw (seven width) refl
 
-at_head : (width a b i j k m s : ℕ) (rest : List ℕ)
+pub at_head : (width a b i j k m s : ℕ) (rest : List ℕ)
     → get_or (headed a b i j k m s rest) (7 + width) 0 ≡ get_or rest width 0
 at_head width a b i j k m s rest = rw (seven width) refl
 
 -- What the test of a word says of its bytes.
-record Cells (width a b i j k m s : ℕ) (rest : List ℕ) : Type 0 where
+pub record Cells (width a b i j k m s : ℕ) (rest : List ℕ) : Type 0 where
   pub long : width ≤ length rest
   pub tens : (48 ≤ a) × (a ≤ 57)
   pub ones : (48 ≤ b) × (b ≤ 57)
@@ -57,7 +57,7 @@ cells_of width a b i j k m s rest h =
       ends = grind (arith, nat_tests, after);
     }
 
-test_of_cells : (width a b i j k m s : ℕ) (rest : List ℕ) → Cells width a b i j k m s rest
+pub test_of_cells : (width a b i j k m s : ℕ) (rest : List ℕ) → Cells width a b i j k m s rest
     → begins_word width (headed a b i j k m s rest) ≡ true
 unfolding begins_word
 test_of_cells width a b i j k m s rest c =

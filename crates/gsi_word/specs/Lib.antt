@@ -10,6 +10,7 @@ pub mod FaultNames
 pub mod FoundWords
 pub mod BlockViews
 pub mod Shapes
+pub mod PlainLines
 -- The inside: where the code finds the words of a line and the parts of a word. Lemmas join it to
 -- the definitions above.
 pub mod Layout

@@ -76,7 +76,7 @@ fn number_of_sixteen(bytes: &[u8]) -> Option<u64>
 
 /// The number that eight digits write: the sum of what each of them is worth.
 #[inline(always)]
-fn value_of_eight(bytes: &[u8]) -> u32
+pub(crate) fn value_of_eight(bytes: &[u8]) -> u32
     requires eight { length bytes.now ≡ 8 }
     requires digits { IsTrue (list_all is_ascii_digit bytes.now) }
     ensures value { result ≡ decimal_value bytes.now }

@@ -16,6 +16,7 @@ mod lanes;
 pub mod laws;
 mod line;
 mod line_fault;
+mod plain;
 mod printable;
 mod shape;
 pub mod steps;

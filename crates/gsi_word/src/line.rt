@@ -19,6 +19,7 @@ ghost use Rattle.gsi_word.specs.declared.index.TheConstants.{CODE_NUMBER, POINT_
 use crate::block::Block;
 use crate::index::{CODE_NUMBER, POINT_NUMBER};
 use crate::line_fault::LineFault;
+use crate::plain::plain_shape;
 use crate::printable::check_printable;
 use crate::shape::Shape;
 use crate::word::{CONTENT, GSI_8, GSI_16, INFO, SIGN, index_of};
@@ -55,6 +56,20 @@ fn read_shape(line: &[u8]) -> Result<Shape, LineFault>
 /// The line comes without its end, as for [`read_block`].
 #[inline(always)]
 pub fn read_words(line: &[u8]) -> Result<Shape, LineFault>
+    requires { All IsLineByte line.now }
+    ensures shape { IfOk result (λ s. IsShape s line.now) }
+    ensures fault { IfErr result (IsLineFault line.now) }
+{
+    match plain_shape(line) {
+        Some(shape) => Ok(shape),
+        None => search_words(line),
+    }
+}
+
+/// What `read_words` answers, of any line.
+// Apart from its caller, so that the way of lines as most readings are written stays small.
+#[inline(never)]
+fn search_words(line: &[u8]) -> Result<Shape, LineFault>
     requires { All IsLineByte line.now }
     ensures shape { IfOk result (λ s. IsShape s line.now) }
     ensures fault { IfErr result (IsLineFault line.now) }

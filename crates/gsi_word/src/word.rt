@@ -157,7 +157,7 @@ pub(crate) fn index_of(bytes: &[u8]) -> u8
 }
 
 /// Whether the byte says in a way that is read here how the angle was put in.
-fn is_input_mode(byte: u8) -> bool
+pub(crate) fn is_input_mode(byte: u8) -> bool
     ensures { result ≡ is_input_mode byte }
 {
     matches!(byte, b'.' | b'0' | b'2' | b'3')

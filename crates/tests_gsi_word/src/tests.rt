@@ -1,6 +1,6 @@
 //! Worked lines, words, names and angles.
 
-use gsi_word::steps::{LANES, printable_run};
+use gsi_word::steps::{LANES, is_plain_reading, printable_run};
 use gsi_word::{
     AngleFault, CODE_INFORMATION, CODE_NUMBER, Found, HORIZONTAL_DIRECTION, LineFault,
     POINT_NUMBER, VERTICAL_ANGLE, Word, decimal_number, laws, read_block,
@@ -95,6 +95,38 @@ fn a_line_that_is_no_block_has_a_first_fault(rt: HostRuntime) {
     ];
     for (row, (line, fault)) in rows.iter().enumerate() {
         assert_eq!(rt; read_block(line).err(), Some(*fault), "row {row}");
+    }
+}
+
+#[test]
+fn a_line_is_a_reading_as_most_are_written(rt: HostRuntime) {
+    let rows: [(&[u8], bool); 20] = [
+        (b"110003+0000000A 21.102+00000000 22.102+10000000", true),
+        (b"110003+0000000A 21.102+00000000 22.102+10000000 ", true),
+        (b"11~!!~+ pillar7 21~!32+39999999 22...2+00000000", true),
+        (b"11....+         21.322+20000000 22.022+20000000 ", true),
+        (b"110003+0000000A 21.102+00000000 22./02+10000000", true),
+        // Another length, a byte out of its place.
+        (b"110003+0000000A 21.102+00000000 22.102+10000000  ", false),
+        (b"110003+0000000A 21.102+00000000 22.102+1000000", false),
+        (b"110003+0000000A 21.102+00000000", false),
+        (b"110003+0000000A21.102+00000000 22.102+10000000  ", false),
+        (b"11 003+0000000A 21.102+00000000 22.102+10000000", false),
+        // Other words.
+        (b"410003+0000000A 21.102+00000000 22.102+10000000", false),
+        (b"110003+0000000A 22.102+00000000 21.102+10000000", false),
+        (b"110003+0000000A 21.102+00000000 31..00+10000000", false),
+        // A minus sign, another unit, another input mode, no digit, a full turn.
+        (b"110003-0000000A 21.102+00000000 22.102+10000000", false),
+        (b"110003+0000000A 21.102+00000000 22.102-10000000", false),
+        (b"110003+0000000A 21.104+00000000 22.104+10000000", false),
+        (b"110003+0000000A 21.112+00000000 22.102+10000000", false),
+        (b"110003+0000000A 21.102+00000000 22.1/2+10000000", false),
+        (b"110003+0000000A 21.102+0000000A 22.102+10000000", false),
+        (b"110003+0000000A 21.102+40000000 22.102+10000000", false),
+    ];
+    for (row, (line, reading)) in rows.iter().enumerate() {
+        assert_eq!(rt; is_plain_reading(line), *reading, "row {row}");
     }
 }
 
