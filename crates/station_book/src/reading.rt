@@ -69,7 +69,7 @@ pub(crate) fn set_number(block: &Block<'_>) -> Result<Option<u16>, BookKind>
 }
 
 /// The face of a reading with this zenith angle; nothing where it is of neither.
-fn face_of(zenith: u32) -> Option<Face>
+pub(crate) fn face_of(zenith: u32) -> Option<Face>
     ensures { result ≡ face_of zenith }
 {
     if 0 < zenith && zenith < HALF_CIRCLE {
