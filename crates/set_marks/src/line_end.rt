@@ -1,13 +1,16 @@
 //! How lines end.
 
-ghost use Rattle.std.specs.Prelude.{◌≡◌, ◌<◌, ℕ, All, IfSome, option_map, slice_index, take, true};
+ghost use Rattle.std.specs.Prelude.{◌≡◌, ◌<◌, ℕ, IfSome, length, option_map, slice_index, take};
+ghost use Rattle.std.specs.Prelude.{true};
 ghost use Rattle.std.specs.List.{position};
 ghost use Rattle.gsi_word.specs.Words.{IsLineByte};
+ghost use Rattle.gsi_word.specs.PlainLines.{is_plain_reading};
 ghost use Rattle.gsi_file.specs.Parts.{is_line_end};
 ghost use Rattle.set_marks.specs.Lines.{end_bytes, end_from, end_before, end_beside};
+ghost use Rattle.set_marks.specs.Taking.{IsTested};
 
 use gsi_file::{CARRIAGE_RETURN, LINE_FEED};
-use gsi_word::steps::{LANES, printable_run};
+use gsi_word::steps::{LANES, PLAIN_LENGTH, is_plain_reading, printable_run};
 use memchr::memchr2;
 
 /// The bytes that end a line.
@@ -34,13 +37,24 @@ impl LineEnd {
     }
 }
 
+/// What was found of the bytes of a part.
+#[derive(Clone, Copy)]
+pub(crate) enum Tested {
+    /// It is a reading as most are written.
+    Plain,
+    /// All its bytes are printable.
+    Printable,
+    /// Nothing.
+    No,
+}
+
 /// Where a part of some bytes ends.
 #[derive(Clone, Copy)]
 pub(crate) struct PartEnd {
     /// The place of the byte that ends it.
     pub(crate) place: usize,
-    /// Whether all bytes before it were found to be printable.
-    pub(crate) printable: bool,
+    /// What was found of the bytes before it.
+    pub(crate) tested: Tested,
 }
 
 /// The byte at a place, or 0 where there is none.
@@ -111,29 +125,66 @@ fn search_end(bytes: &[u8]) -> Option<usize>
     memchr2(LINE_FEED, CARRIAGE_RETURN, bytes)
 }
 
-/// Where the first part of some bytes ends, if a byte ends one.
-///
-/// The loads that look for it test each byte whole, so that a part that is found by them needs no
-/// other test of its bytes.
+/// Where a line at the front ends that is a reading as most are written; of 48 bytes or fewer it
+/// answers nothing, for it looks at two places.
 #[inline(always)]
-pub(crate) fn part_end(bytes: &[u8]) -> Option<PartEnd>
+fn plain_end(bytes: &[u8]) -> Option<usize>
+    ensures { IfSome result (λ place. (place < length bytes.now)
+        × ((is_line_end (slice_index bytes.now place) ≡ true)
+        × (is_plain_reading (take place bytes.now) ≡ true))) }
+{
+    if bytes.len() <= PLAIN_LENGTH + 1 {
+        return None;
+    }
+    let place = if is_line_end(bytes[PLAIN_LENGTH]) {
+        PLAIN_LENGTH
+    } else {
+        PLAIN_LENGTH + 1
+    };
+    if is_line_end(bytes[place]) && is_plain_reading(&bytes[..place]) {
+        Some(place)
+    } else {
+        None
+    }
+}
+
+/// What `part_end` answers, of a part of any bytes.
+///
+/// The loads that look for the end test each byte whole, so that a part that is found by them needs
+/// no other test of its bytes.
+#[inline(always)]
+fn search_part_end(bytes: &[u8]) -> Option<PartEnd>
     ensures place { option_map (λ end. end.place) result ≡ position is_line_end bytes.now }
-    ensures printable { IfSome result (λ end. end.printable ≡ true
-        → All IsLineByte (take end.place bytes.now)) }
+    ensures tested { IfSome result (λ end. IsTested end.tested (take end.place bytes.now)) }
 {
     let at = pass_printable(bytes);
     if at < bytes.len() && is_line_end(bytes[at]) {
         return Some(PartEnd {
             place: at,
-            printable: true,
+            tested: Tested::Printable,
         });
     }
     match search_end(bytes) {
         Some(place) => Some(PartEnd {
             place,
-            printable: false,
+            tested: Tested::No,
         }),
         None => None,
+    }
+}
+
+/// Where the first part of some bytes ends, if a byte ends one.
+#[inline(always)]
+pub(crate) fn part_end(bytes: &[u8]) -> Option<PartEnd>
+    ensures place { option_map (λ end. end.place) result ≡ position is_line_end bytes.now }
+    ensures tested { IfSome result (λ end. IsTested end.tested (take end.place bytes.now)) }
+{
+    match plain_end(bytes) {
+        Some(place) => Some(PartEnd {
+            place,
+            tested: Tested::Plain,
+        }),
+        None => search_part_end(bytes),
     }
 }
 

@@ -10,11 +10,13 @@ ghost use Rattle.set_marks.specs.declared.fault.MarkFault.TheVariants.{Memory};
 ghost use Rattle.station_book.specs.Blocks.{lacks, role_of};
 ghost use Rattle.station_book.specs.declared.role.Role.TheVariants.{Measurement};
 ghost use Rattle.station_book.specs.Faults.{first_of};
+ghost use Rattle.station_book.specs.Readings.{read};
 ghost use Rattle.adjust_kernel.specs.Names.{IsName};
 ghost use Rattle.gsi_word.specs.Names.{name_of};
 ghost use Rattle.set_marks.specs.Marks.{IsRoomy};
 ghost use Rattle.set_marks.specs.Stations.{begins_line, is_two_lines, block_fault, fault_as};
 ghost use Rattle.set_marks.specs.Stations.{has_set_up_word, tells_set_up};
+ghost use Rattle.set_marks.specs.Taking.{IsKnown};
 ghost use Rattle.set_marks.specs.Keeping.{Adds, Ends, IsMemoryOr, Keeps, begun_in};
 
 use crate::fault::{MarkFault, MarkKind};
@@ -22,11 +24,14 @@ use crate::readings::Readings;
 use crate::sight::Sight;
 use adjust_kernel::Name;
 use gsi_word::{Block, CODE_NUMBER, Found, GSI_16, POINT_NUMBER, VERTICAL_ANGLE, Word};
-use station_book::{CIRCLE, HALF_CIRCLE, Reading, Role, read, role_of, target};
+use station_book::{BookKind, CIRCLE, HALF_CIRCLE, Reading, Role, read, role_of, target};
 use std::alloc::{AllocError, Global};
 
 /// The index of a slope distance.
 const SLOPE_DISTANCE: u8 = 31;
+
+/// What a measurement says: its reading, or its fault, or nothing where it has no direction.
+pub(crate) type Said = Result<Option<Reading>, BookKind>;
 
 /// Whether a block has a word of this index.
 #[tactic(auto, unfolding(station_book::specs::Blocks::lacks))]
@@ -141,7 +146,8 @@ pub(crate) fn no_readings(alloc: Global, station: Option<Name>) -> Readings
 }
 
 impl Readings {
-    /// Takes the block of this number, unless there is a fault already, or notes its fault.
+    /// Takes the block of this number, of which it may be known what it says, unless there is a
+    /// fault already, or notes its fault.
     #[inline(always)]
     pub(crate) fn take_unless(
         &mut self,
@@ -149,9 +155,11 @@ impl Readings {
         fault: &mut Option<MarkFault>,
         number: u32,
         block: &Block<'_>,
+        known: Option<Said>,
         stated: bool,
     ) -> Result<(), MarkFault>
         requires bound { number ≤ LONGEST_FILE }
+        requires known { IsKnown known (block_of block.now) }
         requires room { All IsRoomy self.old.marking.marks.items }
         ensures room { All IsRoomy self.new.marking.marks.items }
         ensures fault { OnOk result (fault.new ≡ first_of (fault.old
@@ -163,7 +171,7 @@ impl Readings {
         if fault.is_some() {
             return Ok(());
         }
-        match self.take(alloc, number, block, stated) {
+        match self.take(alloc, number, block, known, stated) {
             Ok(()) => Ok(()),
             Err(MarkFault::Memory) => Err(MarkFault::Memory),
             Err(first) => {
@@ -173,10 +181,36 @@ impl Readings {
         }
     }
 
-    /// Takes the block of this number.
+    /// Takes the block of this number, of which it may be known what it says.
+    #[inline(always)]
+    fn take(
+        &mut self,
+        alloc: Global,
+        number: u32,
+        block: &Block<'_>,
+        known: Option<Said>,
+        stated: bool,
+    ) -> Result<(), MarkFault>
+        requires bound { number ≤ LONGEST_FILE }
+        requires known { IsKnown known (block_of block.now) }
+        requires room { All IsRoomy self.old.marking.marks.items }
+        ensures room { All IsRoomy self.new.marking.marks.items }
+        ensures clean { OnOk result
+            (block_fault stated (begun_in self.old.station) number (block_of block.now) ≡ None) }
+        ensures adds { OnOk result (Adds stated (block_of block.now) number self.old self.new) }
+        ensures fault { IfErr result (IsMemoryOr
+            (block_fault stated (begun_in self.old.station) number (block_of block.now))) }
+    {
+        match known {
+            Some(said) => self.take_measurement(alloc, number, block, said, stated),
+            None => self.take_any(alloc, number, block, stated),
+        }
+    }
+
+    /// Takes the block of this number, whatever it is.
     #[inline(always)]
     #[tactic(auto, unfolding(station_book::specs::Blocks::role_of))]
-    fn take(
+    fn take_any(
         &mut self,
         alloc: Global,
         number: u32,
@@ -199,7 +233,7 @@ impl Readings {
             Role::Station | Role::Set | Role::Close => {
                 Err(MarkFault::At(number, MarkKind::HasCodes))
             }
-            Role::Measurement => self.take_measurement(alloc, number, block, stated),
+            Role::Measurement => self.take_measurement(alloc, number, block, read(block), stated),
             Role::Other => {
                 self.blocks = number;
                 Ok(())
@@ -207,16 +241,19 @@ impl Readings {
         }
     }
 
-    /// Takes a measurement.
+    /// Takes a measurement that says this.
+    #[inline(always)]
     fn take_measurement(
         &mut self,
         alloc: Global,
         number: u32,
         block: &Block<'_>,
+        said: Said,
         stated: bool,
     ) -> Result<(), MarkFault>
         requires bound { number ≤ LONGEST_FILE }
         requires measurement { role_of (block_of block.now) ≡ Measurement }
+        requires said { said ≡ read (block_of block.now) }
         requires room { All IsRoomy self.old.marking.marks.items }
         ensures room { All IsRoomy self.new.marking.marks.items }
         ensures clean { OnOk result (fault_as Measurement stated
@@ -225,7 +262,7 @@ impl Readings {
         ensures fault { IfErr result (IsMemoryOr (fault_as Measurement stated
             (begun_in self.old.station) number (block_of block.now))) }
     {
-        match read(block) {
+        match said {
             Ok(None) => {
                 if !tells_set_up(block) {
                     self.blocks = number;
@@ -270,6 +307,7 @@ impl Readings {
     }
 
     /// Adds a reading.
+    #[inline(always)]
     fn add_sight(&mut self, number: u32, wide: bool, reading: &Reading) -> Result<(), AllocError>
         requires { number ≤ LONGEST_FILE }
         ensures station { OnOk result (self.new.station ≡ self.old.station) }

@@ -4,31 +4,34 @@
 //! buffer, to which it copies what it reads. Here a line is tested where it lies, and the place
 //! where it begins is known, so that the place of a code line need not be looked for.
 
-ghost use Rattle.std.specs.Prelude.{◌≡◌, ◌<◌, ◌≤◌, ◌+◌, ◌++◌, ◌∷◌, [], All, IfErr, IfOk, None};
-ghost use Rattle.std.specs.Prelude.{OnOk, drop, length, true};
+ghost use Rattle.std.specs.Prelude.{◌≡◌, ◌<◌, ◌≤◌, ◌+◌, ◌++◌, ◌∷◌, [], ℕ, All, IfErr, IfOk};
+ghost use Rattle.std.specs.Prelude.{List, None, OnOk, drop, length, true};
 ghost use Rattle.gsi_word.specs.BlockViews.{block_of};
 ghost use Rattle.gsi_word.specs.Blocks.{IsBlock};
 ghost use Rattle.gsi_word.specs.Words.{IsLineByte};
+ghost use Rattle.gsi_word.specs.PlainLines.{is_plain_reading};
 ghost use Rattle.gsi_file.specs.FileAnswers.{file_answers};
 ghost use Rattle.gsi_file.specs.Parts.{is_line};
 ghost use Rattle.gsi_file.specs.ToCome as to_come;
 ghost use Rattle.gsi_file.specs.declared.bounds.TheConstants.{LONGEST_FILE, LONGEST_LINE};
 ghost use Rattle.gsi_file.specs.declared.file_fault.FileFault.TheVariants.{At};
 ghost use Rattle.gsi_file.specs.declared.file_fault.FileKind.TheVariants.{FileTooLong, LineTooLong};
-ghost use Rattle.set_marks.specs.declared.fault.MarkFault.TheVariants.{File};
+ghost use Rattle.set_marks.specs.declared.fault.MarkFault.TheVariants.{File, Memory};
 ghost use Rattle.set_marks.specs.Marks.{IsRoomy};
 ghost use Rattle.set_marks.specs.Keeping.{AnswersReadings, Keeps};
 ghost use Rattle.set_marks.specs.LinePlaces.{AreBegins, IsUsedUp};
-ghost use Rattle.set_marks.specs.Taking.{IsLineRefusal, TakesPart, readings_in};
+ghost use Rattle.set_marks.specs.Taking.{IsKnown, IsLineRefusal, IsTested, TakesLine, TakesPart};
+ghost use Rattle.set_marks.specs.Taking.{readings_in};
 
 use crate::fault::MarkFault;
-use crate::line_end::part_end;
-use crate::reading::no_readings;
+use crate::line_end::{Tested, part_end};
+use crate::reading::{Said, no_readings};
 use crate::readings::Readings;
 use adjust_kernel::Name;
 use gsi_file::{FileFault, FileKind, LINE_FEED, LONGEST_FILE, LONGEST_LINE, is_blank};
 use gsi_word::Block;
-use gsi_word::steps::{block_in, check_printable, read_words};
+use gsi_word::steps::{block_in, check_printable, read_words, reading_block};
+use station_book::read_plain;
 use std::alloc::{AllocError, Global};
 
 /// What was taken of the lines of a file, up to some place.
@@ -139,9 +142,35 @@ impl Walk {
         Ok(())
     }
 
-    /// Takes a part that begins at this place, if it is a line, or answers its fault.
+    /// Takes a line that begins at this place, which is this block, and of which it may be known
+    /// what it says.
     #[inline(always)]
-    fn take_part(
+    fn take_block(
+        &mut self,
+        alloc: Global,
+        at: usize,
+        block: &Block<'_>,
+        known: Option<Said>,
+        stated: bool,
+    ) -> Result<(), MarkFault>
+        requires place { at ≤ LONGEST_FILE }
+        requires bound { self.old.number < LONGEST_FILE }
+        requires known { IsKnown known (block_of block.now) }
+        requires room { All IsRoomy self.old.readings.marking.marks.items }
+        ensures room { All IsRoomy self.new.readings.marking.marks.items }
+        ensures takes { OnOk result ((line : List ℕ) → IsBlock line (block_of block.now)
+            → TakesLine stated at line self.old self.new) }
+        ensures memory { IfErr result (λ e. e ≡ Memory) }
+    {
+        self.count_line(at)?;
+        self.readings
+            .take_unless(alloc, &mut self.fault, self.number, block, known, stated)
+    }
+
+    /// Takes a part that begins at this place, of which at most is known that its bytes are
+    /// printable, if it is a line, or answers its fault.
+    #[inline(always)]
+    fn take_any(
         &mut self,
         alloc: Global,
         at: usize,
@@ -163,14 +192,61 @@ impl Walk {
         if is_blank(part) {
             return Ok(());
         }
-        let number = self.number + 1;
-        let block = match read_line(part, printable) {
-            Ok(block) => block,
-            Err(kind) => return Err(at_line(number, kind)),
-        };
-        self.count_line(at)?;
-        self.readings
-            .take_unless(alloc, &mut self.fault, number, &block, stated)
+        match read_line(part, printable) {
+            Ok(block) => self.take_block(alloc, at, &block, None, stated),
+            Err(kind) => Err(at_line(self.number + 1, kind)),
+        }
+    }
+
+    /// Takes a line that begins at this place and is a reading as most are written.
+    // Apart from other lines, so that the compiler knows of its words where they stand.
+    #[inline(always)]
+    fn take_plain(
+        &mut self,
+        alloc: Global,
+        at: usize,
+        line: &[u8],
+        stated: bool,
+    ) -> Result<(), MarkFault>
+        requires place { at ≤ LONGEST_FILE }
+        requires bound { self.old.number < LONGEST_FILE }
+        requires plain { is_plain_reading line.now ≡ true }
+        requires room { All IsRoomy self.old.readings.marking.marks.items }
+        ensures room { All IsRoomy self.new.readings.marking.marks.items }
+        ensures takes { OnOk result (TakesLine stated at line.now self.old self.new) }
+        ensures memory { IfErr result (λ e. e ≡ Memory) }
+    {
+        let said = read_plain(line);
+        self.take_block(alloc, at, &reading_block(line), Some(said), stated)
+    }
+
+    /// Takes a part that begins at this place, if it is a line, or answers its fault.
+    #[inline(always)]
+    #[tactic(auto, using(crate::proofs::PlainParts::numbered, crate::proofs::PlainParts::is_long))]
+    fn take_part(
+        &mut self,
+        alloc: Global,
+        at: usize,
+        part: &[u8],
+        tested: Tested,
+        stated: bool,
+    ) -> Result<(), MarkFault>
+        requires place { at ≤ LONGEST_FILE }
+        requires bound { self.old.number + length part.now ≤ LONGEST_FILE }
+        requires tested { IsTested tested part.now }
+        requires room { All IsRoomy self.old.readings.marking.marks.items }
+        ensures room { All IsRoomy self.new.readings.marking.marks.items }
+        ensures takes { OnOk result
+            (TakesPart (is_line part.now) stated at part.now self.old self.new) }
+        ensures count { OnOk result (self.new.number ≤ self.old.number + 1) }
+        ensures line { IfErr result (λ _. is_line part.now ≡ true) }
+        ensures fault { IfErr result (IsLineRefusal part.now (self.old.number + 1)) }
+    {
+        match tested {
+            Tested::Plain => self.take_plain(alloc, at, part, stated),
+            Tested::Printable => self.take_any(alloc, at, part, true, stated),
+            Tested::No => self.take_any(alloc, at, part, false, stated),
+        }
     }
 }
 
@@ -196,7 +272,7 @@ pub(crate) fn readings_of(
             return Err(at_line(walk.number + 1, broken_limit(left)));
         }
         let part = &rest[..end.place];
-        walk.take_part(alloc, at, part, end.printable, station.is_some())?;
+        walk.take_part(alloc, at, part, end.tested, station.is_some())?;
         let next = next_part(rest, end.place, left);
         at += next;
         rest = after(next, rest);
@@ -208,7 +284,7 @@ pub(crate) fn readings_of(
     if fails {
         return Err(at_line(walk.number + 1, FileKind::Read));
     }
-    walk.take_part(alloc, at, rest, false, station.is_some())?;
+    walk.take_part(alloc, at, rest, Tested::No, station.is_some())?;
     match walk.fault {
         Some(fault) => Err(fault),
         None => Ok(walk),

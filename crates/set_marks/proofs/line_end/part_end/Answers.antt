@@ -1,13 +1,7 @@
-use Rattle.std.proofs.Common.{sym, ◌∙◌, arith}
-use Rattle.set_marks.proofs.Breaks.{printable_position, all_printable}
+use Rattle.set_marks.proofs.PlainParts.{plain_position}
 use Rattle.set_marks.proofs.line_end.part_end.Goals as goal
 
-pub returns-then-is_line_end-clause-place : goal.returns-then-is_line_end-clause-place
-returns-then-is_line_end-clause-place c =
-    printable_position c.args.bytes.now c.pass_printable-at.result c.pass_printable-at.ensures
-    c.if-at-bytes.true (sym c.is_line_end.ensures ∙ c.if-is_line_end.true)
-
-pub returns-then-is_line_end-clause-printable : goal.returns-then-is_line_end-clause-printable
-returns-then-is_line_end-clause-printable c = λ e.
-    all_printable c.args.bytes.now c.pass_printable-at.result c.pass_printable-at.ensures
-    (let lt = c.if-at-bytes.true in omega (arith, lt))
+pub returns-in-Some-clause-place : goal.returns-in-Some-clause-place
+returns-in-Some-clause-place c =
+    plain_position c.args.bytes.now c.in-Some.place c.in-Some.ensures.0 c.in-Some.ensures.1.0
+    c.in-Some.ensures.1.1
