@@ -1,14 +1,14 @@
 -- Parts that are readings as most are written.
-use Rattle.std.proofs.Common.{◌≡◌, ◌∙◌, ℕ, ◌+◌, ◌*◌, ◌<◌, ◌≤◌, Bool, true, false, List, length}
-use Rattle.std.proofs.Common.{get_or, take, drop, not, inl, inr, refl, sym, ap, All, Some, arith}
+use Rattle.std.proofs.Common.{◌≡◌, ◌∙◌, ℕ, ◌<◌, ◌≤◌, true, false, List, length}
+use Rattle.std.proofs.Common.{get_or, take, drop, not, inl, inr, refl, ap, All, Some, arith}
 use Rattle.std.specs.Prelude.{slice_index, slice_get, ◌==◌, Option, Result}
-use Rattle.std.specs.List.{list_all, list_any, position}
+use Rattle.std.specs.List.{position}
 use Rattle.std.proofs.lemmas.Bool.{cases_Bool, eqb-true, eq-eqb, ne_eqb}
 use Rattle.std.proofs.lemmas.List.{get_or-take, length-take}
 use Rattle.std.proofs.lemmas.List.Sums.{AllPass-from_list_all}
 use Rattle.std.proofs.lemmas.List.Elements.{All-weaker}
 use Rattle.std.proofs.lemmas.List.Folds.{list_any_none}
-use Rattle.gsi_word.specs.Words.{GsiWord, IsLineByte}
+use Rattle.gsi_word.specs.Words.{GsiWord}
 use Rattle.gsi_word.specs.Blocks.{GsiBlock, IsBlock}
 use Rattle.gsi_word.specs.Layout.{word_of}
 use Rattle.gsi_word.specs.PlainLines.{is_plain_reading}

@@ -1,9 +1,9 @@
 -- Readings as most are written: what is read in their lines.
-use Rattle.std.proofs.Common.{◌≡◌, ◌∙◌, ℕ, List, [], ◌∷◌, true, refl, sym, ap, subst, Some, None}
+use Rattle.std.proofs.Common.{◌≡◌, ◌∙◌, ℕ, List, [], ◌∷◌, refl, sym, ap, Some, None}
 use Rattle.std.proofs.Common.{Ok, Err}
 use Rattle.std.specs.Prelude.{is_none, Option, unwrap_or}
 use Rattle.gsi_word.specs.Blocks.{GsiBlock, IsBlock}
-use Rattle.gsi_word.specs.PlainLines.{is_plain_reading, HasAngle}
+use Rattle.gsi_word.specs.PlainLines.{HasAngle}
 use Rattle.gsi_word.proofs.LineLaws.{same_block}
 use Rattle.station_book.specs.declared.face.Face.{Face}
 use Rattle.station_book.specs.declared.face.Face.TheVariants.{One}
