@@ -199,7 +199,6 @@ impl Walk {
     }
 
     /// Takes a line that begins at this place and is a reading as most are written.
-    // Apart from other lines, so that the compiler knows of its words where they stand.
     #[inline(always)]
     fn take_plain(
         &mut self,
