@@ -12,7 +12,7 @@ pub struct Block<'a> {
     /// The line, without the `*` before the words.
     pub(crate) bytes: &'a [u8],
     /// How many bytes the content of each word has.
-    pub(crate) width: u8,
+    pub(crate) width: usize,
     /// How many words there are.
     pub(crate) count: usize,
     ghost kept: { KeepsWords width bytes.now count },
@@ -31,7 +31,7 @@ impl<'a> Block<'a> {
         ensures value { result ≡ (block_of self.now).width }
         ensures known { (result ≡ GSI_8) ⊎ (result ≡ GSI_16) }
     {
-        self.width
+        self.width as u8
     }
 
     /// How many words there are, at least one.
@@ -79,7 +79,7 @@ impl<'a> Block<'a> {
         ensures value { slice_get (block_of self.now).words i ≡ Some result }
         ensures well_formed { IsWord (block_of self.now).width result }
     {
-        let size = CONTENT + self.width as usize;
+        let size = CONTENT + self.width;
         let start = (size + 1) * i;
         Word {
             bytes: &self.bytes[start..start + size],

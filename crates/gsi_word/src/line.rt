@@ -103,12 +103,11 @@ fn is_starred(line: &[u8]) -> bool
 }
 
 /// How many bytes the content of each word of the line has.
-fn width_of(line: &[u8]) -> u8
+fn width_of(line: &[u8]) -> usize
     ensures value { result ≡ width_of line.now }
     ensures known { IsTrue (is_width result) }
 {
-    let width = if is_starred(line) { GSI_16 } else { GSI_8 };
-    width as u8
+    if is_starred(line) { GSI_16 } else { GSI_8 }
 }
 
 /// The part of the line in which its words stand.
@@ -120,7 +119,7 @@ fn word_bytes(line: &[u8]) -> &[u8]
 
 /// How many words the bytes are, or the place of the first, from 1, that is none.
 #[inline(always)]
-fn count_words(bytes: &[u8], width: u8) -> Result<usize, usize>
+fn count_words(bytes: &[u8], width: usize) -> Result<usize, usize>
     requires printable { All IsLineByte bytes.now }
     requires known { IsTrue (is_width width) }
     ensures words { IfOk result (λ n. AreWords width bytes.now (words_from width n bytes.now)) }
@@ -142,11 +141,12 @@ fn count_words(bytes: &[u8], width: u8) -> Result<usize, usize>
 
 /// Whether printable bytes begin with a word that ends them or has a blank after it.
 #[tactic(auto, unfolding(crate::specs::Layout::begins_word))]
-fn begins_word(bytes: &[u8], width: u8) -> bool
+fn begins_word(bytes: &[u8], width: usize) -> bool
+    requires { IsTrue (is_width width) }
     ensures test { result ≡ begins_word width bytes.now }
     ensures long { OnTrue result (7 + width ≤ length bytes.now) }
 {
-    let size = CONTENT + width as usize;
+    let size = CONTENT + width;
     if bytes.len() < size {
         return false;
     }
@@ -163,11 +163,11 @@ fn begins_word(bytes: &[u8], width: u8) -> bool
 }
 
 /// What follows the first word and the blank after it.
-fn after_word(bytes: &[u8], width: u8) -> &[u8]
+fn after_word(bytes: &[u8], width: usize) -> &[u8]
     requires { 7 + width ≤ length bytes.now }
     ensures { result.now ≡ drop (8 + width) bytes.now }
 {
-    let next = CONTENT + width as usize + 1;
+    let next = CONTENT + width + 1;
     &bytes[next.min(bytes.len())..]
 }
 

@@ -174,7 +174,7 @@ pub fn reading_block(line: &[u8]) -> Block<'_>
 {
     Block {
         bytes: line,
-        width: GSI_8 as u8,
+        width: GSI_8,
         count: WORDS,
     }
 }
@@ -208,13 +208,13 @@ pub(crate) fn plain_shape(line: &[u8]) -> Option<Shape>
 {
     if is_plain(line) {
         return Some(Shape {
-            width: GSI_8 as u8,
+            width: GSI_8,
             count: WORDS,
         });
     }
     if is_plain_wide(line) {
         return Some(Shape {
-            width: GSI_16 as u8,
+            width: GSI_16,
             count: WORDS,
         });
     }
