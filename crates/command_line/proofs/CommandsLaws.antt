@@ -1,13 +1,15 @@
 -- What an argument more, or a command more, makes of a grammar.
-use Rattle.std.proofs.Common.{◌≡◌, ◌∙◌, true, false, not, ap, ap₂, is_some, List, [], None, Option}
-use Rattle.std.proofs.Common.{Some, option_map, refl, subst, true≢false}
+use Rattle.std.proofs.Common.{◌≡◌, ◌∙◌, ◌∷◌, ◌++◌, true, false, not, ap, ap₂, is_some, List, [], map}
+use Rattle.std.proofs.Common.{append-nil, append_assoc}
+use Rattle.std.proofs.Common.{None, Option, Some, option_map, refl, subst, sym, true≢false}
+use Rattle.std.proofs.lemmas.Result.{IfOk-weaker}
 use Rattle.clap.proofs.SimpleLemmas.{is_false, plain_fields}
 use Rattle.clap.proofs.WalkLemmas.{both}
 use Rattle.clap.specs.Walk.{is_empty, is_simple_arg}
-use Rattle.clap.specs.Words.{AddsArg, AddsSubcommand, App, Rule, Shape, app_of, rule_of}
+use Rattle.clap.specs.Words.{AddsArg, AddsInTurn, AddsSubcommand, App, Rule, Shape, app_of, rule_of}
 use Rattle.clap.specs.Words.{with_rule}
 use Rattle.clap.specs.Words.{with_subcommand}
-use Rattle.clap.specs.Words.{HasKind, HasMatchesOf, Row, Text, fault_of, has_subcommand, is_simple}
+use Rattle.clap.specs.Words.{FailsBy, HasMatchesOf, Row, Text, fault_of, has_subcommand, is_simple}
 use Rattle.clap.specs.Words.{is_simple_and_free, rows_of, subcommand_name_of, subcommand_of}
 use Rattle.clap.specs.Words.{subcommand_rows, subcommand_rows_of}
 use Rattle.clap.proofs.OnLiterals.{clap_on_literals}
@@ -21,7 +23,7 @@ use Rattle.clap.specs.declared.parser.matches.SubCommand.{SubCommand}
 use Rattle.std.specs.Box.{box_value}
 use Rattle.std.specs.Prelude.{Box, Result, Ok, Err, IfOk, IsOkAnd, option_and_then}
 use Rattle.command_line.specs.CommandLine.{Meets, named_by}
-use Rattle.command_line.specs.Commands.{alone, the_program}
+use Rattle.command_line.specs.Commands.{alone, are_simple, of_rules, the_program}
 
 -- An argument that changes nothing in how words are read is of its own command alone.
 is_local : (a : Arg) → is_simple_arg a ≡ true → a.global ≡ false
@@ -37,24 +39,52 @@ is_local a e =
     let x = both (not a.last) _ w.1 in
     is_false _ x.1
 
--- An argument of this rule, added to a command of this grammar.
-pub adds_rule : (old : Command) (a : Arg) (new : Command) (grammar : App) (r : Rule)
-    → AddsArg old a new
-    → app_of old ≡ grammar → rule_of a ≡ r → r.is_simple ≡ true → app_of new ≡ with_rule grammar r
-adds_rule old a new grammar r added is_old is_rule simple =
-    added.shape (is_local a (ap (λ (x : Rule). x.is_simple) is_rule ∙ simple))
-    ∙ ap₂ with_rule is_old is_rule
+-- Arguments that change nothing in how words are read, added in turn to a command that has these
+-- rules.
+pub in_turn : (old : Command) (args : List Arg) (new : Command) (name : Text) (rules : List Rule)
+    → AddsInTurn AddsArg old args new
+    → app_of old ≡ alone (of_rules name rules) → are_simple (map rule_of args) ≡ true
+    → app_of new ≡ alone (of_rules name (rules ++ map rule_of args))
+in_turn old [] new name rules added is_old simple =
+    rw (append-nil rules) (ap app_of (sym added) ∙ is_old)
+in_turn old (a ∷ args) new name rules added is_old simple =
+    let tests = both (is_simple_arg a) _ simple in
+    rw (← append_assoc rules (rule_of a ∷ []) (map rule_of args))
+    (in_turn added.0 args new name (rules ++ rule_of a ∷ []) added.2
+    (added.1.shape (is_local a tests.0) ∙ ap (λ grammar. with_rule grammar (rule_of a)) is_old)
+    tests.1)
 
--- A command that was made, by this grammar, added to a program of that one.
-pub adds_command : (old : Command) (made : Result Command Error) (new : Command) (grammar : App)
-    (s : Shape)
-    → IsOkAnd made (λ sub. AddsSubcommand old sub new)
-    → app_of old ≡ grammar → IfOk made (λ sub. app_of sub ≡ alone s) → s.is_plain ≡ true
-    → app_of new ≡ with_subcommand grammar s
-adds_command old (Ok sub) new grammar s added is_old is_sub plain =
+-- A command that was made of listed arguments, by what they are.
+pub has_rules : {V E : Type 0} (items_of : V → List Arg) (args : List Arg) (listed : Result V E)
+    (made : Result Command Error) (name : Text) (rules : List Rule)
+    → IfOk made (λ new. IsOkAnd listed (λ given. are_simple (map rule_of (items_of given)) ≡ true
+    → app_of new ≡ alone (of_rules name (map rule_of (items_of given)))))
+    → IfOk listed (λ given. items_of given ≡ args)
+    → map rule_of args ≡ rules → are_simple rules ≡ true
+    → IfOk made (λ new. app_of new ≡ alone (of_rules name rules))
+has_rules items_of args (Ok given) made name rules words lists are simple =
+    let same = ap (map rule_of) lists ∙ are in
+    IfOk-weaker made _ _
+    (λ new is. is (ap are_simple same ∙ simple) ∙ ap (λ l. alone (of_rules name l)) same) words
+has_rules items_of args (Err error) made name rules words lists are simple =
+    IfOk-weaker made _ _ (λ new is. absurd is) words
+
+-- A command that was made, by this grammar, added to a program that was made, by that one.
+pub adds_command : (program made all : Result Command Error) (grammar : App) (s : Shape)
+    → IfOk all (λ new. IsOkAnd program (λ old. IsOkAnd made (λ sub. AddsSubcommand old sub new)))
+    → IfOk program (λ old. app_of old ≡ grammar) → IfOk made (λ sub. app_of sub ≡ alone s)
+    → s.is_plain ≡ true
+    → IfOk all (λ new. app_of new ≡ with_subcommand grammar s)
+adds_command (Ok old) (Ok sub) all grammar s adds is_old is_sub plain =
+    IfOk-weaker all _ _
+    (λ new added.
     added.shape (plain_fields sub (ap (λ (x : App). x.top.is_plain) is_sub ∙ plain)).globals
-    ∙ ap₂ with_subcommand is_old (ap (λ (x : App). x.top) is_sub)
-adds_command old (Err error) new grammar s added is_old is_sub plain = absurd added
+    ∙ ap₂ with_subcommand is_old (ap (λ (x : App). x.top) is_sub))
+    adds
+adds_command (Ok old) (Err error) all grammar s adds is_old is_sub plain =
+    IfOk-weaker all _ _ (λ new added. absurd added) adds
+adds_command (Err error) made all grammar s adds is_old is_sub plain =
+    IfOk-weaker all _ _ (λ new added. absurd added) adds
 
 -- Two that are both there.
 abbrev pair : Option Text → Option (List Row) → Option (Text × List Row)
@@ -94,24 +124,16 @@ has_known_faults : is_simple_and_free the_program ≡ true
 unfolding clap_on_literals
 has_known_faults = refl
 
--- A parse by a command of the program's grammar takes the words.
-pub taken_by : (a : App) (words : List Text) → a ≡ the_program
-    → (is_simple_and_free a ≡ true → fault_of a words ≡ [])
-    → fault_of the_program words ≡ []
-taken_by a words e taken =
-    subst (λ (x : App). fault_of x words ≡ []) e
-    (taken (ap is_simple_and_free e ∙ has_known_faults))
-
--- It meets the subcommand that the words name.
+-- A parse by a command of the program's grammar meets the subcommand that the words name.
 pub met_by : (a : App) (words : List Text) (m : ArgMatches) → a ≡ the_program
     → HasMatchesOf a words m
     → subcommand_rows_of m ≡ named_by words
 met_by a words m e h = (h (ap is_simple e ∙ is_known)).1 ∙ ap (λ (x : App). subcommand_of x words) e
 
--- Its error is of the kind that the grammar says.
-pub mistaken_by : (a : App) (words : List Text) (error : Error) → a ≡ the_program
-    → (is_simple_and_free a ≡ true → HasKind (fault_of a words) error)
-    → HasKind (fault_of the_program words) error
-mistaken_by a words error e h =
-    subst (λ (x : App). HasKind (fault_of x words) error) e
+-- It takes the words where the grammar does, and else its error is of the kind that this says.
+pub fails_by : {T : Type 0} (a : App) (words : List Text) (r : Result T Error) → a ≡ the_program
+    → (is_simple_and_free a ≡ true → FailsBy (fault_of a words) r)
+    → FailsBy (fault_of the_program words) r
+fails_by a words r e h =
+    subst (λ (x : App). FailsBy (fault_of x words) r) e
     (h (ap is_simple_and_free e ∙ has_known_faults))

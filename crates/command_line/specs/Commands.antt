@@ -1,9 +1,10 @@
 -- The grammar of the command line: the commands, and the arguments and options of each, in the
 -- order in which they are read.
-use Rattle.std.specs.Prelude.{◌∷◌, [], ℕ, pos, true, false, List, Some, codes}
+use Rattle.std.specs.Prelude.{◌∷◌, [], ℕ, Bool, pos, true, false, List, Some, codes}
+use Rattle.std.specs.List.{list_all}
 use Rattle.clap.specs.Lexer.{usize_max}
 use Rattle.clap.specs.Simple.{new_shape}
-use Rattle.clap.specs.Words.{App, Rule, Shape, Text, new_rule, with_rule}
+use Rattle.clap.specs.Words.{App, Rule, Shape, Text, new_rule}
 use Rattle.clap.specs.declared.builder.action.ArgAction.TheVariants.{Set, SetTrue, Append}
 use Rattle.clap.specs.declared.builder.value_parser.ValueParser.TheVariants.{NonEmptyString, Signed}
 
@@ -108,92 +109,86 @@ fault_rule = record (new_rule (codes "FAULT")) {
   range = Some (record { start_inclusive = 0; end_inclusive = usize_max });
 }
 
+-- None of these rules changes how words are read.
+abbrev pub are_simple : List Rule → Bool
+are_simple = list_all (λ rule. rule.is_simple)
+
 -- A command of this name, with these arguments and options.
-abbrev pub command : Text → List Rule → Shape
-command name rules = record (new_shape name) { rules = rules }
+abbrev pub of_rules : Text → List Rule → Shape
+of_rules name rules = record (new_shape name) { rules = rules }
 
 -- A command before it is one of a program's.
 abbrev pub alone : Shape → App
 alone s = record { top = s; subs = [] }
 
--- The same command with the arguments of a station after those that it has.
-abbrev pub of_station : App → App
-of_station a = with_rule (with_rule a field_file_rule) station_rule
-
--- The same command with the arguments of a station, the path of a table and the flag of its unit
--- after those that it has.
-abbrev pub of_table : App → App
-of_table a = with_rule (with_rule (of_station a) table_rule) degrees_rule
-
--- The same command with the options of the limits of face differences after what it has.
-abbrev pub limited : App → App
-limited a = with_rule (with_rule a two_c_rule) two_i_rule
-
 -- `compare GSI STATION TABLE`
 abbrev pub compare_words : Shape
-compare_words = command (codes "compare")
+compare_words = of_rules (codes "compare")
     (field_file_rule ∷ station_rule ∷ table_rule ∷ degrees_rule
     ∷ two_c_rule ∷ two_i_rule ∷ within_rule ∷ digests_rule ∷ [])
 
 -- `differences GSI STATION TABLE`
 abbrev pub differences_words : Shape
-differences_words = command (codes "differences")
+differences_words = of_rules (codes "differences")
     (field_file_rule ∷ station_rule ∷ table_rule ∷ degrees_rule
     ∷ two_c_rule ∷ two_i_rule ∷ [])
 
 -- `directions GSI STATION`
 abbrev pub directions_words : Shape
-directions_words = command (codes "directions")
+directions_words = of_rules (codes "directions")
     (field_file_rule ∷ station_rule ∷ two_c_rule ∷ two_i_rule ∷ decimals_rule ∷ [])
 
 -- `residuals GSI STATION`
 abbrev pub residuals_words : Shape
 residuals_words =
-    command (codes "residuals") (field_file_rule ∷ station_rule ∷ two_c_rule ∷ two_i_rule ∷ [])
+    of_rules (codes "residuals") (field_file_rule ∷ station_rule ∷ two_c_rule ∷ two_i_rule ∷ [])
 
 -- `report GSI STATION`
 abbrev pub report_words : Shape
-report_words = command (codes "report")
+report_words = of_rules (codes "report")
     (field_file_rule ∷ station_rule
     ∷ two_c_rule ∷ two_i_rule ∷ stated_table_rule ∷ degrees_rule ∷ within_rule ∷ digests_rule
     ∷ csv_rule ∷ [])
 
 -- `check GSI SHEET`
 abbrev pub check_words : Shape
-check_words = command (codes "check")
+check_words = of_rules (codes "check")
     (field_file_rule ∷ sheet_rule
     ∷ two_c_rule ∷ two_i_rule ∷ residual_rule ∷ digests_rule ∷ [])
 
 -- `means GSI STATION`
 abbrev pub means_words : Shape
 means_words =
-    command (codes "means") (field_file_rule ∷ station_rule ∷ two_c_rule ∷ two_i_rule ∷ [])
+    of_rules (codes "means") (field_file_rule ∷ station_rule ∷ two_c_rule ∷ two_i_rule ∷ [])
 
 -- `mark GSI`
 abbrev pub mark_words : Shape
-mark_words = command (codes "mark") (field_file_rule ∷ stated_name_rule ∷ [])
+mark_words = of_rules (codes "mark") (field_file_rule ∷ stated_name_rule ∷ [])
 
 -- `list GSI`
 abbrev pub list_words : Shape
 list_words =
-    command (codes "list") (field_file_rule ∷ two_c_rule ∷ two_i_rule ∷ csv_rule ∷ [])
+    of_rules (codes "list") (field_file_rule ∷ two_c_rule ∷ two_i_rule ∷ csv_rule ∷ [])
 
 -- `words GSI`
 abbrev pub words_words : Shape
-words_words = command (codes "words") (field_file_rule ∷ [])
+words_words = of_rules (codes "words") (field_file_rule ∷ [])
 
 -- `explain`, with any words
 abbrev pub explain_words : Shape
-explain_words = command (codes "explain") (fault_rule ∷ [])
+explain_words = of_rules (codes "explain") (fault_rule ∷ [])
 
--- The program: its commands, each of which has `--version` too.
+-- The program before it has commands. Each of them has `--version` too.
+abbrev pub program_alone : App
+program_alone = alone (record (new_shape (codes "station_check")) {
+  has_version = true;
+  propagate_version = true;
+})
+
+-- The program: its commands.
 abbrev pub the_program : App
 the_program = record {
-  top = record (new_shape (codes "station_check")) {
-    is_leaf = false;
-    has_version = true;
-    propagate_version = true;
-  };
+  top = record program_alone.top { is_leaf = false };
   subs = compare_words ∷ differences_words ∷ directions_words ∷ residuals_words ∷ report_words
       ∷ check_words ∷ means_words ∷ mark_words ∷ list_words ∷ words_words ∷ explain_words ∷ [];
 }

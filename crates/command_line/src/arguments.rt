@@ -1,11 +1,11 @@
 //! The arguments and options of the commands, as the grammar has them, and their help.
 
-ghost use Rattle.std.specs.Prelude.{◌≡◌, IfOk, IfErr};
-ghost use Rattle.clap.specs.Words.{app_of, kind_of, rule_of};
+ghost use Rattle.std.specs.Prelude.{◌≡◌};
+ghost use Rattle.clap.specs.Words.{rule_of};
 ghost use Rattle.command_line.specs.Commands.{csv_rule, decimals_rule, degrees_rule, digests_rule};
 ghost use Rattle.command_line.specs.Commands.{face_limit_rule, fault_rule, field_file_rule};
-ghost use Rattle.command_line.specs.Commands.{flag_rule, given_rule, limited, number_rule};
-ghost use Rattle.command_line.specs.Commands.{of_station, of_table, path_rule, residual_rule};
+ghost use Rattle.command_line.specs.Commands.{flag_rule, given_rule, number_rule, path_rule};
+ghost use Rattle.command_line.specs.Commands.{residual_rule};
 ghost use Rattle.command_line.specs.Commands.{sheet_rule};
 ghost use Rattle.command_line.specs.Commands.{stated_name_rule, stated_table_rule, station_rule};
 ghost use Rattle.command_line.specs.Commands.{table_rule};
@@ -13,8 +13,7 @@ ghost use Rattle.command_line.specs.Commands.{text_rule, two_c_rule, two_i_rule,
 
 use crate::help;
 use clap::builder::ValueParser;
-use clap::error::ErrorKind;
-use clap::{Arg, ArgAction, Command, Error, value_parser};
+use clap::{Arg, ArgAction};
 use direction_table::MOST_WRITTEN;
 use std::alloc::Global;
 
@@ -87,7 +86,7 @@ pub(crate) fn words_of_fault<'a>(alloc: Global) -> Arg<'a>
 }
 
 /// The argument of the station's name.
-fn station_name<'a>(alloc: Global) -> Arg<'a>
+pub(crate) fn station_name<'a>(alloc: Global) -> Arg<'a>
     ensures { rule_of result ≡ station_rule }
 {
     given(alloc, STATION).help("The name of the station")
@@ -101,7 +100,7 @@ pub(crate) fn sheet_file<'a>(alloc: Global) -> Arg<'a>
 }
 
 /// The argument of the path of the table.
-fn table_file<'a>(alloc: Global) -> Arg<'a>
+pub(crate) fn table_file<'a>(alloc: Global) -> Arg<'a>
     ensures { rule_of result ≡ table_rule }
 {
     path(alloc, TABLE).help(help::TABLE_HELP)
@@ -115,24 +114,6 @@ pub(crate) fn stated_table<'a>(alloc: Global) -> Arg<'a>
         .value_parser(ValueParser::NonEmptyString)
         .help("A table of directions, which stands beside the adjusted ones")
         .long_help(help::STATED_TABLE_LONG_HELP)
-}
-
-/// A command with the arguments of a station: the path of the field file, and the station's name.
-pub(crate) fn with_station<'a>(alloc: Global, command: Command<'a>) -> Result<Command<'a>, Error>
-    ensures station { IfOk result (λ c. app_of c ≡ of_station (app_of command.entry)) }
-    ensures memory { IfErr result (λ error. kind_of error ≡ ErrorKind.OutOfMemory) }
-{
-    Ok(command.arg(field_file(alloc))?.arg(station_name(alloc))?)
-}
-
-/// A command with the arguments of a table: those of a station, the path of the table, and the flag
-/// of its unit.
-pub(crate) fn with_table<'a>(alloc: Global, command: Command<'a>) -> Result<Command<'a>, Error>
-    ensures table { IfOk result (λ c. app_of c ≡ of_table (app_of command.entry)) }
-    ensures memory { IfErr result (λ error. kind_of error ≡ ErrorKind.OutOfMemory) }
-{
-    let command = with_station(alloc, command)?;
-    Ok(command.arg(table_file(alloc))?.arg(degrees_flag(alloc))?)
 }
 
 /// The option with the name of the file's one station.
@@ -158,16 +139,8 @@ fn given<'a>(alloc: Global, name: &'a str) -> Arg<'a>
     Arg::new(alloc, name).required(true).action(ArgAction::Set)
 }
 
-/// A command with the options of the limits of face differences.
-pub(crate) fn with_limits<'a>(alloc: Global, command: Command<'a>) -> Result<Command<'a>, Error>
-    ensures limits { IfOk result (λ c. app_of c ≡ limited (app_of command.entry)) }
-    ensures memory { IfErr result (λ error. kind_of error ≡ ErrorKind.OutOfMemory) }
-{
-    Ok(command.arg(two_c(alloc))?.arg(two_i(alloc))?)
-}
-
 /// The option of the limit of 2c.
-fn two_c<'a>(alloc: Global) -> Arg<'a>
+pub(crate) fn two_c<'a>(alloc: Global) -> Arg<'a>
     ensures { rule_of result ≡ two_c_rule }
 {
     face_limit(alloc, TWO_C)
@@ -176,7 +149,7 @@ fn two_c<'a>(alloc: Global) -> Arg<'a>
 }
 
 /// The option of the limit of 2i.
-fn two_i<'a>(alloc: Global) -> Arg<'a>
+pub(crate) fn two_i<'a>(alloc: Global) -> Arg<'a>
     ensures { rule_of result ≡ two_i_rule }
 {
     face_limit(alloc, TWO_I)
@@ -279,5 +252,5 @@ fn number<'a>(alloc: Global, name: &'a str, smallest: u32, largest: u32) -> Arg<
         .long(name)
         .value_name("N")
         .action(ArgAction::Set)
-        .value_parser(value_parser!(u32).range(i64::from(smallest)..=i64::from(largest)))
+        .value_parser(ValueParser::Signed(i64::from(smallest), i64::from(largest)))
 }

@@ -1,9 +1,11 @@
 //! What the words of a command line ask for.
 
 ghost use Rattle.std.specs.Prelude.{◌≡◌, ◌⊎◌, IfOk, IfErr, map, string_bytes};
-ghost use Rattle.clap.specs.Words.{found_of, kind_of, subcommand_rows_of};
+ghost use Rattle.clap.specs.Words.{FailsBy, fault_of, found_of, kind_of, subcommand_rows_of};
 ghost use Rattle.command_line.specs.CommandLine.{AsksToExplain, IsAskedFor, IsAskedForBy};
 ghost use Rattle.command_line.specs.CommandLine.{IsMistakeIn, IsMistakenName, NamesMistake};
+ghost use Rattle.command_line.specs.CommandLine.{named_by};
+ghost use Rattle.command_line.specs.Commands.{the_program};
 
 use crate::arguments::FAULT;
 use crate::commands::program;
@@ -32,9 +34,17 @@ pub fn asked_for<'a>(
     ensures asked { IfOk result (IsAskedForBy (map string_bytes words.now) table.now) }
     ensures mistake { IfErr result (IsMistakeIn (map string_bytes words.now) table.now) }
 {
-    let mut program = program(alloc)?;
-    let matches = program.try_get_matches_from_mut(words)?;
+    let matches = matches_of(alloc, words)?;
     request_named(alloc, table, name_called(words), &matches)
+}
+
+/// What `clap` finds in the words of a command line by the grammar of the program.
+fn matches_of<'a>(alloc: Global, words: &'a [String]) -> Result<ArgMatches<'a>, Error>
+    ensures met { IfOk result (λ matches.
+        subcommand_rows_of matches ≡ named_by (map string_bytes words.now)) }
+    ensures kinds { FailsBy (fault_of the_program (map string_bytes words.now)) result }
+{
+    program(alloc)?.try_get_matches_from(words)
 }
 
 /// The name by which the program was called, where the words have it: what follows the last slash

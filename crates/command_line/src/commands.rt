@@ -1,44 +1,53 @@
 //! The commands of the program, as the grammar has them, and their help.
 
-ghost use Rattle.std.specs.Prelude.{◌≡◌, IfOk, IfErr, IsOkAnd};
-ghost use Rattle.clap.specs.Words.{AddsSubcommand, app_of, kind_of, new_app};
-ghost use Rattle.command_line.specs.Commands.{alone, check_words, compare_words};
+ghost use Rattle.std.specs.Prelude.{◌≡◌, IfOk, IfErr, IsOkAnd, map, true};
+ghost use Rattle.clap.specs.Words.{AddsSubcommand, app_of, kind_of, rule_of};
+ghost use Rattle.command_line.specs.Commands.{alone, are_simple, check_words, compare_words};
 ghost use Rattle.command_line.specs.Commands.{differences_words, directions_words, explain_words};
-ghost use Rattle.command_line.specs.Commands.{list_words, mark_words, means_words, report_words};
-ghost use Rattle.command_line.specs.Commands.{residuals_words, the_program, words_words};
+ghost use Rattle.command_line.specs.Commands.{list_words, mark_words, means_words, of_rules};
+ghost use Rattle.command_line.specs.Commands.{program_alone};
+ghost use Rattle.command_line.specs.Commands.{report_words, residuals_words, the_program};
+ghost use Rattle.command_line.specs.Commands.{words_words};
 
 use crate::arguments::{
     csv_flag, decimals, degrees_flag, digests_flag, field_file, residual_limit, sheet_file,
-    stated_name, stated_table, with_limits, with_station, with_table, within, words_of_fault,
+    stated_name, stated_table, station_name, table_file, two_c, two_i, within, words_of_fault,
 };
 use crate::help;
 use clap::error::ErrorKind;
-use clap::{Command, Error};
+use clap::{Arg, Command, Error};
 use station_check::VERSION;
-use std::alloc::Global;
+use std::alloc::{AllocFailed, Global};
 
 /// The program with all its commands.
 pub(crate) fn program<'a>(alloc: Global) -> Result<Command<'a>, Error>
     ensures commands { IfOk result (λ command. app_of command ≡ the_program) }
     ensures memory { IfErr result (λ error. kind_of error ≡ ErrorKind.OutOfMemory) }
 {
-    let program = Command::new(alloc, "station_check")
+    let program = Ok(bare_program(alloc));
+    let program = with_command(program, compare_command(alloc));
+    let program = with_command(program, differences_command(alloc));
+    let program = with_command(program, directions_command(alloc));
+    let program = with_command(program, residuals_command(alloc));
+    let program = with_command(program, report_command(alloc));
+    let program = with_command(program, check_command(alloc));
+    let program = with_command(program, means_command(alloc));
+    let program = with_command(program, mark_command(alloc));
+    let program = with_command(program, list_command(alloc));
+    let program = with_command(program, words_command(alloc));
+    with_command(program, explain_command(alloc))
+}
+
+/// The program before its commands are added.
+fn bare_program<'a>(alloc: Global) -> Command<'a>
+    ensures { app_of result ≡ program_alone }
+{
+    Command::new(alloc, "station_check")
         .version(VERSION)
         .propagate_version(true)
         .about(help::ABOUT)
         .long_about(help::LONG_ABOUT)
-        .after_help(help::STATUSES);
-    let program = with_command(program, compare_command(alloc))?;
-    let program = with_command(program, differences_command(alloc))?;
-    let program = with_command(program, directions_command(alloc))?;
-    let program = with_command(program, residuals_command(alloc))?;
-    let program = with_command(program, report_command(alloc))?;
-    let program = with_command(program, check_command(alloc))?;
-    let program = with_command(program, means_command(alloc))?;
-    let program = with_command(program, mark_command(alloc))?;
-    let program = with_command(program, list_command(alloc))?;
-    let program = with_command(program, words_command(alloc))?;
-    with_command(program, explain_command(alloc))
+        .after_help(help::STATUSES)
 }
 
 /// The command of this name, alone.
@@ -62,129 +71,168 @@ pub(crate) fn command_named<'a>(alloc: Global, name: &'a str) -> Result<Command<
     }
 }
 
-/// A program with a command more, unless there was no memory for that.
+/// A program with a command more, unless there was no memory for either.
 fn with_command<'a>(
-    program: Command<'a>,
+    program: Result<Command<'a>, Error>,
     command: Result<Command<'a>, Error>,
 ) -> Result<Command<'a>, Error>
+    requires before { IfErr program (λ error. kind_of error ≡ ErrorKind.OutOfMemory) }
     requires memory { IfErr command (λ error. kind_of error ≡ ErrorKind.OutOfMemory) }
-    ensures added { IfOk result (λ all. IsOkAnd command.entry (λ one.
-        AddsSubcommand program.entry one all)) }
+    ensures added { IfOk result (λ all. IsOkAnd program.entry (λ old.
+        IsOkAnd command.entry (λ one. AddsSubcommand old one all))) }
     ensures memory { IfErr result (λ error. kind_of error ≡ ErrorKind.OutOfMemory) }
 {
-    Ok(program.subcommand(command?)?)
+    Ok(program?.subcommand(command?)?)
 }
 
-/// A command of this name, with the texts of its help.
-fn described<'a>(
+/// A command of this name, with the texts of its help and these arguments, unless there was no
+/// memory for them.
+fn command<'a, T: Drop>(
     alloc: Global,
     name: &'a str,
     about: &'a str,
     long_about: &'a str,
     after_help: &'a str,
-) -> Command<'a>
-    ensures { app_of result ≡ new_app name.entry.now }
+    args: Result<Vec<Arg<'a>>, AllocFailed<T>>,
+) -> Result<Command<'a>, Error>
+    ensures words { IfOk result (λ command. IsOkAnd args.entry (λ given.
+        are_simple (map rule_of given.items) ≡ true
+        → app_of command ≡ alone (of_rules name.entry.now (map rule_of given.items)))) }
+    ensures memory { IfErr result (λ error. kind_of error ≡ ErrorKind.OutOfMemory) }
 {
-    Command::new(alloc, name)
+    let args = args?;
+    let command = Command::new(alloc, name)
         .about(about)
         .long_about(long_about)
-        .after_help(after_help)
+        .after_help(after_help);
+    Ok(command.args(args)?)
 }
 
 fn compare_command<'a>(alloc: Global) -> Result<Command<'a>, Error>
     ensures words { IfOk result (λ command. app_of command ≡ alone compare_words) }
     ensures memory { IfErr result (λ error. kind_of error ≡ ErrorKind.OutOfMemory) }
 {
-    let command = described(
+    command(
         alloc,
         "compare",
         "Compares a table of directions with a field file, whatever program printed it",
         help::COMPARE_LONG_ABOUT,
         help::COMPARE_EXAMPLE,
-    );
-    let command = with_table(alloc, command)?;
-    let command = with_limits(alloc, command)?;
-    Ok(command.arg(within(alloc))?.arg(digests_flag(alloc))?)
+        vec![in alloc;
+            field_file(alloc),
+            station_name(alloc),
+            table_file(alloc),
+            degrees_flag(alloc),
+            two_c(alloc),
+            two_i(alloc),
+            within(alloc),
+            digests_flag(alloc),
+        ],
+    )
 }
 
 fn differences_command<'a>(alloc: Global) -> Result<Command<'a>, Error>
     ensures words { IfOk result (λ command. app_of command ≡ alone differences_words) }
     ensures memory { IfErr result (λ error. kind_of error ≡ ErrorKind.OutOfMemory) }
 {
-    let command = described(
+    command(
         alloc,
         "differences",
         "Prints by how much a table of directions differs, target by target",
         help::DIFFERENCES_LONG_ABOUT,
         help::DIFFERENCES_EXAMPLE,
-    );
-    let command = with_table(alloc, command)?;
-    with_limits(alloc, command)
+        vec![in alloc;
+            field_file(alloc),
+            station_name(alloc),
+            table_file(alloc),
+            degrees_flag(alloc),
+            two_c(alloc),
+            two_i(alloc),
+        ],
+    )
 }
 
 fn directions_command<'a>(alloc: Global) -> Result<Command<'a>, Error>
     ensures words { IfOk result (λ command. app_of command ≡ alone directions_words) }
     ensures memory { IfErr result (λ error. kind_of error ≡ ErrorKind.OutOfMemory) }
 {
-    let command = described(
+    command(
         alloc,
         "directions",
         "Prints the least-squares directions of a station as a table",
         help::DIRECTIONS_LONG_ABOUT,
         help::DIRECTIONS_EXAMPLE,
-    );
-    let command = with_limits(alloc, with_station(alloc, command)?)?;
-    Ok(command.arg(decimals(alloc))?)
+        vec![in alloc;
+            field_file(alloc),
+            station_name(alloc),
+            two_c(alloc),
+            two_i(alloc),
+            decimals(alloc),
+        ],
+    )
 }
 
 fn residuals_command<'a>(alloc: Global) -> Result<Command<'a>, Error>
     ensures words { IfOk result (λ command. app_of command ≡ alone residuals_words) }
     ensures memory { IfErr result (λ error. kind_of error ≡ ErrorKind.OutOfMemory) }
 {
-    let command = described(
+    command(
         alloc,
         "residuals",
         "Prints the adjusted directions and the residuals of a station, row by row",
         help::RESIDUALS_LONG_ABOUT,
         help::RESIDUALS_EXAMPLE,
-    );
-    with_limits(alloc, with_station(alloc, command)?)
+        vec![in alloc;
+            field_file(alloc),
+            station_name(alloc),
+            two_c(alloc),
+            two_i(alloc),
+        ],
+    )
 }
 
 fn report_command<'a>(alloc: Global) -> Result<Command<'a>, Error>
     ensures words { IfOk result (λ command. app_of command ≡ alone report_words) }
     ensures memory { IfErr result (λ error. kind_of error ≡ ErrorKind.OutOfMemory) }
 {
-    let command = described(
+    command(
         alloc,
         "report",
         "Prints the protocol of the sets of a station, with readings and residuals",
         help::REPORT_LONG_ABOUT,
         help::REPORT_EXAMPLE,
-    );
-    let command = with_limits(alloc, with_station(alloc, command)?)?;
-    let command = command.arg(stated_table(alloc))?.arg(degrees_flag(alloc))?;
-    let command = command.arg(within(alloc))?.arg(digests_flag(alloc))?;
-    Ok(command.arg(csv_flag(alloc))?)
+        vec![in alloc;
+            field_file(alloc),
+            station_name(alloc),
+            two_c(alloc),
+            two_i(alloc),
+            stated_table(alloc),
+            degrees_flag(alloc),
+            within(alloc),
+            digests_flag(alloc),
+            csv_flag(alloc),
+        ],
+    )
 }
 
 fn check_command<'a>(alloc: Global) -> Result<Command<'a>, Error>
     ensures words { IfOk result (λ command. app_of command ≡ alone check_words) }
     ensures memory { IfErr result (λ error. kind_of error ≡ ErrorKind.OutOfMemory) }
 {
-    let command = described(
+    command(
         alloc,
         "check",
         "Checks a sheet against a field file",
         help::CHECK_LONG_ABOUT,
         help::CHECK_EXAMPLE,
-    );
-    let command = command.arg(field_file(alloc))?.arg(sheet_file(alloc))?;
-    let command = with_limits(alloc, command)?;
-    Ok(
-        command
-            .arg(residual_limit(alloc))?
-            .arg(digests_flag(alloc))?,
+        vec![in alloc;
+            field_file(alloc),
+            sheet_file(alloc),
+            two_c(alloc),
+            two_i(alloc),
+            residual_limit(alloc),
+            digests_flag(alloc),
+        ],
     )
 }
 
@@ -192,69 +240,78 @@ fn means_command<'a>(alloc: Global) -> Result<Command<'a>, Error>
     ensures words { IfOk result (λ command. app_of command ≡ alone means_words) }
     ensures memory { IfErr result (λ error. kind_of error ≡ ErrorKind.OutOfMemory) }
 {
-    let command = described(
+    command(
         alloc,
         "means",
         "Prints the adjusted sheet of a station whose sets are complete",
         help::MEANS_LONG_ABOUT,
         help::MEANS_EXAMPLE,
-    );
-    with_limits(alloc, with_station(alloc, command)?)
+        vec![in alloc;
+            field_file(alloc),
+            station_name(alloc),
+            two_c(alloc),
+            two_i(alloc),
+        ],
+    )
 }
 
 fn mark_command<'a>(alloc: Global) -> Result<Command<'a>, Error>
     ensures words { IfOk result (λ command. app_of command ≡ alone mark_words) }
     ensures memory { IfErr result (λ error. kind_of error ≡ ErrorKind.OutOfMemory) }
 {
-    let command = described(
+    command(
         alloc,
         "mark",
         "Prints a copy of a job without codes, in which codes begin and end the sets",
         help::MARK_LONG_ABOUT,
         help::MARK_EXAMPLE,
-    );
-    Ok(command.arg(field_file(alloc))?.arg(stated_name(alloc))?)
+        vec![in alloc; field_file(alloc), stated_name(alloc)],
+    )
 }
 
 fn list_command<'a>(alloc: Global) -> Result<Command<'a>, Error>
     ensures words { IfOk result (λ command. app_of command ≡ alone list_words) }
     ensures memory { IfErr result (λ error. kind_of error ≡ ErrorKind.OutOfMemory) }
 {
-    let command = described(
+    command(
         alloc,
         "list",
         "Lists the stations of a field file and their two-face directions",
         help::LIST_LONG_ABOUT,
         help::LIST_EXAMPLE,
-    );
-    let command = with_limits(alloc, command.arg(field_file(alloc))?)?;
-    Ok(command.arg(csv_flag(alloc))?)
+        vec![in alloc;
+            field_file(alloc),
+            two_c(alloc),
+            two_i(alloc),
+            csv_flag(alloc),
+        ],
+    )
 }
 
 fn words_command<'a>(alloc: Global) -> Result<Command<'a>, Error>
     ensures words { IfOk result (λ command. app_of command ≡ alone words_words) }
     ensures memory { IfErr result (λ error. kind_of error ≡ ErrorKind.OutOfMemory) }
 {
-    let command = described(
+    command(
         alloc,
         "words",
         "Prints the words of a field file",
         help::WORDS_LONG_ABOUT,
         help::WORDS_EXAMPLE,
-    );
-    Ok(command.arg(field_file(alloc))?)
+        vec![in alloc; field_file(alloc)],
+    )
 }
 
 fn explain_command<'a>(alloc: Global) -> Result<Command<'a>, Error>
     ensures words { IfOk result (λ command. app_of command ≡ alone explain_words) }
     ensures memory { IfErr result (λ error. kind_of error ≡ ErrorKind.OutOfMemory) }
 {
-    let command = described(
+    command(
         alloc,
         "explain",
         "Explains a fault that a refusal names",
         help::EXPLAIN_LONG_ABOUT,
         help::EXPLAIN_EXAMPLE,
-    );
-    Ok(command.arg(words_of_fault(alloc))?)
+        vec![in alloc; words_of_fault(alloc)],
+    )
 }

@@ -2,7 +2,8 @@
 
 ghost use Rattle.std.specs.Prelude.{◌≡◌, IfSome, IfNone, codes};
 ghost use Rattle.clap.specs.Words.{found_of};
-ghost use Rattle.command_line.specs.CommandLine.{AsksFor, Lacks, LacksForDifferences};
+ghost use Rattle.command_line.specs.CommandLine.{AsksFor, AsksOfStation, Lacks};
+ghost use Rattle.command_line.specs.CommandLine.{LacksForDifferences};
 ghost use Rattle.command_line.specs.CommandLine.{LacksForDirections, LacksForList, LacksStation};
 ghost use Rattle.command_line.specs.CommandLine.{LacksToCheck, LacksToCompare, LacksToMark};
 ghost use Rattle.command_line.specs.CommandLine.{LacksToReport};
@@ -15,6 +16,7 @@ use crate::found::{
 use crate::request::{Digests, ListForm, Request};
 use clap::ArgMatches;
 use direction_table::AngleUnit;
+use station_book::Limits;
 
 /// What a subcommand of this name asks for, by what is found of the words after it; none where an
 /// argument that it needs is missing, or is no limit, number or name that it takes.
@@ -37,16 +39,31 @@ pub(crate) fn request_after<'a>(name: &str, found: &ArgMatches<'a>) -> Option<Re
     }
 }
 
+/// The station that is asked for: the path of its field file, its name, and the limits of face
+/// differences.
+fn station_of<'a>(found: &ArgMatches<'a>) -> Option<(&'a str, &'a str, Limits)>
+    ensures asked { IfSome result (λ asked.
+        AsksOfStation (found_of found.now) asked.0.now asked.1.now asked.2) }
+    ensures none { IfNone result (LacksStation (found_of found.now)) }
+{
+    let gsi = found.get_str(GSI)?;
+    let station = found.get_str(STATION)?;
+    Some((gsi, station, limits_of(found)?))
+}
+
 fn compare_request<'a>(found: &ArgMatches<'a>) -> Option<Request<'a, &'a str>>
     ensures asked { IfSome result (AsksFor (codes "compare") (found_of found.now)) }
     ensures none { IfNone result (LacksToCompare (found_of found.now)) }
 {
+    let Some((gsi, station, limits)) = station_of(found) else {
+        return None;
+    };
     Some(Request::Compare {
-        gsi: found.get_str(GSI)?,
-        station: found.get_str(STATION)?,
+        gsi,
+        station,
         table: found.get_str(TABLE)?,
         unit: unit_of(found),
-        limits: limits_of(found)?,
+        limits,
         within: within_of(found)?,
         digests: digests_of(found),
     })
@@ -56,12 +73,15 @@ fn differences_request<'a>(found: &ArgMatches<'a>) -> Option<Request<'a, &'a str
     ensures asked { IfSome result (AsksFor (codes "differences") (found_of found.now)) }
     ensures none { IfNone result (LacksForDifferences (found_of found.now)) }
 {
+    let Some((gsi, station, limits)) = station_of(found) else {
+        return None;
+    };
     Some(Request::Differences {
-        gsi: found.get_str(GSI)?,
-        station: found.get_str(STATION)?,
+        gsi,
+        station,
         table: found.get_str(TABLE)?,
         unit: unit_of(found),
-        limits: limits_of(found)?,
+        limits,
     })
 }
 
@@ -69,10 +89,13 @@ fn directions_request<'a>(found: &ArgMatches<'a>) -> Option<Request<'a, &'a str>
     ensures asked { IfSome result (AsksFor (codes "directions") (found_of found.now)) }
     ensures none { IfNone result (LacksForDirections (found_of found.now)) }
 {
+    let Some((gsi, station, limits)) = station_of(found) else {
+        return None;
+    };
     Some(Request::Directions {
-        gsi: found.get_str(GSI)?,
-        station: found.get_str(STATION)?,
-        limits: limits_of(found)?,
+        gsi,
+        station,
+        limits,
         decimals: decimals_of(found)?,
     })
 }
@@ -81,10 +104,13 @@ fn residuals_request<'a>(found: &ArgMatches<'a>) -> Option<Request<'a, &'a str>>
     ensures asked { IfSome result (AsksFor (codes "residuals") (found_of found.now)) }
     ensures none { IfNone result (LacksStation (found_of found.now)) }
 {
+    let Some((gsi, station, limits)) = station_of(found) else {
+        return None;
+    };
     Some(Request::Residuals {
-        gsi: found.get_str(GSI)?,
-        station: found.get_str(STATION)?,
-        limits: limits_of(found)?,
+        gsi,
+        station,
+        limits,
     })
 }
 
@@ -92,9 +118,9 @@ fn report_request<'a>(found: &ArgMatches<'a>) -> Option<Request<'a, &'a str>>
     ensures asked { IfSome result (AsksFor (codes "report") (found_of found.now)) }
     ensures none { IfNone result (LacksToReport (found_of found.now)) }
 {
-    let gsi = found.get_str(GSI)?;
-    let station = found.get_str(STATION)?;
-    let limits = limits_of(found)?;
+    let Some((gsi, station, limits)) = station_of(found) else {
+        return None;
+    };
     let within = within_of(found)?;
     let table = found.get_str(STATED_TABLE);
     let unit = unit_of(found);
@@ -149,10 +175,13 @@ fn means_request<'a>(found: &ArgMatches<'a>) -> Option<Request<'a, &'a str>>
     ensures asked { IfSome result (AsksFor (codes "means") (found_of found.now)) }
     ensures none { IfNone result (LacksStation (found_of found.now)) }
 {
+    let Some((gsi, station, limits)) = station_of(found) else {
+        return None;
+    };
     Some(Request::Means {
-        gsi: found.get_str(GSI)?,
-        station: found.get_str(STATION)?,
-        limits: limits_of(found)?,
+        gsi,
+        station,
+        limits,
     })
 }
 

@@ -1,14 +1,9 @@
-use Rattle.std.proofs.Common.{◌∙◌, ap, refl}
-use Rattle.command_line.specs.Commands.{limited}
-use Rattle.command_line.proofs.CommandsLaws.{adds_rule}
+use Rattle.std.proofs.Common.{refl}
+use Rattle.command_line.specs.Commands.{check_words}
+use Rattle.command_line.proofs.CommandsLaws.{has_rules}
 use Rattle.command_line.proofs.commands.check_command.Goals as goal
 
 pub returns-clause-words : goal.returns-clause-words
 returns-clause-words c =
-    let filed =
-    adds_rule _ _ _ _ _ c.in_ok-arg.ensures c.described-command.ensures c.field_file.ensures refl in
-    let sheeted = adds_rule _ _ _ _ _ c.in_ok-command.ensures filed c.sheet_file.ensures refl in
-    let with_limits = c.in_ok-command-2.ensures.limits ∙ ap limited sheeted in
-    let of_residuals =
-    adds_rule _ _ _ _ _ c.in_ok-arg-2.ensures with_limits c.residual_limit.ensures refl in
-    adds_rule _ _ _ _ _ c.in_ok-arg-3.ensures of_residuals c.digests_flag.ensures refl
+    has_rules (λ given. given.items) _ _ _ _ check_words.rules c.command.ensures.words
+    c.vec.ensures.items (rw (c.field_file.ensures, c.sheet_file.ensures, c.two_c.ensures, c.two_i.ensures, c.residual_limit.ensures, c.digests_flag.ensures) refl) refl

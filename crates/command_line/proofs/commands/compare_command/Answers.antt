@@ -1,11 +1,9 @@
-use Rattle.std.proofs.Common.{◌∙◌, ap, refl}
-use Rattle.command_line.specs.Commands.{limited, of_table}
-use Rattle.command_line.proofs.CommandsLaws.{adds_rule}
+use Rattle.std.proofs.Common.{refl}
+use Rattle.command_line.specs.Commands.{compare_words}
+use Rattle.command_line.proofs.CommandsLaws.{has_rules}
 use Rattle.command_line.proofs.commands.compare_command.Goals as goal
 
 pub returns-clause-words : goal.returns-clause-words
 returns-clause-words c =
-    let tabled = c.in_ok-command.ensures.table ∙ ap of_table c.described-command.ensures in
-    let with_limits = c.in_ok-command-2.ensures.limits ∙ ap limited tabled in
-    let near = adds_rule _ _ _ _ _ c.in_ok-arg.ensures with_limits c.within.ensures refl in
-    adds_rule _ _ _ _ _ c.in_ok-arg-2.ensures near c.digests_flag.ensures refl
+    has_rules (λ given. given.items) _ _ _ _ compare_words.rules c.command.ensures.words
+    c.vec.ensures.items (rw (c.field_file.ensures, c.station_name.ensures, c.table_file.ensures, c.degrees_flag.ensures, c.two_c.ensures, c.two_i.ensures, c.within.ensures, c.digests_flag.ensures) refl) refl

@@ -1,0 +1,59 @@
+use Rattle.std.proofs.Common.{inl, inr, refl, rules}
+use Rattle.command_line.proofs.subcommands.report_request.Goals as goal
+
+pub returns-in-Lines-Some-default-default-default-clause-asked :
+    goal.returns-in-Lines-Some-default-default-default-clause-asked
+returns-in-Lines-Some-default-default-default-clause-asked c = (
+  refl,
+  record {
+    station_of = search rules;
+    of_table = search rules;
+    of_unit = search rules;
+    of_within = search rules;
+    of_digests = search rules;
+    of_lines = search rules;
+  },
+)
+
+pub returns-in-Lines-None-None-Gon-default-clause-asked :
+    goal.returns-in-Lines-None-None-Gon-default-clause-asked
+returns-in-Lines-None-None-Gon-default-clause-asked c = (
+  refl,
+  record {
+    station_of = search rules;
+    no_table = search rules;
+    no_within = search rules;
+    no_degrees = search rules;
+    of_digests = search rules;
+    of_lines = search rules;
+  },
+)
+
+pub returns-in-Rows-None-None-Gon-Omitted-clause-asked :
+    goal.returns-in-Rows-None-None-Gon-Omitted-clause-asked
+returns-in-Rows-None-None-Gon-Omitted-clause-asked c = (
+  refl,
+  record {
+    station_of = search rules;
+    no_table = search rules;
+    no_within = search rules;
+    no_degrees = search rules;
+    no_digests = search rules;
+    of_rows = search rules;
+  },
+)
+
+pub returns-in-Lines-None-None-Degrees-default-clause-none :
+    goal.returns-in-Lines-None-None-Degrees-default-clause-none
+returns-in-Lines-None-None-Degrees-default-clause-none c =
+    inr (inr (inl (search rules, inr (search rules))))
+
+pub returns-in-Rows-None-None-Degrees-default-clause-none :
+    goal.returns-in-Rows-None-None-Degrees-default-clause-none
+returns-in-Rows-None-None-Degrees-default-clause-none c =
+    inr (inr (inr (search rules, inr (inr (inl (search rules))))))
+
+pub returns-in-Rows-None-None-Gon-Printed-clause-none :
+    goal.returns-in-Rows-None-None-Gon-Printed-clause-none
+returns-in-Rows-None-None-Gon-Printed-clause-none c =
+    inr (inr (inr (search rules, inr (inr (inr (search rules))))))
