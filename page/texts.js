@@ -186,9 +186,9 @@ export const TEXTS = {
     fr: 'Refusé. Les directions s’écartent de {apart} mgon ; la limite est {within} mgon.',
   },
   refusedApartByDecimals: {
-    en: 'Refused. The directions are {apart} mgon apart: more than 0.01 mgon, and more than rounding explains.',
-    de: 'Zurückgewiesen. Die Richtungen weichen {apart} mgon ab: mehr als 0.01 mgon und mehr, als Rundung erklärt.',
-    fr: 'Refusé. Les directions s’écartent de {apart} mgon : plus que 0.01 mgon, et plus que l’arrondi n’explique.',
+    en: 'Refused. The directions are {apart} mgon apart: more than 0.01 mgon, and more than the finest row of the table is rounded by.',
+    de: 'Zurückgewiesen. Die Richtungen weichen {apart} mgon ab: mehr als 0.01 mgon und mehr, als die feinste Zeile der Tabelle gerundet ist.',
+    fr: 'Refusé. Les directions s’écartent de {apart} mgon : plus que 0.01 mgon, et plus que l’arrondi de la ligne la plus fine de la table.',
   },
   furthest: {
     en: 'Furthest from the least-squares directions: {targets}.',

@@ -119,7 +119,7 @@ Stated directions in gon, differences in mgon: stated less adjusted, after the b
   B                       150.000100        -0.015
 
 Table                 %s
-Limit of differences  0.051 mgon
+Limit of differences  0.055 mgon
 Comparison            agrees S1: 2 targets, within 15
 
 """

@@ -78,24 +78,29 @@ fn tables_lie_beside_the_least_directions(rt: HostRuntime) -> Result<(), Fail> {
 }
 
 #[test]
-fn where_nothing_is_stated_the_coarsest_row_tells_the_limit(rt: HostRuntime) -> Result<(), Fail> {
-    let cases: [(&[u8], Result<u32, CompareFault>); 12] = [
+fn where_nothing_is_stated_the_finest_row_tells_the_limit(rt: HostRuntime) -> Result<(), Fail> {
+    let cases: [(&[u8], Result<u32, CompareFault>); 14] = [
         // Five decimals or more, and whole gon alone: 10.
         (b"A,0\nB,50.00001\n", Ok(10)),
         (b"A,0\nB,50.000009\n", Err(CompareFault::Apart(11))),
         (b"A,0\nB,50\n", Err(CompareFault::Apart(15))),
-        // Four decimals: 51, in whichever row.
-        (b"A,0.0000\nB,50.000132\n", Ok(51)),
-        (b"A,0.0000\nB,50.000133\n", Err(CompareFault::Apart(52))),
-        (b"A,0.0000000\nB,50.0001\n", Ok(35)),
-        // Three, two and one: 501, 5,001 and 50,001.
-        (b"A,0.000\nB,50.001032\n", Ok(501)),
-        (b"A,0.000\nB,50.001033\n", Err(CompareFault::Apart(502))),
+        // Four decimals: 55, and as many as 0 has.
+        (b"A,0.0000\nB,50.0001\n", Ok(35)),
         (b"A,0.00\nB,50.0001\n", Ok(35)),
-        (b"A,0.1\nB,50.200032\n", Ok(50_001)),
-        (b"A,0.1\nB,50.200033\n", Err(CompareFault::Apart(50_002))),
-        // As Python writes a whole number: 10 again.
-        (b"A,0.0\nB,50.000132\n", Err(CompareFault::Apart(51))),
+        (
+            b"A,0.0000000\nB,50.0001\n",
+            Err(CompareFault::Apart(35)),
+        ),
+        (b"A,0.0\nB,49.9999\n", Err(CompareFault::Apart(65))),
+        // Three, two and one: 505, 5,005 and 50,005.
+        (b"A,0\nB,50.001\n", Ok(485)),
+        (b"A,0\nB,49.999\n", Err(CompareFault::Apart(515))),
+        (b"A,0.1\nB,50.2\n", Ok(49_985)),
+        // Of two rows the finer, in either order.
+        (b"A,0.1\nB,50.10006\n", Err(CompareFault::Apart(15))),
+        (b"A,0.0001\nB,50.001\n", Err(CompareFault::Apart(435))),
+        (b"A,0.001\nB,50.0002\n", Err(CompareFault::Apart(415))),
+        (b"A,0.00\nB,50.01000\n", Err(CompareFault::Apart(4_985))),
     ];
     for (table, want) in cases {
         assert_eq!(rt; compared(&rt, rt.alloc(), S1, b"S1", table, None), want);
@@ -106,23 +111,27 @@ fn where_nothing_is_stated_the_coarsest_row_tells_the_limit(rt: HostRuntime) -> 
 #[test]
 fn tables_in_degrees_lie_beside_the_least_directions(rt: HostRuntime) -> Result<(), Fail> {
     // 50.00003 gon are 45 degrees and 0.0972 seconds; a second is 308.64.. units.
-    let cases: [(&[u8], Result<u32, CompareFault>); 13] = [
+    let cases: [(&[u8], Result<u32, CompareFault>); 14] = [
         (b"A,0-00-00.0000\nB,45-00-00.0972\n", Ok(0)),
         (b"B;45\xC2\xB000'00,0972\"\nA;360\n", Ok(0)),
         (b"A,0\nB,45.000027\n", Ok(0)),
         (b"A 100.1\nB 145.100027\n", Ok(0)),
-        // Seconds without decimals: 156, in whichever row.
+        // Seconds without decimals: 160, but 0-00-00 tells nothing.
         (b"A,0-00-00\nB,45-00-01\n", Ok(140)),
         (b"A,0-00-00\nB,45-00-01.2\n", Err(CompareFault::Apart(171))),
         (b"A,0-00-00\nB,45-00-00.15\n", Ok(9)),
-        // With one decimal 17, with more 10.
+        (
+            b"A,0-00-00\nB,45-00-00.39\n",
+            Err(CompareFault::Apart(46)),
+        ),
+        // With one decimal 21, with more 10.
         (b"A,0-00-00.0\nB,45-00-00.2\n", Ok(16)),
         (b"A,0-00-00.0\nB,45-00-00.3\n", Err(CompareFault::Apart(32))),
         (
             b"A,0-00-00.00\nB,45-00-00.17\n",
             Err(CompareFault::Apart(12)),
         ),
-        // Four decimals of a degree: 57; a whole degree is taken as it stands.
+        // Four decimals of a degree: 61; a whole degree tells nothing.
         (b"A,0\nB,45.0001\n", Ok(41)),
         (b"A,0\nB,45\n", Err(CompareFault::Apart(15))),
         (

@@ -43,7 +43,7 @@ const TURNED: Beside = Beside {
     within: None,
     lines: b"  A                       100.000100         0.015\n\
 \x20 B                       150.000100        -0.015\n",
-    limit: b"0.051",
+    limit: b"0.055",
     verdict: b"agrees S1: 2 targets, within 15",
     beyond: None,
     refused: b"",
@@ -93,13 +93,13 @@ fn tables() -> [Beside; 10] {
             refused: b"refused: compare: Apart 100000000\n",
             ..TURNED
         },
-        // 45 degrees and 0.0972 seconds are 50.00003 gon; the row of A is rounded to a second.
+        // 45 degrees and 0.0972 seconds are 50.00003 gon; the row of A tells no step.
         Beside {
             table: b"A,0-00-00\nB,45-00-00.0972\n",
             unit: AngleUnit::Degrees,
             lines: b"  A                         0.000000         0.000\n\
 \x20 B                        50.000030         0.000\n",
-            limit: b"0.156",
+            limit: b"0.010",
             verdict: b"agrees S1: 2 targets, within 0",
             ..TURNED
         },
@@ -121,7 +121,7 @@ fn tables() -> [Beside; 10] {
             unit: AngleUnit::Degrees,
             lines: b"  A                       100.000000         0.015\n\
 \x20 B                       150.000000        -0.015\n",
-            limit: b"0.057",
+            limit: b"0.061",
             ..TURNED
         },
         // Differences of 0, -62/3 and -61/3 units: half of the spread is 31/3, and rounded up 11.
