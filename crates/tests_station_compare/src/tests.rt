@@ -87,10 +87,7 @@ fn where_nothing_is_stated_the_finest_row_tells_the_limit(rt: HostRuntime) -> Re
         // Four decimals: 55, and as many as 0 has.
         (b"A,0.0000\nB,50.0001\n", Ok(35)),
         (b"A,0.00\nB,50.0001\n", Ok(35)),
-        (
-            b"A,0.0000000\nB,50.0001\n",
-            Err(CompareFault::Apart(35)),
-        ),
+        (b"A,0.0000000\nB,50.0001\n", Err(CompareFault::Apart(35))),
         (b"A,0.0\nB,49.9999\n", Err(CompareFault::Apart(65))),
         // Three, two and one: 505, 5,005 and 50,005.
         (b"A,0\nB,50.001\n", Ok(485)),
@@ -120,10 +117,7 @@ fn tables_in_degrees_lie_beside_the_least_directions(rt: HostRuntime) -> Result<
         (b"A,0-00-00\nB,45-00-01\n", Ok(140)),
         (b"A,0-00-00\nB,45-00-01.2\n", Err(CompareFault::Apart(171))),
         (b"A,0-00-00\nB,45-00-00.15\n", Ok(9)),
-        (
-            b"A,0-00-00\nB,45-00-00.39\n",
-            Err(CompareFault::Apart(46)),
-        ),
+        (b"A,0-00-00\nB,45-00-00.39\n", Err(CompareFault::Apart(46))),
         // With one decimal 21, with more 10.
         (b"A,0-00-00.0\nB,45-00-00.2\n", Ok(16)),
         (b"A,0-00-00.0\nB,45-00-00.3\n", Err(CompareFault::Apart(32))),
