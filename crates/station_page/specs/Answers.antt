@@ -41,7 +41,7 @@ pub record IsCheckOf (two_c two_i : ℕ) (is_stated : Bool) (residual : ℕ) (gs
   pub states : States two_c two_i limits
   pub verdict : Result Accepted Fault
   pub promise : KeepsPromise limits (stated_limit is_stated residual)
-      (file_answers (source_of gsi)) (source_of sheet) verdict
+      (source_of gsi) (source_of sheet) verdict
   pub of_check : IfErr verdict IsOfCheck
   pub hands_out : HandsOut (status_of verdict) (verdict_line verdict) room answered shown
 
