@@ -1,5 +1,4 @@
-"""Tries all wrong bodies of some crates, or of every crate: `python3 tools/wrong_bodies.py [CRATE..]
-[--jobs N]`.
+"""Tries all wrong bodies of crates: `python3 tools/wrong_bodies.py [CRATE..] [--jobs N]`.
 
 A wrong body is an edit of a crate's code with which the prover must refuse the crate. Those in its
 folder must-fail are tried by the gate too, those in wrong-bodies here alone. The judge of both is
@@ -32,11 +31,11 @@ FOLDERS = [TRIED, "wrong-bodies"]
 # Of each crate below the folder that it is run in, prints the sum of all that its library is made
 # from. Where that sum lies beside a library, rt takes the library; else it proves the crate anew.
 SUMS = """\
-import sys
+import os, sys
 sys.dont_write_bytecode = True
 sys.path.insert(0, sys.argv[1])
 import rtlib
-for crate in rtlib.crates_below("."):
+for crate in rtlib.crates_below(os.getcwd()):
     print(crate.name, crate.stamp())
 """
 
@@ -83,7 +82,7 @@ def copy_crates(to: Path) -> None:
 def sums(folder: Path) -> dict[str, str]:
     """The sum by which rt knows what the library of each crate below a folder is made from."""
     words = [sys.executable, "-c", SUMS, str(prove.kit_of(prove.RT) / "bin")]
-    said = subprocess.run(words, cwd=folder, check=True, capture_output=True, text=True)
+    said = subprocess.run(words, cwd=folder, check=True, stdout=subprocess.PIPE, text=True)
     return dict(line.split() for line in said.stdout.splitlines())
 
 
@@ -115,8 +114,8 @@ def answers(copy: Path, crate: str) -> list[Answer]:
 
 
 def tried(copy: Path, crates: list[str], jobs: int) -> Iterator[list[Answer]]:
-    """Tries the crates side by side, those with the most wrong bodies first; gives what came of each
-    when it has ended."""
+    """Tries the crates side by side, those with the most wrong bodies first; gives what came of a
+    crate when it has ended."""
     with ThreadPoolExecutor(jobs) as pool:
         most_first = sorted(crates, key=lambda crate: -len(edits(CRATES / crate)))
         tasks = [pool.submit(answers, copy, crate) for crate in most_first]
@@ -151,7 +150,7 @@ def try_all(crates: list[str], jobs: int) -> int:
 def main() -> int:
     every = [name for name in prove.libraries(prove.ROOT) if edits(CRATES / name)]
     words = argparse.ArgumentParser(description="Tries all wrong bodies of crates.")
-    words.add_argument("crates", metavar="CRATE", nargs="*", help="a crate; none: each that has any")
+    words.add_argument("crates", metavar="CRATE", nargs="*", help="one; none: all that have any")
     words.add_argument("--jobs", type=int, default=1, help="how many crates are tried side by side")
     asked = words.parse_args()
     if unknown := set(asked.crates) - set(every):
