@@ -30,11 +30,13 @@ FOLDERS = [TRIED, "wrong-bodies"]
 
 # Of each crate below the folder that it is run in, prints the sum of all that its library is made
 # from. Where that sum lies beside a library, rt takes the library; else it proves the crate anew.
+# (A sum is made of those of the crates below, again and again: each is kept.)
 SUMS = """\
-import os, sys
+import functools, os, sys
 sys.dont_write_bytecode = True
 sys.path.insert(0, sys.argv[1])
 import rtlib
+rtlib.Crate.stamp = functools.lru_cache(None)(rtlib.Crate.stamp)
 for crate in rtlib.crates_below(os.getcwd()):
     print(crate.name, crate.stamp())
 """
