@@ -72,13 +72,14 @@ def edits(crate: Path) -> list[Path]:
 def copy_crates(to: Path) -> None:
     """Copies all crates there, each with all its wrong bodies in the folder that rt reads."""
     shutil.copy(prove.ROOT / "crates.txt", to)
-    for crate in sorted(CRATES.iterdir()):
+    for name in prove.libraries(prove.ROOT):
+        crate, copy = CRATES / name, to / "crates" / name
         for part in ("src", "specs", "proofs"):
             if (crate / part).is_dir():
-                shutil.copytree(crate / part, to / "crates" / crate.name / part)
-        (to / "crates" / crate.name / TRIED).mkdir()
+                shutil.copytree(crate / part, copy / part)
+        (copy / TRIED).mkdir()
         for edit in edits(crate):
-            shutil.copy(edit, to / "crates" / crate.name / TRIED)
+            shutil.copy(edit, copy / TRIED)
 
 
 def sums(folder: Path) -> dict[str, str]:
@@ -138,6 +139,9 @@ def try_all(crates: list[str], jobs: int) -> int:
     with tempfile.TemporaryDirectory(prefix="station_check-wrong-bodies-") as room:
         copy_crates(Path(room))
         give_libraries(Path(room), sorted(below))
+        count = sum(len(edits(CRATES / crate)) for crate in crates)
+        begun = f"crates: {len(crates)}, wrong bodies: {count}; a crate answers at its end"
+        print(begun, flush=True)
         for said in tried(Path(room), crates, jobs):
             print(*(answer.line() for answer in said), sep="\n", flush=True)
             all_said += said

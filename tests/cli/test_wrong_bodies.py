@@ -143,8 +143,13 @@ class ToolTest(ProgramTest):
         return done.returncode, done.stdout.splitlines(), done.stderr
 
     def test_the_edits_of_both_folders_are_tried_over_the_libraries_that_are_made(self):
-        said = [f"high/one: {REFUSED}", f"high/two: {REFUSED}"]
-        self.assertEqual((0, [*said, "2 refused, 0 failed"], ""), self.tried("high"))
+        said = [
+            "crates: 1, wrong bodies: 2; a crate answers at its end",
+            f"high/one: {REFUSED}",
+            f"high/two: {REFUSED}",
+            "2 refused, 0 failed",
+        ]
+        self.assertEqual((0, said, ""), self.tried("high"))
 
     def test_with_no_crate_named_all_are_tried(self):
         status, said, _ = self.tried("--jobs", "2")
