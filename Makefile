@@ -47,8 +47,11 @@ $(foreach crate,$(EVERY),$(eval below_$(crate) := $(filter $(EVERY), \
 $(foreach crate,$(EVERY),$(eval under_$(crate) := \
   $(sort $(below_$(crate)) $(foreach low,$(below_$(crate)),$(under_$(low))))))
 
+# The crates whose wrong bodies are tried: those that are named, as CRATES="gsi_word ..", or all.
+ASKED := $(and $(findstring command line,$(origin CRATES)),$(CRATES))
+
 # The crates that the program is made of, lowest first.
-CRATES := $(filter $(under_$(PROGRAM_CRATE)) $(PROGRAM_CRATE),$(EVERY))
+override CRATES := $(filter $(under_$(PROGRAM_CRATE)) $(PROGRAM_CRATE),$(EVERY))
 
 # A file for each crate that is proved as its sources are now: what the proof said, with the time at
 # which it began. And where the libraries and the program are made.
@@ -83,7 +86,7 @@ NEED_TOOLCHAIN = command -v $(RT) > /dev/null || { \
   echo "make: the Rattle toolchain is missing: no command '$(RT)' is found; put it on PATH, or name it as RT=/path/to/rt" >&2; \
   exit 1; }
 
-.PHONY: run page library test sweep check bench install uninstall dist clean
+.PHONY: run page library test sweep wrong-bodies check bench install uninstall dist clean
 
 # Builds the proved program and runs it on an example.
 run: $(PROGRAM)
@@ -125,6 +128,16 @@ test:
 # The long sweeps of the tests of the command line, of which the gate runs samples: minutes. STATION_CHECK names another program.
 sweep:
 	@SWEEP=1 $(PYTHON) tests/command_line.py
+
+# Tries the wrong bodies that the gate tries and all others, of every crate or of CRATES="gsi_word ..":
+# each must be refused. What they are tried over is proved before, where it has changed.
+wrong-bodies:
+	@$(NEED_TOOLCHAIN)
+	@$(MAKE) --no-print-directory --silent IS_WITHIN=wrong-bodies $(addprefix $(PROVED)/,$(filter \
+	  $(CRATES),$(foreach crate,$(or $(ASKED),$(EVERY)),$(crate) $(under_$(crate)))))
+	@$(if $(filter station_page,$(or $(ASKED),$(EVERY))),\
+	  $(MAKE) --no-print-directory --silent IS_WITHIN=wrong-bodies $(PAGE))
+	@RT='$(RT)' $(PYTHON) tools/wrong_bodies.py $(ASKED) --jobs $(JOBS)
 
 # Proves every crate over what earlier checks kept.
 check:

@@ -174,6 +174,13 @@ class MakeTest(ProgramTest):
         made = self.make("page", "PYTHON=false")
         self.assertEqual((0, []), (made.returncode, self.begun()), made.stderr)
 
+    def test_wrong_bodies_are_tried_once_all_that_they_are_tried_over_is_proved(self):
+        (self.folder / "tools" / "wrong_bodies.py").write_text("import sys\nprint(sys.argv[1:])\n")
+        made = self.make("wrong-bodies", "CRATES=station_explain middle", "JOBS=2")
+        self.assertEqual((0, "['station_explain', 'middle', '--jobs', '2']\n"), (made.returncode, made.stdout))
+        self.assertEqual(["low", "middle", "other_low", "station_explain"], sorted(self.begun()))
+        self.assertNotIn("warning", made.stderr)
+
     def test_crates_are_proved_side_by_side(self):
         for jobs, most in [("JOBS=4", 2), ("JOBS=1", 1)]:
             with self.subTest(jobs):
