@@ -1,5 +1,5 @@
 use Rattle.std.proofs.Common.{[], refl}
-use Rattle.station_check.proofs.Kept.{of_kept}
+use Rattle.station_check.proofs.KeptBytes.{of_kept}
 use Rattle.station_check.proofs.kept.check_kept.Goals as goal
 
 pub returns : goal.returns
