@@ -42,6 +42,7 @@ def of_b(direction):
 
 
 P7 = (ROOT / "examples" / "station_p7.gsi").read_bytes()
+P7_TABLE = (ROOT / "examples" / "station_p7_directions.csv").read_bytes()
 
 ROTATED = b"A,100.0001\nB,150.0001\n"
 
@@ -68,8 +69,8 @@ TABLES = [
     ("within 0", of_b(b"50.000030001"), "0", apart(1, 0)),
     ("half the ninth decimal above 10", of_b(b"50.000050001"), None, apart(11, 10)),
     ("a first direction as Python prints it", b"A,0.0\nB,50.00005\n", None, agrees(10, 10)),
-    ("it tells no decimals", b"A,0.0\nB,50.00006\n", None, apart(15, 10)),
-    ("one decimal that is not 0", b"A,0.1\nB,50.10006\n", None, agrees(15, 50_001)),
+    ("its decimal is not the finest", b"A,0.0\nB,50.00006\n", None, apart(15, 10)),
+    ("one decimal that is not 0 once let it agree", b"A,0.1\nB,50.10006\n", None, apart(15, 10)),
     ("the largest limit", of_b(b"48.00003"), "1000000", agrees(1_000_000, 1_000_000)),
     ("above it", of_b(b"47.999999999"), "1000000", apart(1_000_016, 1_000_000)),
     ("half a circle", of_b(b"250.00003"), "1000000", apart(100_000_000, 1_000_000)),
@@ -102,31 +103,93 @@ TABLES = [
     ("as many bytes as may be", TABLE + b"\n" * (model.LONGEST_TABLE - len(TABLE)), None, AGREES),
 ]
 
-# Each is a table, and the line of its verdict where no limit is stated: it is 10 with five decimals
-# or more, and half a unit of the last decimal and 1 with fewer.
+# Each is a table, and the line of its verdict where no limit is stated: its finest row tells it, and
+# it is half a unit of the last decimal and 5, but 10 at least.
 USUAL = [
     ("five decimals", of_b(b"50.00001"), agrees(10, 10)),
     ("and more", of_b(b"50.000009"), apart(11, 10)),
     ("five decimals of each", b"A,100.00010\nB,150.00010\n", apart(15, 10)),
-    ("four decimals", ROTATED, agrees(15, 51)),
-    ("four decimals in one row", b"A,0.0000\nB,50.000132\n", agrees(51, 51)),
-    ("and a unit more", b"A,0.0000\nB,50.000133\n", apart(52, 51)),
-    ("four decimals in the other row", b"A,0.00000\nB,50.0001\n", agrees(35, 51)),
-    ("three decimals", b"A,0.000\nB,50.001032\n", agrees(501, 501)),
-    ("and a unit more", b"A,0.000\nB,50.001033\n", apart(502, 501)),
-    ("two decimals", b"A,0.00\nB,50.010032\n", agrees(5_001, 5_001)),
-    ("and a unit more", b"A,0.00\nB,50.010033\n", apart(5_002, 5_001)),
-    ("one decimal", b"A,0.1\nB,50.200032\n", agrees(50_001, 50_001)),
-    ("and a unit more", b"A,0.1\nB,50.200033\n", apart(50_002, 50_001)),
-    ("three decimals beside four", b"A,0.0000\nB,50.001\n", agrees(485, 501)),
+    ("four decimals", ROTATED, agrees(15, 55)),
+    ("four decimals and further", b"A,100.0001\nB,150.0000\n", apart(65, 55)),
+    ("three decimals", b"A,0.000\nB,50.001\n", agrees(485, 505)),
+    ("and further", b"A,0.000\nB,49.999\n", apart(515, 505)),
+    ("two decimals", b"A,0.00\nB,50.01\n", agrees(4_985, 5_005)),
+    ("and further", b"A,0.00\nB,49.99\n", apart(5_015, 5_005)),
+    ("one decimal", b"A,0.1\nB,50.2\n", agrees(49_985, 50_005)),
+    ("and further", b"A,0.1\nB,50.0\n", apart(50_015, 50_005)),
+    ("four decimals beside six", b"A,0.0001\nB,50.000232\n", apart(51, 10)),
+    ("five decimals beside four", b"A,0.00001\nB,50.0001\n", apart(30, 10)),
+    ("three decimals beside four", b"A,0.0001\nB,50.001\n", apart(435, 55)),
     ("whole gon", b"A,0\nB,50\n", apart(15, 10)),
     ("whole gon with a point", b"A,0.\nB,50.\n", apart(15, 10)),
-    ("a whole gon beside four decimals", of_b(b"50.0001"), agrees(35, 51)),
-    ("and further", of_b(b"49.9999"), apart(65, 51)),
-    ("zeros are decimals", of_b(b"50.0000"), agrees(15, 51)),
+    ("a whole gon beside four decimals", of_b(b"50.0001"), agrees(35, 55)),
+    ("and further", of_b(b"49.9999"), apart(65, 55)),
+    ("decimals of 0 tell it", b"A,0.00000\nB,50.0001\n", apart(35, 10)),
+    ("and with a minus", b"A,-0.0000\nB,50\n", agrees(15, 55)),
+    ("and of a full circle", b"A,400.00000\nB,50.0001\n", apart(35, 10)),
+    ("zeros are decimals", of_b(b"50.0000"), agrees(15, 55)),
     ("as many zeros as may be", of_b(b"50." + b"0" * 5_000), apart(15, 10)),
-    ("a decimal comma", b"A;0,0000\nB;50,0000\n", agrees(15, 51)),
-    ("a sign, blanks and titles", b"Name, 1.0 gon\n A, +0.0000\n B, -350.0000\n", agrees(15, 51)),
+    ("a decimal comma", b"A;0,0000\nB;50,0000\n", agrees(15, 55)),
+    ("a sign, blanks and titles", b"Name, 1.0 gon\n A, +0.0000\n B, -350.0000\n", agrees(15, 55)),
+    ("titles tell nothing", b"Name,+1.000000 gon\nA,0.0000\nB,50.0000\n", agrees(15, 55)),
+]
+
+
+def p7(**others):
+    """A table of P7: to five decimals as its example has them, but for these targets."""
+    own = dict(row.split(",") for row in P7_TABLE.decode().splitlines())
+    return "".join(f"{name},{others.get(name, text)}\n" for name, text in own.items()).encode()
+
+
+# P7 to five decimals without zeros at the end, turned so that P3 is 64.5: right, and with CHURCH
+# 40 mgon off.
+TURNED = {"TOWER": "399.97866", "P3": "64.5", "MAST": "139.3832", "P8": "212.73586", "P12": "345.18785"}
+TURNED_RIGHT = p7(**TURNED, CHURCH="278.83925")
+TURNED_WRONG = p7(**TURNED, CHURCH="278.87925")
+
+# P7 to six decimals but for its first direction, and the third 8 mgon off.
+SIX_DECIMALS = p7(
+    **{"TOWER": "0.00", "P3": "64.521338", "MAST": "139.412538"},
+    **{"P8": "212.757195", "CHURCH": "278.860592", "P12": "345.209189"},
+)
+
+# Tables of which the row with the fewest decimals once set the limit: each named for the answer of
+# then. The first are of S1, those of P7 are worked from the fractions of its sheet.
+OF_S1_ONCE = [
+    ("9.97 mgon off once agreed within 4985", b"A,0.00\nB,50.01000\n", apart(4_985, 10)),
+    ("0.97 mgon off once agreed within 485", b"A,0.000\nB,50.00100\n", apart(485, 10)),
+    ("0.10 mgon off once agreed within 51", b"A,0.0000\nB,50.000132\n", apart(51, 10)),
+    ("0.07 mgon off once agreed within 35", b"A,0.0000000\nB,50.0001\n", apart(35, 10)),
+]
+OF_P7_ONCE = [
+    ("right and without zeros, as once, but within 50,001", TURNED_RIGHT, agrees(4, 10, 6, "P7")),
+    ("40 mgon off once agreed within 20000", TURNED_WRONG, apart(20_000, 10)),
+    ("21 and 10 mgon off once agreed within 15668", p7(P3="64.5", CHURCH="278.87059"), apart(15_668, 10)),
+    ("4.5 mgon off once agreed within 2272", p7(MAST="139.4"), apart(2_272, 10)),
+    ("8 mgon off beside 0.00 once agreed within 4000", SIX_DECIMALS, apart(4_000, 10)),
+]
+IN_DEGREES_ONCE = [
+    ("0.29 seconds off once agreed within 46", b"A,0-00-00\nB,45-00-00.39\n", apart(46, 10)),
+    ("the same by signs", "A,0°00'00\"\nB,45°00'00.39\"\n".encode(), apart(46, 10)),
+    ("and with its decimals, as once", b"A,0-00-00.00\nB,45-00-00.39\n", apart(46, 10)),
+    ("whole seconds", b"A,0-00-00\nB,45-00-00\n", agrees(15, 160)),
+]
+
+
+def s1_of(b):
+    """One set of A at 0 and B at so many 0.00001 gon."""
+    return field_file({1: [both_faces("A", 0), both_faces("B", b)]})
+
+
+# A station, a table of it with four decimals or fewer, and the line: an instrument's own results may
+# be half a step and 5 units off, and the program's own tables are taken back.
+ROOM = [
+    ("55 of four decimals once were apart", 5_000_001, b"A,0.0000\nB,49.9999\n", agrees(55, 55)),
+    ("60 are", 5_000_002, b"A,0.0000\nB,49.9999\n", apart(60, 55)),
+    ("505 of three decimals once were apart", 5_000_001, b"A,0.000\nB,49.999\n", agrees(505, 505)),
+    ("510 are", 5_000_002, b"A,0.000\nB,49.999\n", apart(510, 505)),
+    ("its own table once was 1500 apart", 20_000_300, b"A,0.0\nB,200.0\n", agrees(1_500, 50_005)),
+    ("its own table of zeros alone", 300, b"A,0.0\nB,0.0\n", agrees(1_500, 50_005)),
 ]
 
 # Tables of P7 as programs really printed them (numpy 1.24, Octave 7.3, LibreOffice 7.4, mawk 1.3), of
@@ -145,7 +208,7 @@ PRINTED = [
         b"TOWER       400.0000\nP3           64.5213\nMAST        139.4045\n"
         b"P8          212.7572\nCHURCH      278.8606\nP12         345.2092\n",
         25,
-        51,
+        55,
     ),
     (
         "LibreOffice in German, converted with no option",
@@ -159,7 +222,7 @@ PRINTED = [
         b"Ziel;Richtung (gon)\nTOWER;0,0000\nP3;64,5213\nMAST;139,4045\n"
         b"P8;212,7572\nCHURCH;278,8606\nP12;345,2092\n",
         25,
-        51,
+        55,
     ),
     (
         "LibreOffice in English, saved with tabs as it shows five decimals",
@@ -169,10 +232,10 @@ PRINTED = [
         10,
     ),
     (
-        "awk's print, which shows six digits",
+        "awk's print, which shows six digits: its table once agreed within 329",
         b"TOWER 0\nP3 64.5213\nMAST 139.405\nP8 212.757\nCHURCH 278.861\nP12 345.209\n",
         329,
-        501,
+        55,
     ),
 ]
 
@@ -304,13 +367,17 @@ class CompareTest(ProgramTest):
         for name, table, within, line in TABLES:
             options = [] if within is None else ["--within", within]
             self.check([judged(name, STATION, table, line, *options)])
-        self.check([judged(name, STATION, table, line) for name, table, line in USUAL])
+        self.check([judged(name, STATION, table, line) for name, table, line in [*USUAL, *OF_S1_ONCE]])
+        self.check([judged(name, P7, table, line, station="P7") for name, table, line in OF_P7_ONCE])
+        self.check([judged(name, s1_of(b), table, line) for name, b, table, line in ROOM])
         faults = [*FAULTS, *IN_UTF_16]
         self.check([judged(name, STATION, table, refused(why)) for name, table, why in faults])
 
     def test_a_table_in_degrees_agrees_or_its_first_fault_is_named(self):
         for name, table, line in IN_DEGREES:
             self.check([judged(name, STATION, table, line, "--degrees", "--within=1")])
+        for name, table, line in IN_DEGREES_ONCE:
+            self.check([judged(name, STATION, table, line, "--degrees")])
 
     def test_tables_are_read_as_programs_print_them(self):
         for name, table, within, usual in PRINTED:

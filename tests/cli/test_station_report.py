@@ -87,13 +87,13 @@ class ReportTest(ProgramTest):
         table.write_bytes(TABLE_15)
         before, residuals, after = (REPORT % bytes(self.folder / "field.gsi")).partition(b"Residuals")
         section = SECTION % bytes(table)
-        for limit in [["--table", table], [f"--table={table}", "--within=0.051mgon"]]:
+        for limit in [["--table", table], [f"--table={table}", "--within=0.055mgon"]]:
             self.assertEqual(before + section + residuals + after, self.report_of(STATION, *limit))
 
     def test_where_directions_are_apart_the_report_is_printed_whole(self):
         table = self.folder / "table.csv"
         table.write_bytes(TABLE_15)
-        section = SECTION.replace(b"0.051 mgon", b"0.014 mgon")
+        section = SECTION.replace(b"0.055 mgon", b"0.014 mgon")
         section = section.replace(b"agrees S1: 2 targets, within", b"apart S1: 2 targets, by")
         before, residuals, after = (REPORT % bytes(EXAMPLE)).partition(b"Residuals")
         expected = before + section % bytes(table) + residuals + after

@@ -119,8 +119,8 @@ Stated directions in gon, differences in mgon: stated less adjusted, after the b
   B                       150.000100        -0.015
 
 Table                 %s
-Limit of differences  0.051 mgon
-Comparison            agrees S1: 2 targets, within 0.015 mgon, limit 0.051 mgon
+Limit of differences  0.055 mgon
+Comparison            agrees S1: 2 targets, within 0.015 mgon, limit 0.055 mgon
 
 """
 

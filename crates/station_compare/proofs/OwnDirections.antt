@@ -47,10 +47,7 @@ small_step count many =
 
 -- The usual limit of a table is 1 or more.
 usual_some : (rows : List (List (List ℕ))) → 1 ≤ usual_within Gon rows
-usual_some [] = omega arith
-usual_some (row ∷ rows) =
-    let rest = usual_some rows in
-    omega (arith, rest)
+usual_some rows = omega arith
 
 -- What rows are read as are their numbers.
 read_as : (rows : List TargetDirection)

@@ -80,24 +80,26 @@ fn tables_lie_beside_the_least_directions(rt: HostRuntime) -> Result<(), Fail> {
 }
 
 #[test]
-fn where_nothing_is_stated_the_coarsest_row_tells_the_limit(rt: HostRuntime) -> Result<(), Fail> {
-    let cases: [(&[u8], Result<HowFar, CompareFault>); 12] = [
+fn where_nothing_is_stated_the_finest_row_tells_the_limit(rt: HostRuntime) -> Result<(), Fail> {
+    let cases: [(&[u8], Result<HowFar, CompareFault>); 14] = [
         // Five decimals or more, and whole gon alone: 10.
         (b"A,0\nB,50.00001\n", near(10, 10)),
         (b"A,0\nB,50.000009\n", far(11, 10)),
         (b"A,0\nB,50\n", far(15, 10)),
-        // Four decimals: 51, in whichever row.
-        (b"A,0.0000\nB,50.000132\n", near(51, 51)),
-        (b"A,0.0000\nB,50.000133\n", far(52, 51)),
-        (b"A,0.0000000\nB,50.0001\n", near(35, 51)),
-        // Three, two and one: 501, 5,001 and 50,001.
-        (b"A,0.000\nB,50.001032\n", near(501, 501)),
-        (b"A,0.000\nB,50.001033\n", far(502, 501)),
-        (b"A,0.00\nB,50.0001\n", near(35, 5_001)),
-        (b"A,0.1\nB,50.200032\n", near(50_001, 50_001)),
-        (b"A,0.1\nB,50.200033\n", far(50_002, 50_001)),
-        // As Python writes a whole number: 10 again.
-        (b"A,0.0\nB,50.000132\n", far(51, 10)),
+        // Four decimals: 55, and as many as 0 has.
+        (b"A,0.0000\nB,50.0001\n", near(35, 55)),
+        (b"A,0.00\nB,50.0001\n", near(35, 55)),
+        (b"A,0.0000000\nB,50.0001\n", far(35, 10)),
+        (b"A,0.0\nB,49.9999\n", far(65, 55)),
+        // Three, two and one: 505, 5,005 and 50,005.
+        (b"A,0\nB,50.001\n", near(485, 505)),
+        (b"A,0\nB,49.999\n", far(515, 505)),
+        (b"A,0.1\nB,50.2\n", near(49_985, 50_005)),
+        // Of two rows the finer, in either order.
+        (b"A,0.1\nB,50.10006\n", far(15, 10)),
+        (b"A,0.0001\nB,50.001\n", far(435, 55)),
+        (b"A,0.001\nB,50.0002\n", far(415, 55)),
+        (b"A,0.00\nB,50.01000\n", far(4_985, 10)),
     ];
     for (table, want) in cases {
         assert_eq!(rt; compared(&rt, rt.alloc(), S1, b"S1", table, None), want);
@@ -108,21 +110,22 @@ fn where_nothing_is_stated_the_coarsest_row_tells_the_limit(rt: HostRuntime) -> 
 #[test]
 fn tables_in_degrees_lie_beside_the_least_directions(rt: HostRuntime) -> Result<(), Fail> {
     // 50.00003 gon are 45 degrees and 0.0972 seconds; a second is 308.64.. units.
-    let cases: [(&[u8], Result<HowFar, CompareFault>); 13] = [
+    let cases: [(&[u8], Result<HowFar, CompareFault>); 14] = [
         (b"A,0-00-00.0000\nB,45-00-00.0972\n", near(0, 10)),
         (b"B;45\xC2\xB000'00,0972\"\nA;360\n", near(0, 10)),
         (b"A,0\nB,45.000027\n", near(0, 10)),
-        (b"A 100.1\nB 145.100027\n", near(0, 55_557)),
-        // Seconds without decimals: 156, in whichever row.
-        (b"A,0-00-00\nB,45-00-01\n", near(140, 156)),
-        (b"A,0-00-00\nB,45-00-01.2\n", far(171, 156)),
-        (b"A,0-00-00\nB,45-00-00.15\n", near(9, 156)),
-        // With one decimal 17, with more 10.
-        (b"A,0-00-00.0\nB,45-00-00.2\n", near(16, 17)),
-        (b"A,0-00-00.0\nB,45-00-00.3\n", far(32, 17)),
+        (b"A 100.1\nB 145.100027\n", near(0, 10)),
+        // Seconds without decimals: 160, but 0-00-00 tells nothing.
+        (b"A,0-00-00\nB,45-00-01\n", near(140, 160)),
+        (b"A,0-00-00\nB,45-00-01.2\n", far(171, 21)),
+        (b"A,0-00-00\nB,45-00-00.15\n", near(9, 10)),
+        (b"A,0-00-00\nB,45-00-00.39\n", far(46, 10)),
+        // With one decimal 21, with more 10.
+        (b"A,0-00-00.0\nB,45-00-00.2\n", near(16, 21)),
+        (b"A,0-00-00.0\nB,45-00-00.3\n", far(32, 21)),
         (b"A,0-00-00.00\nB,45-00-00.17\n", far(12, 10)),
-        // Four decimals of a degree: 57; a whole degree is taken as it stands.
-        (b"A,0\nB,45.0001\n", near(41, 57)),
+        // Four decimals of a degree: 61; a whole degree tells nothing.
+        (b"A,0\nB,45.0001\n", near(41, 61)),
         (b"A,0\nB,45\n", far(15, 10)),
         (
             b"A,0-00-00\nB,45-60-00\n",

@@ -43,8 +43,8 @@ const TURNED: Beside = Beside {
     within: None,
     lines: b"  A                       100.000100         0.015\n\
 \x20 B                       150.000100        -0.015\n",
-    limit: b"0.051",
-    verdict: b"agrees S1: 2 targets, within 0.015 mgon, limit 0.051 mgon",
+    limit: b"0.055",
+    verdict: b"agrees S1: 2 targets, within 0.015 mgon, limit 0.055 mgon",
     beyond: None,
     refused: b"",
 };
@@ -100,14 +100,14 @@ fn tables() -> [Beside; 10] {
             refused: b"refused: compare: Apart 100000.000 mgon, limit 1000.000 mgon\n",
             ..TURNED
         },
-        // 45 degrees and 0.0972 seconds are 50.00003 gon; the row of A is rounded to a second.
+        // 45 degrees and 0.0972 seconds are 50.00003 gon; the row of A tells no step.
         Beside {
             table: b"A,0-00-00\nB,45-00-00.0972\n",
             unit: AngleUnit::Degrees,
             lines: b"  A                         0.000000         0.000\n\
 \x20 B                        50.000030         0.000\n",
-            limit: b"0.156",
-            verdict: b"agrees S1: 2 targets, within 0.000 mgon, limit 0.156 mgon",
+            limit: b"0.010",
+            verdict: b"agrees S1: 2 targets, within 0.000 mgon, limit 0.010 mgon",
             ..TURNED
         },
         // 0.2 seconds are 0.00006172839.. gon.
@@ -131,8 +131,8 @@ fn tables() -> [Beside; 10] {
             unit: AngleUnit::Degrees,
             lines: b"  A                       100.000000         0.015\n\
 \x20 B                       150.000000        -0.015\n",
-            limit: b"0.057",
-            verdict: b"agrees S1: 2 targets, within 0.015 mgon, limit 0.057 mgon",
+            limit: b"0.061",
+            verdict: b"agrees S1: 2 targets, within 0.015 mgon, limit 0.061 mgon",
             ..TURNED
         },
         // Differences of 0, -62/3 and -61/3 units: half of the spread is 31/3, and rounded up 11.
