@@ -78,7 +78,7 @@ class PageInFirefoxTest(TimedTest):
         read = "Station P7: Read without a fault: 4 sets, 6 targets, 22 directions."
         self.assertEqual(read, page.wait_text("#verdict", read))
         page.drop(table)
-        agrees = "Station P7: Agrees. 6 targets within 0.025 mgon of the least-squares directions; the limit is 0.051 mgon."
+        agrees = "Station P7: Agrees. 6 targets within 0.025 mgon of the least-squares directions; the limit is 0.055 mgon."
         self.assertEqual(agrees, page.wait_text("#verdict", agrees))
 
     def test_the_picture_has_the_colours_of_the_style(self):
