@@ -87,7 +87,10 @@ class Order:
 
     def processes(self, crate: str, most: int) -> int:
         """How many processes share a proof, of the most that may. One takes less processor time in all;
-        so there are more only where less than three tenths of the lines can be proved beside it."""
+        so there are more only where less than three tenths of the lines can be proved beside it. What
+        the program isn't made of, the calls of the page, is proved when all else is."""
+        if crate not in self.under:
+            return most
         apart = {crate, *self.under[crate], *self.above(crate)}
         beside = sum(lines for name, lines in self.lines.items() if name not in apart)
         return most if 10 * beside < 3 * sum(self.lines.values()) else 1

@@ -20,7 +20,8 @@ CRATES = {
     "station_compare": ["middle"],
     "station_explain": ["low"],
     "not_of_the_program": ["low"],
-    "station_page staticlib": ["station_compare"],
+    "page_calls": ["station_compare"],
+    "station_page staticlib": ["page_calls"],
     "station_program": ["station_compare", "station_explain", "clap"],
 }
 PROVED = ["low", "other_low", "middle", "station_compare", "station_explain", "station_program"]
@@ -163,7 +164,9 @@ class MakeTest(ProgramTest):
             (self.folder / "page" / name).touch()
         made = self.make("page")
         self.assertEqual(0, made.returncode, made.stderr)
-        self.assertEqual(["low", "middle", "other_low", "station_compare"], sorted(self.begun()))
+        page = ["low", "middle", "other_low", "page_calls", "station_compare"]
+        self.assertEqual(page, sorted(self.begun()))
+        self.assertEqual("5 of 5", re.findall(r"is proved, (.*)$", made.stderr, re.MULTILINE)[-1])
         self.assertNotIn("warning", made.stderr)
 
     def test_a_page_that_is_newer_than_its_sources_asks_for_no_proof(self):
