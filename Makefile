@@ -114,7 +114,7 @@ $(PAGE): $(SOURCES) $(wildcard page/*.py page/*.js page/*.css) page/heap.c page/
 # Makes the library for C and Python, of the same build of the proved calls as the page. Needs a C compiler.
 library: $(LIBRARY)
 
-$(LIBRARY): $(PAGE) capi/link.sh capi/names.ld
+$(LIBRARY): $(PAGE) capi/link.sh capi/names.ld capi/stated.c capi/station_check.h
 	@$(NEED_TOOLCHAIN)
 	@RT='$(RT)' CC='$(CC)' sh capi/link.sh build/page/lib.a $@
 
