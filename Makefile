@@ -136,7 +136,8 @@ check:
 	@$(NEED_TOOLCHAIN)
 	@$(RT) all check
 
-# Measures the program beside a plain one of the same job: time, and instructions where valgrind is found. BENCH has options.
+# Measures the program beside plain ones of the same job: by the clock, with marks that it fails on, and in instructions
+# where valgrind is found. BENCH has options: '--only clock tuned=PATH' is the short form. Nothing else should run.
 bench: $(PROGRAM)
 	@$(PYTHON) bench/bench.py $(BENCH)
 
