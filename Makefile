@@ -84,7 +84,7 @@ NEED_TOOLCHAIN = command -v $(RT) > /dev/null || { \
   echo "make: the Rattle toolchain is missing: no command '$(RT)' is found; put it on PATH, or name it as RT=/path/to/rt" >&2; \
   exit 1; }
 
-.PHONY: run page library test sweep wrong-bodies check bench install uninstall dist clean
+.PHONY: run try page library test sweep wrong-bodies check bench install uninstall dist clean
 
 # Builds the proved program and runs it on an example.
 run: $(PROGRAM)
@@ -100,6 +100,11 @@ run: $(PROGRAM)
 	@$(PROGRAM) directions $(EXAMPLE) S1
 	@echo '$$ station_check words $(EXAMPLE)'
 	@$(PROGRAM) words $(EXAMPLE)
+
+# Shows the program's answers on an example within minutes, with no proof.
+try:
+	@$(NEED_TOOLCHAIN)
+	@RT='$(RT)' $(PYTHON) tools/try_program.py
 
 # Makes the page that checks in a browser, one file, of the proved calls. The crates that it stands on
 # are proved only where it is older than its sources: so the gate, which makes it of what it has proved
@@ -140,7 +145,8 @@ check:
 	@$(NEED_TOOLCHAIN)
 	@$(RT) all check
 
-# Measures the program beside a plain one of the same job: time, and instructions where valgrind is found. BENCH has options.
+# Measures the program beside plain ones of the same job: by the clock, with marks that it fails on, and in instructions
+# where valgrind is found. BENCH has options: '--only clock tuned=PATH' is the short form. Nothing else should run.
 bench: $(PROGRAM)
 	@$(PYTHON) bench/bench.py $(BENCH)
 

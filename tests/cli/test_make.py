@@ -26,8 +26,9 @@ CRATES = {
 }
 PROVED = ["low", "other_low", "middle", "station_compare", "station_explain", "station_program"]
 
-# A toolchain, by the name that it is called by: `rt` tells where it lies, rattle proves a crate over the
-# libraries that it is told of, waits a moment and says what it proved, and rattle-link makes a program.
+# A toolchain, by the name that it is called by: `rt` tells where it lies, and what it was asked to try;
+# rattle proves a crate over the libraries that it is told of, waits a moment and says what it proved,
+# and rattle-link makes a program.
 # One of the crates that are to MEET waits until all of them have begun; the one to HOLD, until it is told
 # to go on.
 TOOLCHAIN = """\
@@ -38,6 +39,17 @@ import time
 from pathlib import Path
 
 tool, words = Path(sys.argv[0]), sys.argv[1:]
+if tool.name == "rt" and words[:2] == ["try", "--cases"]:
+    data = dict(word.split("=") for word in words[4::2])
+    statuses = iter(os.environ["STATUSES"].split())
+    for case in sorted(Path(words[2]).glob("?")):
+        args = case.with_suffix(".args").read_text().split()
+        assert all(Path(data[word]).is_file() for word in args if "." in word)
+        print(f"== {case.name}\\nasked {' '.join(args)}\\n== no case", flush=True)
+        end = "run=ended status=" + next(statuses)
+        print(f"said of {case.name}\\ncase={case.name} {end} proved=no", file=sys.stderr)
+    print("cases=5 ended=5 proved=no", file=sys.stderr)
+    sys.exit()
 if tool.name == "rt":
     print("a toolchain" if words == ["--version"] else tool.parent.parent / "START-HERE.md")
     sys.exit()
@@ -157,6 +169,27 @@ class MakeTest(ProgramTest):
                 self.assertLess(calls.index(f"end {low}"), at, f"{crate} before {low}")
         said = re.findall(r"(\w+) is proved, (\d+) of 6$", made.stderr, re.MULTILINE)
         self.assertEqual([str(n + 1) for n in range(6)], [n for _, n in said])
+
+    def test_what_is_tried_is_shown_and_said_to_be_unproved(self):
+        made = self.make("try", STATUSES="0 0 1 0 0")
+        self.assertEqual((0, ""), (made.returncode, made.stderr))
+        shown = re.findall(r"^\$ station_check (.*)\nasked (.*)\n== no case\nsaid of \d$", made.stdout, re.M)
+        self.assertEqual(["directions", "compare", "compare", "check", "list"], [one.split()[0] for one, _ in shown])
+        for words, asked in shown:
+            self.assertEqual(words, asked)
+        lines = made.stdout.splitlines()
+        self.assertTrue(lines[0].startswith("make try: nothing is proved by this."), lines[0])
+        self.assertTrue(lines[-1].startswith("make try: nothing was proved: "), lines[-1])
+        self.assertIn("cases=5 ended=5 proved=no", lines)
+        self.assertFalse((self.folder / "build" / "station_check").exists())
+
+    def test_a_try_that_answers_otherwise_fails_and_shows_all_that_was_said(self):
+        for statuses in ("0 0 0 0 0", "1 0 1 0 0", "0 0 1 0 2"):
+            with self.subTest(statuses):
+                made = self.make("try", STATUSES=statuses)
+                self.assertNotEqual(0, made.returncode)
+                for said in ("== 5\nasked list", "case=5 run=ended", "make try: FAILED", "nothing was proved"):
+                    self.assertIn(said, made.stdout)
 
     def test_the_page_is_made_after_the_crates_that_it_stands_on(self):
         (self.folder / "page").mkdir()
