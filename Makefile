@@ -48,10 +48,17 @@ $(foreach crate,$(EVERY),$(eval under_$(crate) := \
   $(sort $(below_$(crate)) $(foreach low,$(below_$(crate)),$(under_$(low))))))
 
 # The crates whose wrong bodies are tried: those that are named, as CRATES="gsi_word ..", or all.
-ASKED := $(and $(findstring command line,$(origin CRATES)),$(CRATES))
+NAMED := $(and $(findstring command line,$(origin CRATES)),$(CRATES))
 
-# The crates that the program is made of, lowest first.
+# The crates that the program is made of, lowest first, and those that the page stands on; which of them
+# are asked for, and all of them.
 override CRATES := $(filter $(under_$(PROGRAM_CRATE)) $(PROGRAM_CRATE),$(EVERY))
+PAGE_CRATES := $(filter $(under_station_page),$(EVERY))
+ASKED := $(if $(filter page,$(IS_WITHIN)),$(PAGE_CRATES),$(CRATES))
+EITHER := $(filter $(CRATES) $(PAGE_CRATES),$(EVERY))
+
+# The program's in the order in which they are begun: those first with which the longest chains begin.
+ORDER := $(shell $(PYTHON) tools/prove.py)
 
 # A file for each crate that is proved as its sources are now: what the proof said, with the time at
 # which it began. And where the libraries and the program are made.
@@ -71,15 +78,6 @@ JOBS ?= $(shell most=$$(( $(or $(KIBIBYTES),0) / 4194304 )); here=$$(nproc); \
 ifndef IS_WITHIN
 MAKEFLAGS += --jobs=$(JOBS)
 endif
-
-# The longest chains of proofs, in which each crate stands on the one before: the whole takes as long
-# as they do. So each of them is proved by as many processes as there are processors, and what is
-# proved beside them by one, which takes less processor time in all.
-CHAIN := adjust_kernel sheet_format station_check station_compare station_residuals station_report table_report station_record command_run station_program
-CHAIN_OF_BLOCKS := gsi_word station_book station_check
-CHAIN_OF_WORDS := station_check station_explain command_line command_run
-CHAINS := $(CHAIN) $(CHAIN_OF_BLOCKS) $(CHAIN_OF_WORDS)
-IS_BESIDE = $(if $(filter $*,$(CHAINS))$(filter 1,$(JOBS)),,yes)
 
 # What each recipe that proves begins with.
 NEED_TOOLCHAIN = command -v $(RT) > /dev/null || { \
@@ -110,7 +108,7 @@ page: $(PAGE)
 
 $(PAGE): $(SOURCES) $(wildcard page/*.py page/*.js page/*.css) page/heap.c page/station_check.html
 	@$(NEED_TOOLCHAIN)
-	@$(MAKE) --no-print-directory --silent IS_WITHIN=page $(filter $(under_station_page:%=$(PROVED)/%),$(CRATES:%=$(PROVED)/%))
+	@$(MAKE) --no-print-directory --silent IS_WITHIN=page $(PAGE_CRATES:%=$(PROVED)/%)
 	@RT='$(RT)' $(PYTHON) page/build.py $@
 
 # Makes the library for C and Python, of the same build of the proved calls as the page. Needs a C compiler.
@@ -134,10 +132,8 @@ sweep:
 wrong-bodies:
 	@$(NEED_TOOLCHAIN)
 	@$(MAKE) --no-print-directory --silent IS_WITHIN=wrong-bodies $(addprefix $(PROVED)/,$(filter \
-	  $(CRATES),$(foreach crate,$(or $(ASKED),$(EVERY)),$(crate) $(under_$(crate)))))
-	@$(if $(filter station_page,$(or $(ASKED),$(EVERY))),\
-	  $(MAKE) --no-print-directory --silent IS_WITHIN=wrong-bodies $(PAGE))
-	@RT='$(RT)' $(PYTHON) tools/wrong_bodies.py $(ASKED) --jobs $(JOBS)
+	  $(EITHER),$(foreach crate,$(or $(NAMED),$(EVERY)),$(crate) $(under_$(crate)))))
+	@RT='$(RT)' $(PYTHON) tools/wrong_bodies.py $(NAMED) --jobs $(JOBS)
 
 # Proves every crate over what earlier checks kept.
 check:
@@ -198,23 +194,23 @@ clean:
 # Proves a crate over those that it stands on. A failed proof is a failed build. What the proof said
 # is the crate's file in build/proved, which has the time at which the proof began, so that a source
 # that changes meanwhile is proved again.
-$(CRATES:%=$(PROVED)/%): $(PROVED)/%: crates.txt | $(PROVED)
+$(EITHER:%=$(PROVED)/%): $(PROVED)/%: crates.txt | $(PROVED)
 	@$(NEED_TOOLCHAIN)
-	@rm -f $@ $(foreach crate,$(CRATES),$(if $(filter $*,$(under_$(crate))),$(PROVED)/$(crate)))
+	@rm -f $@ $(foreach crate,$(EITHER),$(if $(filter $*,$(under_$(crate))),$(PROVED)/$(crate)))
 	@touch $(MADE)/$*.begun
-	@RT='$(RT)' $(PYTHON) tools/prove.py $* --jobs $(if $(IS_BESIDE),1,$(JOBS)) \
+	@RT='$(RT)' $(PYTHON) tools/prove.py $* --jobs $(JOBS) \
 	  < /dev/null > $(MADE)/$*.log 2>&1 || { \
 	  $(call say,$* is NOT PROVED: $(MADE)/$*.log ends with); tail -n 20 $(MADE)/$*.log >&2; exit 1; }
 	@flock $(PROVED) sh -c 'touch -r $(MADE)/$*.begun $(MADE)/$*.log && mv $(MADE)/$*.log $@ && \
-	$(call say,$* is proved$(comma) $$(ls $(PROVED) | wc -l) of $(words $(CRATES)))'
+	$(call say,$* is proved$(comma) $$(cd $(PROVED) && ls $(ASKED) 2> /dev/null | wc -l) of $(words $(ASKED)))'
 
 $(PROVED):
 	@mkdir -p $@ $(MADE)
-	@$(call say,proving $(words $(CRATES)) crates$(comma) $(JOBS) side by side; the first time takes minutes)
+	@$(call say,proving $(words $(ASKED)) crates$(comma) $(JOBS) side by side; the first time takes minutes)
 
-$(foreach crate,$(CRATES),$(eval $(PROVED)/$(crate): \
+$(foreach crate,$(EITHER),$(eval $(PROVED)/$(crate): \
   $(filter crates/$(crate)/%,$(SOURCES)) $(below_$(crate):%=$(PROVED)/%)))
 
 # Puts the program where it is run and installed from.
-$(PROGRAM): $(PROVED)/$(PROGRAM_CRATE)
+$(PROGRAM): $(ORDER:%=$(PROVED)/%) $(PROVED)/$(PROGRAM_CRATE)
 	@install -D -m 755 $(MADE)/$(PROGRAM_CRATE) $@

@@ -5,7 +5,7 @@ import {
 import { button, element, menuOf, ofProgram, save } from './elements.js';
 import { stemOf } from './files.js';
 import {
-  apartIn, furthestOf, headlineOf, headlineOfCard, meaningOf, recognizedText,
+  furthestOf, headlineOf, headlineOfCard, isApart, meaningOf, recognizedText,
 } from './headlines.js';
 import { pictureFile } from './picture.js';
 import { placeOf } from './place.js';
@@ -135,12 +135,12 @@ function showAnswer(answer, desk, parent) {
   const mood = status === ACCEPTED ? 'good' : 'bad';
   const part = element('div', '', parent, { className: `answer ${mood}` });
   if (other) element('p', other.name, part, { className: 'label name' });
-  const headline = element('p', headlineOf(answer, desk.limits), part, { className: 'headline' });
-  if (status === REFUSED && !apartIn(line) && explanation) {
+  const headline = element('p', headlineOf(answer), part, { className: 'headline' });
+  if (status === REFUSED && !isApart(line) && explanation) {
     headline.append(' ');
     ofProgram('span', meaningOf(answer), headline);
   }
-  if (apartIn(line) && answer.differences)
+  if (isApart(line) && answer.differences)
     element('p', furthestOf(answer.differences), part, { className: 'reason' });
   const place = status === REFUSED ? placeOf(line, field, other, station) : null;
   if (place) showPlace(place, part);

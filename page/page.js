@@ -45,7 +45,7 @@ function sayHow() {
     const [card] = cards, { answers, station } = card;
     const refused = answers.filter(one => one.status !== ACCEPTED);
     const told = refused.length > 0 ? refused : answers;
-    const said = told.map(one => saidOf(one, limits)).join(' ') || headlineOfCard(card);
+    const said = told.map(saidOf).join(' ') || headlineOfCard(card);
     const label = text('station', { name: card.title });
     return say(`${card.mood} unseen`, station ? text('labelled', { label, said }) : said);
   }

@@ -35,15 +35,14 @@ function showFiles(/** @type {Card} */ card, /** @type {Element} */ parent) {
 /**
  * What was answered of a card, each with the program's line and the command.
  * @param {Card} card
- * @param {import('./limits.js').Limits} limits
  * @param {Element} parent
  */
-function showAnswers(card, limits, parent) {
+function showAnswers(card, parent) {
   if (card.answers.length === 0)
     element('div', `${headlineOfCard(card)} ${text('notCompared')}`, parent);
   for (const answer of card.answers) {
     const mood = answer.status === ACCEPTED ? 'good' : 'bad';
-    const said = text('labelled', { label: answer.other.name, said: saidOf(answer, limits) });
+    const said = text('labelled', { label: answer.other.name, said: saidOf(answer) });
     element('div', said, parent, { className: `said ${mood}` });
     ofProgram('samp', answer.line, element('div', '', parent));
     ofProgram('code', answer.command, element('div', '', parent));
@@ -97,7 +96,7 @@ export function showProtocol(card, limits, parent) {
   row('observed', facts).textContent = text('counts', countsOf(listed));
   if (card.marked) showMarks(card, row('marks', facts));
   row('limits', facts).textContent = limitsLine(limits);
-  showAnswers(card, limits, row('answer', facts));
+  showAnswers(card, row('answer', facts));
   showResults(card, part);
   const signs = element('div', '', part, { className: 'signs' });
   for (const label of ['observer', 'sign']) element('p', text(label), signs);

@@ -17,13 +17,16 @@ from typing import Iterator
 import command_line
 
 ROOT = Path(__file__).resolve().parent.parent
+sys.path[:0] = [str(ROOT / "tools")]
+import prove  # noqa: E402
 
 # The program as `rt ci` leaves it, and where it is run from.
 LINKED = ROOT / "crates" / "station_program" / "out" / "station_program"
 PROGRAM = ROOT / "build" / "station_check"
 
-# The page, and what makes it.
+# The page, its crate, and what makes it.
 PAGE = ROOT / "build" / "station_check.html"
+PAGE_CRATE = "station_page"
 PAGE_BUILD = ROOT / "page" / "build.py"
 
 # The shared library, what links it, and the static library of which it is made: the page's build leaves that.
@@ -106,6 +109,7 @@ class Progress:
         self.start = time.monotonic()
         names = re.findall(r"^(\w+)(?: staticlib)?:", (ROOT / "crates.txt").read_text(), re.MULTILINE)
         self.wrong = {name: len([*(ROOT / "crates" / name).glob("must-fail/*.edit")]) for name in names}
+        self.of_page = prove.below(PAGE_CRATE, prove.libraries(ROOT))
         # The minutes at which each crate was proved, its tests were, and its wrong bodies were begun.
         self.proved: dict[str, float] = {}
         self.tested: dict[str, float] = {}
@@ -130,6 +134,10 @@ class Progress:
         """The crates that are not yet proved."""
         return [crate for crate in self.wrong if crate not in self.proved]
 
+    def can_begin_page(self) -> bool:
+        """Whether all that the page stands on is proved."""
+        return self.of_page <= self.proved.keys()
+
     def line(self) -> str:
         lacking = self.lacking()
         proved = f"not yet proved: {', '.join(lacking)}" if lacking else "all crates proved"
@@ -153,10 +161,10 @@ class Progress:
 
 
 class Page:
-    """The page, made beside the wrong bodies once `rt ci` has proved every crate.
+    """The page, made beside the other proofs once `rt ci` has proved the crates that it stands on.
 
     By then the libraries lie there as they were proved; after its end `rt ci` gives the crates back
-    what they had before, and then they would be proved once more.
+    what they had before, and then they would be proved once more. Only the exports are proved again.
     """
 
     def __init__(self, room: str) -> None:
@@ -190,7 +198,7 @@ def library_failure() -> list[str]:
 
 def proofs_passed_and_failed(progress: Progress, page: Page, room: str) -> tuple[int, int]:
     """Runs `rt ci`, shows what it prints, and answers its counts; a run with no counts is one
-    failure. The page is begun where all is proved."""
+    failure. The page is begun where all that it stands on is proved."""
     command = [os.environ.get("RT", "rt"), "ci"]
     counts, has_ended = None, threading.Event()
     clock = threading.Thread(target=progress.show, args=(has_ended,), daemon=True)
@@ -207,7 +215,7 @@ def proofs_passed_and_failed(progress: Progress, page: Page, room: str) -> tuple
         for line in gate.stdout:
             print(line, end="", flush=True)
             progress.hear(line)
-            if not progress.lacking():
+            if progress.can_begin_page():
                 page.begin()
             if found := COUNTS.match(line):
                 counts = int(found[1]), int(found[2])

@@ -76,6 +76,8 @@ class ProgressTest(unittest.TestCase):
         edits = list(ROOT.glob("crates/*/must-fail/*.edit"))
         self.assertEqual(len(edits), sum(progress.wrong.values()))
         self.assertEqual(list(progress.wrong), progress.lacking())
+        self.assertIn("page_calls", progress.of_page)
+        self.assertLess(progress.of_page, folders)
 
     def test_it_says_how_far_the_proofs_are(self):
         progress = self.progress()
@@ -131,7 +133,7 @@ class ProofsTest(ProgramTest):
         rt.write_text(f'#!/bin/sh\n[ "$*" = ci ] || exit 9\ncat "{printed}"\nexit {status}\n')
         rt.chmod(0o755)
         progress, page = gate.Progress(), NoPage()
-        progress.wrong = {"low": 2, "high": 5}
+        progress.wrong, progress.of_page = {"low": 2, "high": 5, "beside": 0}, {"low", "high"}
         with mock.patch.dict(os.environ, {"RT": str(rt)}), open(os.devnull, "w") as nowhere:
             with mock.patch.object(sys, "stdout", nowhere):
                 found = gate.proofs_passed_and_failed(progress, page, str(self.folder))

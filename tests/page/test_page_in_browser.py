@@ -604,7 +604,7 @@ class PageInBrowserTest(TimedTest):
 
     def test_the_decimals_of_a_table_tell_its_limit_where_none_is_stated(self):
         page = self.page(P7_FIELD, self.file("four.csv", FOUR_DECIMALS))
-        agrees = "Agrees. 6 targets within 0.025 mgon of the least-squares directions."
+        agrees = "Agrees. 6 targets within 0.025 mgon of the least-squares directions; the limit is 0.055 mgon."
         self.assertEqual([["good", "Station P7", agrees]], self.cards(page))
         self.assertEqual("station_check compare station_p7.gsi P7 four.csv", page.text(".exact code"))
         self.assertIn("tables within 0.01 mgon or as they are rounded", page.text("#in-force"))
@@ -655,7 +655,7 @@ class PageInBrowserTest(TimedTest):
         self.assertEqual("table of directions", kinds[P7_TABLE.name])
         for name, _, said in [*UNUSED, ("week", None, "a folder is no file")]:
             self.assertTrue(kinds[name].startswith("not used: ") and said in kinds[name], kinds[name])
-        agrees = "Agrees. 6 targets within 0.004 mgon of the least-squares directions."
+        agrees = "Agrees. 6 targets within 0.004 mgon of the least-squares directions; the limit is 0.01 mgon."
         self.assertEqual([["good", "Station P7", P7_HEADLINE, agrees]], self.cards(page))
 
     def test_a_table_of_any_writing_is_known_as_one(self):
