@@ -58,7 +58,7 @@ ASKED := $(if $(filter page,$(IS_WITHIN)),$(PAGE_CRATES),$(CRATES))
 EITHER := $(filter $(CRATES) $(PAGE_CRATES),$(EVERY))
 
 # The program's in the order in which they are begun: those first with which the longest chains begin.
-ORDER := $(shell $(PYTHON) tools/prove.py)
+ORDER := $(shell $(PYTHON) tools/order.py)
 
 # A file for each crate that is proved as its sources are now: what the proof said, with the time at
 # which it began. And where the libraries and the program are made.
@@ -114,7 +114,7 @@ $(PAGE): $(SOURCES) $(wildcard page/*.py page/*.js page/*.css) page/heap.c page/
 # Makes the library for C and Python, of the same build of the proved calls as the page. Needs a C compiler.
 library: $(LIBRARY)
 
-$(LIBRARY): $(PAGE) capi/link.sh capi/names.ld
+$(LIBRARY): $(PAGE) capi/link.sh capi/names.ld capi/stated.c capi/station_check.h
 	@$(NEED_TOOLCHAIN)
 	@RT='$(RT)' CC='$(CC)' sh capi/link.sh build/page/lib.a $@
 
@@ -198,7 +198,7 @@ $(EITHER:%=$(PROVED)/%): $(PROVED)/%: crates.txt | $(PROVED)
 	@$(NEED_TOOLCHAIN)
 	@rm -f $@ $(foreach crate,$(EITHER),$(if $(filter $*,$(under_$(crate))),$(PROVED)/$(crate)))
 	@touch $(MADE)/$*.begun
-	@RT='$(RT)' $(PYTHON) tools/prove.py $* --jobs $(JOBS) \
+	@RT='$(RT)' $(PYTHON) tools/prove.py $* --jobs $$($(PYTHON) tools/order.py $* $(JOBS)) \
 	  < /dev/null > $(MADE)/$*.log 2>&1 || { \
 	  $(call say,$* is NOT PROVED: $(MADE)/$*.log ends with); tail -n 20 $(MADE)/$*.log >&2; exit 1; }
 	@flock $(PROVED) sh -c 'touch -r $(MADE)/$*.begun $(MADE)/$*.log && mv $(MADE)/$*.log $@ && \

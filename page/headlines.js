@@ -1,12 +1,15 @@
 // The answer in words and mgon, of each kind.
 import { ACCEPTED, OUT_OF_RANGE, TOO_LITTLE_ROOM, isWithoutName } from './answers.js';
-import { plain, signed } from './numbers.js';
+import { isUsed, originalOf, stationOfSheet } from './files.js';
+import { HALF, mgonOf, plain, signed } from './numbers.js';
 import { differencesIn, sizeOf } from './records.js';
 import { text } from './texts.js';
 
 /**
  * @typedef {import('./answers.js').Answer} Answer
  * @typedef {import('./answers.js').Card} Card
+ * @typedef {import('./files.js').Input} Input
+ * @typedef {import('./limits.js').Limits} Limits
  */
 
 /**
@@ -93,4 +96,76 @@ export function headlineOfCard(/** @type {Card} */ card) {
   if (card.station) return text('readWell', countsOf(card.station.listed));
   if (card.marked) return text(isWithoutName(card.marked) ? 'nothingNamed' : 'nothingRecognized');
   return text('nothingChecked');
+}
+
+/**
+ * What came of the limit of residuals, in words: nothing where an answer of the card says it, or
+ * nothing was held to it yet.
+ */
+export function judgedText(/** @type {Card} */ { judged }, /** @type {Limits} */ limits) {
+  const { isKept, residuals, greatest } = judged ?? {};
+  if (!residuals) return '';
+  if (!greatest) return text('notAdjusted', { why: meaningOf(residuals) });
+  const { set, target, residual } = greatest, limit = mgonOf(limits.residual, HALF);
+  const about = { size: residual.replace('-', ''), set, target, limit };
+  return text(isKept ? 'residualKept' : 'residualAbove', about);
+}
+
+/** Why files of a card are not checked yet. */
+export function waitingText(/** @type {Card} */ { mood, marked, isStopped, waiting }) {
+  const names = waiting.map(file => file.shown).join(', ');
+  if (isStopped) return text('waitingStopped', { names });
+  if (mood === 'bad') return text('waiting', { names });
+  return text(marked && isWithoutName(marked) ? 'waitingForName' : 'waitingForSets', { names });
+}
+
+/** What a file is, in words. */
+export function kindText(/** @type {Input} */ file) {
+  const names = {
+    field: 'kindField', sheet: 'kindSheet', table: 'kindTable', spreadsheet: 'kindSpreadsheet',
+    utf16: 'kindUtf16', empty: 'kindEmpty', unread: 'kindUnread', other: 'kindOther',
+  };
+  return text(names[file.kind], { station: file.kind === 'sheet' ? stationOfSheet(file) : '' });
+}
+
+/** The name of a card: its station, or its file. */
+export const titleOf = (/** @type {Card} */ { station, title }) =>
+  station ? text('station', { name: title }) : title;
+
+/**
+ * All that is said of a card in words: its refusals, or else its answers, and what came of the limit
+ * of residuals where it is not kept.
+ * @param {Card} card
+ * @param {Limits} limits
+ */
+export function saidOfCard(card, limits) {
+  const refused = card.answers.filter(one => one.status !== ACCEPTED);
+  const answers = (refused.length > 0 ? refused : card.answers).map(one => saidOf(one));
+  const said = answers.length > 0 ? answers : [headlineOfCard(card)];
+  if (card.judged?.isKept === false) said.push(judgedText(card, limits));
+  return said.filter(one => one !== '').join(' ');
+}
+
+/**
+ * What came of a file, in words, on each card that speaks of it; what it is where none does.
+ * @param {Input} file
+ * @param {Card[]} cards
+ * @param {Limits} limits
+ * @returns {[string, string][]} each with the mood in which it is said
+ */
+export function saidOfFile(file, cards, limits) {
+  /** @type {[string, string][]} */
+  const said = [];
+  const of = (/** @type {Card} */ card, /** @type {string} */ words) =>
+    text('labelled', { label: titleOf(card), said: words });
+  for (const card of cards) {
+    const { field, answers, mood, waiting } = card;
+    if (card.file === file && !field) said.push([mood, headlineOfCard(card)]);
+    else if (field && originalOf(field) === file && (card.station || !answers[0]?.other))
+      said.push([mood, of(card, saidOfCard(card, limits))]);
+    for (const one of answers.filter(({ other }) => other === file))
+      said.push([one.status === ACCEPTED ? mood : 'bad', of(card, saidOf(one))]);
+    if (waiting.includes(file)) said.push(['open', of(card, waitingText(card))]);
+  }
+  return said.length > 0 ? said : [['open', isUsed(file) ? text('notReached') : kindText(file)]];
 }

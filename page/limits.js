@@ -25,6 +25,9 @@ export const LIMITS = {
   decimals: { id: 'decimals', label: 'limitDecimals', per: 1, usual: 6, least: 1, most: 8 },
 };
 
+/** A number of mgon with three decimals is so many of its last one. */
+const THOUSAND = 1000;
+
 const NAMES = Object.keys(LIMITS);
 const field = (/** @type {string} */ name) =>
   /** @type {HTMLInputElement} */ (document.getElementById(LIMITS[name].id));
@@ -61,11 +64,22 @@ export function showLimit(/** @type {string} */ name) {
   field(name).value = usual === null ? '' : mgonOf(usual, per);
 }
 
-/** The limits in force, in one line. */
-export function limitsLine(/** @type {Limits} */ limits) {
+/** Whether a residual that a call wrote, in mgon with three decimals, is within the limit. */
+export const isWithin = (/** @type {string} */ residual, /** @type {Limits} */ limits) =>
+  Number(residual.replace(/[-.]/g, '')) * LIMITS.residual.per <= limits.residual * THOUSAND;
+
+/**
+ * Limits in one line: those of 2c and 2i, and as it is said that of residuals and that of tables, so
+ * that no limit is told to which nothing was held.
+ * @param {Limits} limits
+ * @param {{ residual: boolean, within: boolean }} held
+ */
+export function limitsLine(limits, { residual, within }) {
   const mgon = (/** @type {string} */ name) => mgonOf(limits[name] ?? 0, LIMITS[name].per);
-  return text(limits.within === null ? 'inForceByDecimals' : 'inForce',
-    Object.fromEntries(NAMES.map(name => [name, mgon(name)])));
+  const numbers = Object.fromEntries(NAMES.map(name => [name, mgon(name)]));
+  const ofTables = limits.within === null ? 'inForceByDecimals' : 'inForceWithin';
+  const names = [residual ? 'inForce' : 'inForceFaces', ...within ? [ofTables] : []];
+  return names.map(name => text(name, numbers)).join(', ');
 }
 
 /**

@@ -208,10 +208,10 @@ class MakeTest(ProgramTest):
                 self.assertEqual(f"{jobs} False", asked["station_program"])
 
     def test_crates_that_begin_longer_chains_are_begun_first(self):
-        order = run_of("python3", "tools/prove.py", cwd=self.folder).stdout.split()
+        order = run_of("python3", "tools/order.py", cwd=self.folder).stdout.split()
         self.assertEqual(["low", "other_low", "middle", "station_compare", "station_explain", "station_program"], order)
         self.write("station_explain", 500 * "one\n")
-        order = run_of("python3", "tools/prove.py", cwd=self.folder).stdout.split()
+        order = run_of("python3", "tools/order.py", cwd=self.folder).stdout.split()
         self.assertEqual(["low", "station_explain", "other_low", "middle", "station_compare", "station_program"], order)
 
     def test_crates_on_the_same_library_are_proved_side_by_side(self):

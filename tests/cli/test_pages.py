@@ -37,7 +37,7 @@ SEALED = [
 
 # The readers of the standard library, of which no contract says what they give; and where alone they
 # may be named: in the crate that makes sources of them, and at the edge of the program.
-OF_THE_SYSTEM = re.compile(r"\bOfRead\b|\bstd::(fs|net|os|process)\b|\bstdin\b|\bStdin\b|\bReadBuf\b")
+OF_THE_SYSTEM = re.compile(r"\bOfRead\b|\bStdin\b|\bstd::(fs|net|os|process)\b|\bio::(Read|stdin)\b")
 AT_THE_EDGE = ["byte_ends", "command_run/src/host.rt", "station_program/src/main.rt"]
 
 # What each crate's page says is trusted: no list of libraries, which would have to follow crates.txt.

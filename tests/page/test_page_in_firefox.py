@@ -12,7 +12,7 @@ from test_page_calls import EXAMPLES, JOB, PAGE, RT, make_page
 
 P7 = "Station P7: Accepted. Greatest residual 0.320 mgon, set 4, TOWER."
 S1 = "Station S1: Accepted. Greatest residual 0.005 mgon, set 1, A."
-WRONG = "\u201cResiduals of a sheet at most, in mgon\u201d: a number from 0 to 10, in steps of 0.005"
+WRONG = "\u201cResiduals at most, in mgon\u201d: a number from 0 to 10, in steps of 0.005"
 
 AGREES = "Agrees. 2 targets within 0 mgon of the least-squares directions; the limit is 0.01 mgon."
 
@@ -33,8 +33,8 @@ STEPS = [
     (("fill", "residual", 11), WRONG),
     (("fill", "residual", "0.005"), S1),
     (("give", EXAMPLE_TABLE), f"{S1} {AGREES}"),
-    (("give", EXAMPLES[0]), "1 read, not compared; 1 in order"),
-    (("give", EXAMPLES[2]), "2 in order"),
+    (("give", EXAMPLES[0]), "1 read, not compared; 1 computed rightly"),
+    (("give", EXAMPLES[2]), "2 computed rightly"),
     (("press", "#remove-all"), "Ready for your files."),
     (("give", JOB), "2 read, not compared"),
 ]
