@@ -40,7 +40,7 @@ const SEPARATORS = [',', ';', '\t', ' '];
 export const textOf = (/** @type {Uint8Array} */ bytes) => new TextDecoder().decode(bytes);
 
 /** Signs of a name that are not seen, or change the order in which others are. */
-const UNSEEN = /[\0-\x1f\x7f-\x9f\u00ad\u061c\u200b-\u200f\u2028-\u202e\u2060-\u206f\ufeff]/g;
+export const UNSEEN = /[\0-\x1f\x7f-\x9f\u00ad\u061c\u200b-\u200f\u2028-\u202e\u2060-\u206f\ufeff]/g;
 
 function escaped(/** @type {string} */ sign) {
   const digits = sign.charCodeAt(0).toString(16);

@@ -1119,6 +1119,10 @@ class PageInBrowserTest(TimedTest):
                 # It stands at the foot of the page, which may cut it.
                 self.assertIn(f"Protocol of sets: Station P7, {shown}"[:40], printed)
                 self.assertIn("Refused. ", page.js("protocolFile(cards[0], limits)"))
+                # The command that is shown is one, by that name.
+                word = page.js("commandOf('list', [], {}, [cards[0].field.name])").removeprefix("station_check list ")
+                echoed = subprocess.run(["bash", "-c", f"printf %s {word}"], capture_output=True, check=True).stdout
+                self.assertEqual((name, False), (echoed.decode(), "\n" in word))
 
     # ------------------------------------------------------------ everyone
 
