@@ -61,7 +61,7 @@ ACCEPTED, REFUSED, MISTAKE = 0, 1, 2
 
 COUNTS = rb": \d+ sets, \d+ targets, \d+ directions"
 ACCEPTED_LINE = re.compile(rb"accepted (.*)" + COUNTS + rb", greatest residual \d+/\d+\n")
-AGREES_LINE = re.compile(rb"agrees (.*): \d+ targets, within \d+\n")
+AGREES_LINE = re.compile(rb"agrees (.*): \d+ targets, within [\d.]+ mgon, limit [\d.]+ mgon\n")
 STATION_LINE = re.compile(rb"^station (.*)" + COUNTS + rb"$", re.MULTILINE)
 
 # What tells a table from a sheet, in so many bytes of a file: a sheet has rows of five fields that

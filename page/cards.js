@@ -5,7 +5,7 @@ import {
 import { button, element, menuOf, ofProgram, save } from './elements.js';
 import { originalOf, stemOf } from './files.js';
 import {
-  apartIn, furthestOf, headlineOf, headlineOfCard, judgedText, meaningOf, recognizedText, titleOf,
+  furthestOf, headlineOf, headlineOfCard, isApart, judgedText, meaningOf, recognizedText, titleOf,
   waitingText,
 } from './headlines.js';
 import { pictureFile } from './picture.js';
@@ -59,12 +59,12 @@ function showAnswer(answer, desk, parent) {
   const mood = status === ACCEPTED ? 'good' : 'bad';
   const part = element('div', '', parent, { className: `answer ${mood}` });
   if (other) element('p', other.shown, part, { className: 'label name' });
-  const headline = element('p', headlineOf(answer, desk.limits), part, { className: 'headline' });
-  if (status === REFUSED && !apartIn(line) && explanation) {
+  const headline = element('p', headlineOf(answer), part, { className: 'headline' });
+  if (status === REFUSED && !isApart(line) && explanation) {
     headline.append(' ');
     ofProgram('span', meaningOf(answer), headline);
   }
-  if (apartIn(line) && answer.differences)
+  if (isApart(line) && answer.differences)
     element('p', furthestOf(answer.differences), part, { className: 'reason' });
   showFault(answer, part);
   showCommand(answer, part);

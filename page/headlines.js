@@ -1,7 +1,7 @@
 // The answer in words and mgon, of each kind.
 import { ACCEPTED, OUT_OF_RANGE, TOO_LITTLE_ROOM, isWithoutName } from './answers.js';
 import { isUsed, originalOf, stationOfSheet } from './files.js';
-import { APART, HALF, mgonOf, signed } from './numbers.js';
+import { HALF, mgonOf, plain, signed } from './numbers.js';
 import { differencesIn, sizeOf } from './records.js';
 import { text } from './texts.js';
 
@@ -21,9 +21,14 @@ export function meaningOf(/** @type {Answer} */ { explanation }) {
   return `${meaning.charAt(0).toUpperCase()}${meaning.slice(1)}.`;
 }
 
-/** How far a table is apart that was refused for that, in 0.001 mgon; else no number. */
-export const apartIn = (/** @type {string} */ line) =>
-  Number(line.match(/^refused: compare: Apart (\d+)/)?.[1]);
+/** Whether a line refuses a table for being apart. */
+export const isApart = (/** @type {string} */ line) => line.startsWith('refused: compare: Apart ');
+
+/** How far a table is apart and the limit that it was held to, in mgon, as a line has them. */
+function howFarIn(/** @type {string} */ line) {
+  const [, apart, limit] = line.match(/([\d.]+) mgon, limit ([\d.]+) mgon/) ?? ['', '', ''];
+  return { apart: plain(apart), limit: plain(limit) };
+}
 
 function acceptedHeadline(/** @type {Answer} */ { line, greatest }) {
   if (/greatest residual 0\//.test(line)) return text('acceptedZero');
@@ -33,22 +38,18 @@ function acceptedHeadline(/** @type {Answer} */ { line, greatest }) {
 }
 
 function agreesHeadline(/** @type {string} */ line) {
-  const [, n, within] = line.match(/: (\d+) targets, within (\d+)/) ?? [];
-  return n ? text('agrees', { n, within: mgonOf(Number(within), APART) }) : text('agreesBare');
+  const n = line.match(/: (\d+) targets, within /)?.[1];
+  return n ? text('agrees', { n, ...howFarIn(line) }) : text('agreesBare');
 }
 
 /** The answer in words and mgon. */
-export function headlineOf(/** @type {Answer} */ answer, /** @type {Limits} */ limits) {
+export function headlineOf(/** @type {Answer} */ answer) {
   const { status, line, asked } = answer;
   if (status === OUT_OF_RANGE) return text('outOfRange');
   if (status === TOO_LITTLE_ROOM) return text('noRoom');
   if (status === ACCEPTED)
     return asked === 'compare' ? agreesHeadline(line) : acceptedHeadline(answer);
-  const units = apartIn(line);
-  if (!units) return text('refused');
-  const apart = mgonOf(units, APART);
-  if (limits.within === null) return text('refusedApartByDecimals', { apart });
-  return text('refusedApart', { apart, within: mgonOf(limits.within, APART) });
+  return isApart(line) ? text('refusedApart', howFarIn(line)) : text('refused');
 }
 
 /** So many targets of a table that is apart are named. */
@@ -65,9 +66,9 @@ export function furthestOf(/** @type {string} */ differences) {
 }
 
 /** The answer in words, and what the fault of a refusal is. */
-export const saidOf = (/** @type {Answer} */ answer, /** @type {Limits} */ limits) =>
-  answer.explanation && !apartIn(answer.line)
-    ? `${headlineOf(answer, limits)} ${meaningOf(answer)}` : headlineOf(answer, limits);
+export const saidOf = (/** @type {Answer} */ answer) =>
+  answer.explanation && !isApart(answer.line)
+    ? `${headlineOf(answer)} ${meaningOf(answer)}` : headlineOf(answer);
 
 /**
  * How many sets, targets and directions a station has, in words.
@@ -139,7 +140,7 @@ export const titleOf = (/** @type {Card} */ { station, title }) =>
  */
 export function saidOfCard(card, limits) {
   const refused = card.answers.filter(one => one.status !== ACCEPTED);
-  const answers = (refused.length > 0 ? refused : card.answers).map(one => saidOf(one, limits));
+  const answers = (refused.length > 0 ? refused : card.answers).map(one => saidOf(one));
   const said = answers.length > 0 ? answers : [headlineOfCard(card)];
   if (card.judged?.isKept === false) said.push(judgedText(card, limits));
   return said.filter(one => one !== '').join(' ');
@@ -163,7 +164,7 @@ export function saidOfFile(file, cards, limits) {
     else if (field && originalOf(field) === file && (card.station || !answers[0]?.other))
       said.push([mood, of(card, saidOfCard(card, limits))]);
     for (const one of answers.filter(({ other }) => other === file))
-      said.push([one.status === ACCEPTED ? mood : 'bad', of(card, saidOf(one, limits))]);
+      said.push([one.status === ACCEPTED ? mood : 'bad', of(card, saidOf(one))]);
     if (waiting.includes(file)) said.push(['open', of(card, waitingText(card))]);
   }
   return said.length > 0 ? said : [['open', isUsed(file) ? text('notReached') : kindText(file)]];

@@ -64,7 +64,7 @@ function showAnswers(card, limits, parent) {
     say(`${headlineOfCard(card)}${more}`, card.station ? 'read' : card.mood);
   }
   for (const answer of card.answers) {
-    const said = saidOf(answer, limits), label = answer.other?.shown;
+    const said = saidOf(answer), label = answer.other?.shown;
     const mood = answer.status === ACCEPTED ? 'good' : 'bad';
     say(label ? text('labelled', { label, said }) : said, mood);
     if (answer.status <= REFUSED) ofProgram('samp', answer.line, element('div', '', parent));

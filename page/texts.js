@@ -193,9 +193,9 @@ export const TEXTS = {
   },
   acceptedBare: { en: 'Accepted.', de: 'Angenommen.', fr: 'Accepté.' },
   agrees: {
-    en: 'Agrees. {n} target within {within} mgon of the least-squares directions.|Agrees. {n} targets within {within} mgon of the least-squares directions.',
-    de: 'Stimmt überein. {n} Ziel weicht höchstens {within} mgon von den Richtungen nach kleinsten Quadraten ab.|Stimmt überein. {n} Ziele weichen höchstens {within} mgon von den Richtungen nach kleinsten Quadraten ab.',
-    fr: 'Concorde. {n} cible à {within} mgon près des directions des moindres carrés.|Concorde. {n} cibles à {within} mgon près des directions des moindres carrés.',
+    en: 'Agrees. {n} target within {apart} mgon of the least-squares directions; the limit is {limit} mgon.|Agrees. {n} targets within {apart} mgon of the least-squares directions; the limit is {limit} mgon.',
+    de: 'Stimmt überein. {n} Ziel weicht höchstens {apart} mgon von den Richtungen nach kleinsten Quadraten ab; die Grenze ist {limit} mgon.|Stimmt überein. {n} Ziele weichen höchstens {apart} mgon von den Richtungen nach kleinsten Quadraten ab; die Grenze ist {limit} mgon.',
+    fr: 'Concorde. {n} cible à {apart} mgon près des directions des moindres carrés ; la limite est {limit} mgon.|Concorde. {n} cibles à {apart} mgon près des directions des moindres carrés ; la limite est {limit} mgon.',
   },
   agreesBare: { en: 'Agrees.', de: 'Stimmt überein.', fr: 'Concorde.' },
   residualKept: {
@@ -215,14 +215,9 @@ export const TEXTS = {
   },
   refused: { en: 'Refused.', de: 'Zurückgewiesen.', fr: 'Refusé.' },
   refusedApart: {
-    en: 'Refused. The directions are {apart} mgon apart; the limit is {within} mgon.',
-    de: 'Zurückgewiesen. Die Richtungen weichen {apart} mgon ab; die Grenze ist {within} mgon.',
-    fr: 'Refusé. Les directions s’écartent de {apart} mgon ; la limite est {within} mgon.',
-  },
-  refusedApartByDecimals: {
-    en: 'Refused. The directions are {apart} mgon apart: more than 0.01 mgon, and more than rounding explains.',
-    de: 'Zurückgewiesen. Die Richtungen weichen {apart} mgon ab: mehr als 0.01 mgon und mehr, als Rundung erklärt.',
-    fr: 'Refusé. Les directions s’écartent de {apart} mgon : plus que 0.01 mgon, et plus que l’arrondi n’explique.',
+    en: 'Refused. The directions are {apart} mgon apart; the limit is {limit} mgon.',
+    de: 'Zurückgewiesen. Die Richtungen weichen {apart} mgon ab; die Grenze ist {limit} mgon.',
+    fr: 'Refusé. Les directions s’écartent de {apart} mgon ; la limite est {limit} mgon.',
   },
   furthest: {
     en: 'Furthest from the least-squares directions: {targets}.',

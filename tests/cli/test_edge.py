@@ -46,7 +46,7 @@ TABLE_OFF = edited(TABLE, (b"50.000030", b"50.000060"))
 # the two tables is 2 gon off or more.
 DEGREES_OFF = edited(TABLE_OFF, (b"50.000060", b"45.000054"))
 
-WITHIN_15 = b"agrees S1: 2 targets, within 15\n"
+WITHIN_15 = b"agrees S1: 2 targets, within 0.015 mgon, limit 0.015 mgon\n"
 
 DIFFERENCES_15 = b"""\
 target,stated,least squares,difference
@@ -78,7 +78,9 @@ LIMITS = [
 
 RESIDUAL = Option("--residual", "1", "0", refusal("kernel: Residual 1"), ("0.0050mgon", "0.mgon"))
 
-WITHIN = Option("--within", "15", "14", refusal("compare: Apart 15"), ("0.015mgon", "00.014mgon"))
+APART_15 = refusal("compare: Apart 0.015 mgon, limit 0.014 mgon")
+
+WITHIN = Option("--within", "15", "14", APART_15, ("0.015mgon", "00.014mgon"))
 
 DECIMALS = Option("--decimals", "6", "4", (0, b"A,0.0000\nB,50.0000\n", b""))
 
@@ -363,7 +365,7 @@ class EdgeTest(ProgramTest):
         table.write_bytes(TABLE_OFF)
         far = b"A,0.000000000,0.000000,-2777.796\nB,55.555622222,50.000030,2777.796\n"
         for command, answer in [
-            ("compare", refusal("compare: Apart 2777797")),
+            ("compare", refusal("compare: Apart 2777.797 mgon, limit 0.010 mgon")),
             ("differences", (0, DIFFERENCES_15.splitlines(keepends=True)[0] + far, b"")),
         ]:
             self.assertEqual(answer, answer_by_model(command, {"--degrees": None}, table))

@@ -55,7 +55,8 @@ WRONG = edited(SHEET, (b"set,1,,-20,", b"set,1,,-21,"))
 TABLE = b"A,0.000000\nB,50.000030\n"
 ROUNDED = b"A,0.0000\nB,50.0000\n"
 OFF = b"A,0\nB,50.00005\n"
-AGREES = "agrees S1: 2 targets, within {}"
+AGREES = "agrees S1: 2 targets, within 0.{:03} mgon, limit 0.{:03} mgon"
+APART = "refused: compare: Apart 0.{:03} mgon, limit 0.{:03} mgon"
 
 # The same directions in degrees, in each form; the last two are right to a tenth of a second.
 IN_DEGREES = [
@@ -201,15 +202,15 @@ class FolderTest(ProgramTest):
             for end in (".csv", ".CSV"):
                 with self.subTest(name + end):
                     files = {"job.gsi": STATION, name + end: TABLE}
-                    lines = [f"{name}: {AGREES.format(0)}"]
+                    lines = [f"{name}: {AGREES.format(0, 10)}"]
                     lines.append(SUMMARY.format(1, 1, 0, 0, 0) + TABLES.format(1, 0, 0))
                     self.assertEqual((0, lines), self.answers(files))
                     kept = self.folder / "files" / f"{name}.answer"
-                    self.assertEqual(f"{AGREES.format(0)}\n", kept.read_text())
+                    self.assertEqual(f"{AGREES.format(0, 10)}\n", kept.read_text())
 
     def test_a_table_that_is_refused_leaves_its_station_to_be_done(self):
         files = {"job.gsi": STATION, "job.directions.csv": OFF}
-        lines = ["job.directions: refused: compare: Apart 10", f"job: {MISSING.format('S1')}"]
+        lines = [f"job.directions: {APART.format(10, 9)}", f"job: {MISSING.format('S1')}"]
         lines.append(SUMMARY.format(0, 1, 0, 0, 0) + TABLES.format(0, 1, 0))
         self.assertEqual((1, lines), self.answers(files, "--within=9"))
         # An accepted sheet makes it done, and the refusal still shows.
@@ -219,7 +220,7 @@ class FolderTest(ProgramTest):
 
     def test_options_of_compare_are_those_of_tables(self):
         files = {"job.gsi": STATION, "job.csv": SHEET, "job.directions.csv": ROUNDED}
-        for within, answer in [(14, "refused: compare: Apart 15"), (15, AGREES.format(15))]:
+        for within, answer in [(14, APART.format(15, 14)), (15, AGREES.format(15, 15))]:
             status, lines = self.answers(files, f"--within={within}", "--residual=2000")
             self.assertEqual((within == 14, f"job.directions: {answer}"), (status == 1, lines[1]))
         status, lines = self.answers(files, "--two-c=9")
@@ -231,7 +232,7 @@ class FolderTest(ProgramTest):
         status, lines = self.answers(files)
         summary = SUMMARY.format(1, 1, 1, 0, 0) + TABLES.format(2, 0, 0)
         self.assertEqual((0, summary), (status, lines[-1]))
-        self.assertIn("three.S2.directions: agrees S2: 2 targets, within 0", lines)
+        self.assertIn("three.S2.directions: agrees S2: 2 targets, within 0.000 mgon, limit 0.010 mgon", lines)
 
     def test_a_table_that_belongs_to_nothing_is_no_mistake(self):
         files = {"job.gsi": STATION, "job.csv": SHEET, "three.gsi": THREE}
@@ -280,15 +281,15 @@ class FolderTest(ProgramTest):
             with self.subTest(titles):
                 table = titles + b"\n" + TABLE
                 status, lines = self.answers({"job.gsi": STATION, "job.csv": table})
-                self.assertEqual((0, f"job: {AGREES.format(0)}"), (status, lines[0]))
+                self.assertEqual((0, f"job: {AGREES.format(0, 10)}"), (status, lines[0]))
 
     def test_tables_in_degrees(self):
-        for name, table, within in zip(
-            ["job.directions.csv", "job.csv", "job.S1.csv"], IN_DEGREES, [0, 1, 1]
+        for name, table, within, limit in zip(
+            ["job.directions.csv", "job.csv", "job.S1.csv"], IN_DEGREES, [0, 1, 1], [10, 17, 17]
         ):
             with self.subTest(table=table):
                 files = {"job.gsi": STATION, name: table}
-                said = f"{name[:-4]}: {AGREES.format(within)}"
+                said = f"{name[:-4]}: {AGREES.format(within, limit)}"
                 lines = [said, SUMMARY.format(1, 1, 0, 0, 0) + TABLES.format(1, 0, 0)]
                 self.assertEqual((0, lines), self.answers(files, "--degrees"))
                 status, lines = self.answers(files)
@@ -297,7 +298,7 @@ class FolderTest(ProgramTest):
         # Sheets and the limits are what they were.
         files = {"job.gsi": STATION, "job.csv": SHEET, "job.directions.csv": IN_DEGREES[1]}
         status, lines = self.answers(files, "--degrees", "--within=0", "--residual=1")
-        said = [f"job: {ACCEPTED_S1}", "job.directions: refused: compare: Apart 1"]
+        said = [f"job: {ACCEPTED_S1}", f"job.directions: {APART.format(1, 0)}"]
         self.assertEqual((1, said), (status, lines[:2]))
 
     def test_a_job_without_codes_is_not_done_and_the_note_of_list_is_printed(self):

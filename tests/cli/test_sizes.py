@@ -76,7 +76,7 @@ def told(name, sets, targets):
 
 
 def agrees(targets):
-    return b"agrees S1: %d targets, within 0\n" % targets
+    return b"agrees S1: %d targets, within 0.000 mgon, limit 0.010 mgon\n" % targets
 
 
 def accepted(sets, targets, name=b"S1"):

@@ -622,7 +622,7 @@ class PageInBrowserTest(TimedTest):
 
     def test_the_decimals_of_a_table_tell_its_limit_where_none_is_stated(self):
         page = self.page(P7_FIELD, self.file("four.csv", FOUR_DECIMALS))
-        agrees = "Agrees. 6 targets within 0.025 mgon of the least-squares directions."
+        agrees = "Agrees. 6 targets within 0.025 mgon of the least-squares directions; the limit is 0.055 mgon."
         self.assertEqual([["good", "Station P7", agrees]], self.cards(page))
         self.assertEqual("station_check compare station_p7.gsi P7 four.csv", page.text(".exact code"))
         self.assertIn("tables within 0.01 mgon or as they are rounded", page.text("#in-force"))
@@ -673,7 +673,7 @@ class PageInBrowserTest(TimedTest):
         self.assertEqual("table of directions", kinds[P7_TABLE.name])
         for name, _, said in [*UNUSED, ("week", None, "a folder is no file")]:
             self.assertTrue(kinds[name].startswith("not used: ") and said in kinds[name], kinds[name])
-        agrees = "Agrees. 6 targets within 0.004 mgon of the least-squares directions."
+        agrees = "Agrees. 6 targets within 0.004 mgon of the least-squares directions; the limit is 0.01 mgon."
         self.assertEqual([["good", "Station P7", P7_HEADLINE, agrees]], self.cards(page))
 
     def test_a_table_of_any_writing_is_known_as_one(self):
@@ -809,7 +809,7 @@ class PageInBrowserTest(TimedTest):
         table = self.file("of_it.csv", page.saved("Save directions (CSV)", "P7_directions.csv"))
         kept = "Greatest residual 3.401 mgon, set 2, P8: within the limit of 10 mgon."
         above = "Greatest residual 3.401 mgon, set 2, P8: above the limit of 1 mgon."
-        agrees = "Agrees. 6 targets within 0.001 mgon of the least-squares directions."
+        agrees = "Agrees. 6 targets within 0.001 mgon of the least-squares directions; the limit is 0.01 mgon."
         read = "Read without a fault: 4 sets, 6 targets, 22 directions."
         for others, mood, said in [((), "read", read), ((table,), "good", agrees)]:
             page.empty()

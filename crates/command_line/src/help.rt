@@ -72,7 +72,7 @@ Exit status:
 Example:
   station_check compare field.gsi S1 table.csv
 
-  agrees S1: 2 targets, within 0";
+  agrees S1: 2 targets, within 0.000 mgon, limit 0.010 mgon";
 
 pub const TABLE_HELP: &str = "The table of directions, text of two columns";
 
@@ -375,9 +375,9 @@ How near the directions must be, as 0.05mgon [default: by the decimals]";
 pub const WITHIN_LONG_HELP: &str = "\
 How near the directions must be, as 0.05mgon: to 1000mgon, by 0.001; or in units of
 0.001 mgon: 0 to 1000000. If none is stated it is 0.01mgon; of a table with fewer than
-5 decimals, what rounding to these may do and 1 unit more, as 0.051mgon for 4 decimals; of
-degrees alike, as 0.057mgon for 4 decimals and 0.017mgon for seconds with 1. Its row with
-the coarsest rounding counts";
+5 decimals, half of the last one and 0.005mgon, as 0.055mgon for 4 decimals; of degrees
+alike, as 0.061mgon for 4 decimals and 0.021mgon for seconds with 1. Its row with the most
+decimals counts";
 
 pub const DEGREES_LONG_HELP: &str = "\
 Read the directions of the table in degrees, and not in gon: with minutes and seconds, as

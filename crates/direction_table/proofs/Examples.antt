@@ -87,7 +87,7 @@ german-titles : fault_at (table_rules Gon targets) (rows_of targets german) 0 �
 unfolding csv_on_literals separator_of rows_of table_row_fault stating_fault fault_between
 german-titles = refl
 
-german-limit : usual_within Gon (rows_of targets german) ≡ 501
+german-limit : usual_within Gon (rows_of targets german) ≡ 55
 unfolding csv_on_literals separator_of rows_of
 german-limit = refl
 

@@ -1,12 +1,12 @@
 -- The rows that were read: none of them has a fault, and what the next row or the end says of the
 -- whole.
-use Rattle.std.specs.Prelude.{◌&&◌, max}
+use Rattle.std.specs.Prelude.{◌&&◌}
 use Rattle.std.specs.Str.{bytes_eq}
 use Rattle.std.proofs.Common.{◌≡◌, ◌∙◌, ℕ, ◌≤◌, ◌<◌, ◌+◌, map, Bool, true, false, List, [], ◌∷◌}
 use Rattle.std.proofs.Common.{◌++◌, length, Option, Some, None, refl, ap, sym, subst, arith, inl}
 use Rattle.std.proofs.Common.{inr, ◌==◌, ℤ, get_or, length-append, append_assoc, take, drop}
 use lib.ListN.{replicate}
-use Rattle.std.proofs.lemmas.Bool.{and_parts, cases_Bool, cases_eq, cases_lt, eq-eqb, ne_eqb}
+use Rattle.std.proofs.lemmas.Bool.{and_parts, cases_Bool, cases_lt, eq-eqb, ne_eqb}
 use Rattle.std.proofs.lemmas.Bool.{not-true, or_parts}
 use Rattle.std.proofs.lemmas.Slice.Eq.{bytes_eq-Decides}
 use Rattle.std.proofs.lemmas.List.{append-nil, take_at}
@@ -22,7 +22,8 @@ use Rattle.direction_table.specs.Rows.{beside_name, name_of}
 use Rattle.direction_table.specs.Separators.{byte_of, config_of, kept, rows_of}
 use Rattle.direction_table.specs.Separators.{separator_of}
 use Rattle.direction_table.specs.Tables.{stated_by}
-use Rattle.direction_table.specs.UsualLimits.{row_limit, usual_within}
+use Rattle.direction_table.specs.UsualLimits.{finer, finest_step, row_step}
+use Rattle.direction_table.proofs.UsualLimits.{finer-again, finer-none}
 use Rattle.direction_table.specs.declared.fault.RowKind.{RowKind}
 use Rattle.direction_table.specs.declared.records.Records.{Records}
 use Rattle.direction_table.specs.declared.separator.Separator.{Separator}
@@ -56,24 +57,23 @@ module _ (unit : AngleUnit) where
       let (other, others) = or_parts _ _ e in
       rw (apart name (name_of row) other, states-none row rows names others) refl
 
-  -- The usual limit with one more row.
-  usual-more : (before : List (List (List ℕ))) (row : List (List ℕ))
-      → usual_within unit (before ++ (row ∷ []))
-      ≡ max (usual_within unit before) (row_limit unit row)
-  usual-more [] row = omega arith
-  usual-more (first ∷ before) row =
-      let rest = usual-more before row in
-      omega (arith, rest)
+  -- The finest step with one more row.
+  finest-more : (before : List (List (List ℕ))) (row : List (List ℕ))
+      → finest_step unit (before ++ (row ∷ [])) ≡ finer (finest_step unit before) (row_step unit row)
+  finest-more [] row = finer-none (row_step unit row)
+  finest-more (first ∷ before) row =
+      ap (finer (row_step unit first)) (finest-more before row)
+      ∙ finer-again (row_step unit first) (finest_step unit before) (row_step unit row)
 
   module _ (targets : List (List ℕ)) where
     abbrev rules : RowRules (List (List ℕ)) RowKind
     rules = table_rules unit targets
 
-    -- A row of titles has no fault, states nothing, and limits nothing.
+    -- A row of titles has no fault, states nothing, and tells no step.
     record IsPassedOver (before : List (List (List ℕ))) (row : List (List ℕ)) : Type 0 where
       faultless : table_row_fault unit targets before row ≡ None
       states : stated_by unit (before ++ (row ∷ [])) targets ≡ stated_by unit before targets
-      unlimited : row_limit unit row ≡ 0
+      untold : row_step unit row ≡ 0
 
     titles-pass : (before : List (List (List ℕ))) (row : List (List ℕ))
         → (is_first before && are_titles unit targets row) ≡ true → IsPassedOver before row
@@ -85,7 +85,7 @@ module _ (unit : AngleUnit) where
         record {
           faultless = rw e refl;
           states = states-none row [] targets (not-true _ other);
-          unlimited = rw (not-true (is_direction unit (beside_name row)) none) refl;
+          untold = rw (not-true (is_direction unit (beside_name row)) none) refl;
         }
 
     -- Any other row has the fault of what it states.
@@ -106,29 +106,29 @@ module _ (unit : AngleUnit) where
       ]
 
       -- So many rows were read, none of which has a fault, and these are left.
-      pub record HasRead (stated : List (Option ℤ)) (limit number : ℕ)
+      pub record HasRead (stated : List (Option ℤ)) (step number : ℕ)
           (rest : List (List (List ℕ))) : Type 0 where
         pub before : List (List (List ℕ))
         pub whole : all ≡ before ++ rest
         pub count : number ≡ length before
         pub clean : NoFaultBefore rules all (length before)
         pub each : stated ≡ stated_by unit before targets
-        pub usual : limit ≡ usual_within unit before
+        pub finest : step ≡ finest_step unit before
 
       -- Before the first row none was read, and all are left.
       pub read-begin : (stated : List (Option ℤ)) → stated ≡ stated_by unit [] targets
-          → HasRead stated 10 0 all
+          → HasRead stated 0 0 all
       read-begin stated none = record {
         before = [];
         whole = refl;
         count = refl;
         clean = λ earlier below. absurd (omega (arith, below));
         each = none;
-        usual = refl;
+        finest = refl;
       }
 
-      module _ (stated : List (Option ℤ)) (limit number : ℕ) (row : List (List ℕ))
-          (rest : List (List (List ℕ))) (read : HasRead stated limit number (row ∷ rest)) where
+      module _ (stated : List (Option ℤ)) (step number : ℕ) (row : List (List ℕ))
+          (rest : List (List (List ℕ))) (read : HasRead stated step number (row ∷ rest)) where
         -- Whether the next row is one of titles, by its number.
         by-number : (titled : Bool) → ((number + 1 == 1) && are_titles unit targets row) ≡ titled
             → (is_first read.before && are_titles unit targets row) ≡ titled
@@ -141,12 +141,12 @@ module _ (unit : AngleUnit) where
             first (a ∷ rows) n = ne_eqb _ _ (λ same. absurd (omega (arith, n, same)))
 
         -- A row without a fault is read, and those after it are left.
-        more : (next : List (Option ℤ)) (larger : ℕ)
+        more : (next : List (Option ℤ)) (least : ℕ)
             → table_row_fault unit targets read.before row ≡ None
             → next ≡ stated_by unit (read.before ++ (row ∷ [])) targets
-            → larger ≡ max limit (row_limit unit row) → HasRead next larger (number + 1) rest
+            → least ≡ finer step (row_step unit row) → HasRead next least (number + 1) rest
         unfolding fault_between
-        more next larger none states is = record {
+        more next least none states is = record {
           before = read.before ++ (row ∷ []);
           whole = read.whole ∙ sym (append_assoc read.before (row ∷ []) rest);
           count = omega (arith, read.count, length-append read.before (row ∷ []));
@@ -154,32 +154,31 @@ module _ (unit : AngleUnit) where
               read.clean none earlier
               (omega (arith, below, length-append read.before (row ∷ [])));
           each = states;
-          usual =
-              (let most = usual-more read.before row in
-              let before = read.usual in
-              omega (arith, most, before, is));
+          finest =
+              is ∙ ap (λ s. finer s (row_step unit row)) read.finest
+              ∙ sym (finest-more read.before row);
         }
 
         -- So is a row of titles.
         pub read-titles : ((number + 1 == 1) && are_titles unit targets row) ≡ true
-            → HasRead stated limit (number + 1) rest
+            → HasRead stated step (number + 1) rest
         read-titles titled =
             let pass = titles-pass read.before row (by-number true titled) in
-            more stated limit pass.faultless (read.each ∙ sym pass.states)
-            (let none = pass.unlimited in omega (arith, none))
+            more stated step pass.faultless (read.each ∙ sym pass.states)
+            (rw pass.untold (sym (finer-none step)))
 
-        pub read-more : (next : List (Option ℤ)) (larger own : ℕ)
+        pub read-more : (next : List (Option ℤ)) (least own : ℕ)
             → ((number + 1 == 1) && are_titles unit targets row) ≡ false
             → ((before : List (List (List ℕ))) → stated ≡ stated_by unit before targets
             → stating_fault unit targets before row ≡ None)
             → ((before : List (List (List ℕ))) → stated ≡ stated_by unit before targets
             → next ≡ stated_by unit (before ++ (row ∷ [])) targets)
-            → own ≡ row_limit unit row → larger ≡ max limit own
-            → HasRead next larger (number + 1) rest
-        read-more next larger own other none states limits is =
-            more next larger
+            → own ≡ row_step unit row → least ≡ finer step own
+            → HasRead next least (number + 1) rest
+        read-more next least own other none states tells is =
+            more next least
             (states-fault read.before row (by-number false other) ∙ none read.before read.each)
-            (states read.before read.each) (omega (arith, limits, is))
+            (states read.before read.each) (is ∙ ap (finer step) tells)
 
         -- The fault of the next row is the first of the table, at the number of the rows before it.
         pub read-fault : (k : RowKind) → ((number + 1 == 1) && are_titles unit targets row) ≡ false
@@ -193,9 +192,9 @@ module _ (unit : AngleUnit) where
             (states-fault read.before row (by-number false other) ∙ found read.before read.each))
 
       -- Where no row is left, none has a fault.
-      pub read-clean : (stated : List (Option ℤ)) (limit number : ℕ)
-          → HasRead stated limit number [] → HasNoFault unit targets all
-      read-clean stated limit number read =
+      pub read-clean : (stated : List (Option ℤ)) (step number : ℕ)
+          → HasRead stated step number [] → HasNoFault unit targets all
+      read-clean stated step number read =
           λ place. elim (cases_lt place (length all)) [
             | inl inside ↦ read.clean place (rw (read.whole ∙ append-nil read.before) at inside)
             | inr past ↦ past-end rules all place past

@@ -119,6 +119,12 @@ sexagesimal_value n =
 abbrev pub seconds_step : ℕ → ℕ
 seconds_step decimals = SECOND_PARTS * 10 ^ (6 - decimals)
 
--- The step to which such a direction is rounded as it is written, in parts.
+-- The step that a direction of so many parts tells, with so many decimals of its seconds: one unit
+-- of the last, or a second; 0-00-00 tells none, as 0 does, and there it is 0.
+abbrev pub told_step : ℕ → ℕ → ℕ
+told_step size decimals =
+    if (size == 0) && (decimals == 0) then 0 else seconds_step decimals
+
+-- The step to which such a direction is rounded as it is written, in parts; 0 where it tells none.
 abbrev pub sexagesimal_step : Numbers → ℕ
-sexagesimal_step n = seconds_step (length (decimals_part n.seconds))
+sexagesimal_step n = told_step (sexagesimal_value n) (length (decimals_part n.seconds))

@@ -1,15 +1,13 @@
 -- Directions as a table states them, in gon or in degrees. They are whole numbers of parts: 81
 -- parts are 0.000000001 gon, 90 are 0.000000001 degrees and 25 are 0.000001 seconds, since 400 gon
 -- are 360 degrees.
-use Rattle.std.specs.Prelude.{ℕ, ◌-◌, ◌*◌, ◌^◌, ◌%◌, Bool, ◌==◌, ◌&&◌, nat_le, if◌then◌else◌, List}
-use Rattle.std.specs.Prelude.{length}
+use Rattle.std.specs.Prelude.{ℕ, ◌-◌, ◌*◌, ◌^◌, Bool, ◌==◌, nat_le, if◌then◌else◌, List, length}
 use Rattle.std.specs.Prelude.{ℤ, pos}
 use Rattle.direction_table.specs.Degrees.{has_minutes, is_sexagesimal, numbers_of}
 use Rattle.direction_table.specs.Degrees.{sexagesimal_step, sexagesimal_value}
 use Rattle.direction_table.specs.DecimalNumbers.{decimals_part}
 use Rattle.direction_table.specs.Gons.{is_negative, is_size, signed, size_value, unsigned}
 use Rattle.direction_table.specs.declared.direction.TheConstants.{CIRCLE_PARTS, DEGREE_PARTS}
-use Rattle.direction_table.specs.declared.gon.TheConstants.{GON}
 use Rattle.adjust_kernel.specs.declared.units.TheConstants.{PARTS}
 use Rattle.direction_table.specs.declared.unit.AngleUnit.{AngleUnit}
 use Rattle.direction_table.specs.declared.unit.AngleUnit.TheVariants.{Gon, Degrees}
@@ -28,23 +26,18 @@ angle_value Degrees bytes =
     if has_minutes bytes then sexagesimal_value (numbers_of bytes)
     else DEGREE_PARTS * size_value bytes
 
--- A number with so many decimals, in units of the ninth, is written as a whole one, as 0 or 0.0:
--- programs write that of the first target so, whatever they round the others to.
-abbrev pub is_written_whole : ℕ → ℕ → Bool
-is_written_whole decimals value = nat_le decimals 1 && (value % GON == 0)
+-- One unit of the last of so many decimals, in units of the ninth; 0 where there are none.
+abbrev pub last_unit : ℕ → ℕ
+last_unit decimals = if decimals == 0 then 0 else 10 ^ (9 - decimals)
 
--- One unit of its last decimal, in units of the ninth; 0 of a whole one, which is taken as it
--- stands.
-abbrev pub last_unit : ℕ → ℕ → ℕ
-last_unit decimals value = if is_written_whole decimals value then 0 else 10 ^ (9 - decimals)
-
--- The step to which a direction is rounded as it is written, in parts: one unit of its last
--- decimal, or of its seconds where these have none; 0 for a whole number of gon or degrees.
+-- The step to which a number is rounded as it is written, in parts: one unit of its last decimal,
+-- or of its seconds where these have none. Gon and degrees without decimals, and 0-00-00, tell none:
+-- programs write the first direction so, whatever they round the others to. There it is 0.
 abbrev pub angle_step : AngleUnit → List ℕ → ℕ
-angle_step Gon bytes = PARTS * last_unit (length (decimals_part bytes)) (size_value bytes)
+angle_step Gon bytes = PARTS * last_unit (length (decimals_part bytes))
 angle_step Degrees bytes =
     if has_minutes bytes then sexagesimal_step (numbers_of bytes)
-    else DEGREE_PARTS * last_unit (length (decimals_part bytes)) (size_value bytes)
+    else DEGREE_PARTS * last_unit (length (decimals_part bytes))
 
 -- A field is a direction: such a number, with an optional sign before it.
 abbrev pub is_direction : AngleUnit → List ℕ → Bool
@@ -62,6 +55,6 @@ direction_value unit field = on_circle (is_negative field) (angle_value unit (un
 abbrev pub is_on_circle : AngleUnit → List ℕ → Bool
 is_on_circle unit field = nat_le (angle_value unit (unsigned field)) CIRCLE_PARTS
 
--- The step to which a field rounds its direction, in parts.
+-- The step that a field tells of its direction, in parts; 0 where it tells none.
 abbrev pub step_in : AngleUnit → List ℕ → ℕ
 step_in unit field = angle_step unit (unsigned field)

@@ -1,22 +1,32 @@
--- The limit of a comparison that is usual for a table, in units of 0.000001 gon.
-use Rattle.std.specs.Prelude.{ℕ, ◌+◌, ◌*◌, ◌-◌, ◌/◌, if◌then◌else◌, List, [], ◌∷◌, max}
+-- The limit of a comparison that is usual for a table, in units of 0.000001 gon. The row that is
+-- written most finely tells it: a zero that is left out takes decimals away, and never adds any.
+use Rattle.std.specs.Prelude.{ℕ, ◌+◌, ◌*◌, ◌-◌, ◌/◌, ◌==◌, if◌then◌else◌, List, [], ◌∷◌, min, max}
 use Rattle.direction_table.specs.Directions.{is_direction, step_in}
 use Rattle.direction_table.specs.Rows.{beside_name}
 use Rattle.direction_table.specs.declared.limit.TheConstants.{UNIT_PARTS, USUAL_WITHIN}
 use Rattle.direction_table.specs.declared.unit.AngleUnit.{AngleUnit}
 
--- Half a step in parts, rounded up to units, and one unit more. So far may rounding to such steps
--- bring directions away.
+-- The step that a row tells, in parts; 0 where it tells none, or states no direction.
+abbrev pub row_step : AngleUnit → List (List ℕ) → ℕ
+row_step unit row =
+    if is_direction unit (beside_name row) then step_in unit (beside_name row) else 0
+
+-- The finer of two steps, where 0 is none.
+abbrev pub finer : ℕ → ℕ → ℕ
+finer step other =
+    if step == 0 then other else (if other == 0 then step else min step other)
+
+-- The finest step that one of these rows tells; 0 where none tells one.
+abbrev pub finest_step : AngleUnit → List (List (List ℕ)) → ℕ
+finest_step unit [] = 0
+finest_step unit (row ∷ rows) = finer (row_step unit row) (finest_step unit rows)
+
+-- Half a step in parts, rounded up to units, and 5 units more. So far may rounding to such steps
+-- bring the directions of an instrument away: it averages readings before it rounds them, and the
+-- field file has each of them rounded by 5 units at most.
 abbrev pub limit_of_step : ℕ → ℕ
-limit_of_step step = (step + (2 * UNIT_PARTS - 1)) / (2 * UNIT_PARTS) + 1
+limit_of_step step = (step + (2 * UNIT_PARTS - 1)) / (2 * UNIT_PARTS) + 5
 
--- The limit for the step to which a row rounds its direction; 0 where it states none.
-abbrev pub row_limit : AngleUnit → List (List ℕ) → ℕ
-row_limit unit row =
-    if is_direction unit (beside_name row) then limit_of_step
-    (step_in unit (beside_name row)) else 0
-
--- The limit where none is stated: the largest of its rows, and 10 at least (profile).
+-- The limit where none is stated: that of the finest step, and 10 at least (profile).
 abbrev pub usual_within : AngleUnit → List (List (List ℕ)) → ℕ
-usual_within unit [] = USUAL_WITHIN
-usual_within unit (row ∷ rows) = max (row_limit unit row) (usual_within unit rows)
+usual_within unit rows = max USUAL_WITHIN (limit_of_step (finest_step unit rows))

@@ -240,8 +240,20 @@ fn sexagesimal_by(numbers: &Sexagesimal<'_>) -> Option<Angle>
         + u128::from(seconds.value / PART);
     Some(Angle {
         size,
-        step: step_of(seconds.decimals),
+        step: told_step(size, seconds.decimals),
     })
+}
+
+/// The step that a direction of so many parts tells, with so many decimals of its seconds; 0 of
+/// 0-00-00, which tells none.
+fn told_step(size: u128, decimals: usize) -> u64
+    ensures value { result ≡ spec.told_step size decimals }
+    ensures bound { result ≤ COARSEST_STEP }
+{
+    if size == 0 && decimals == 0 {
+        return 0;
+    }
+    step_of(decimals)
 }
 
 /// The step of so many decimals of seconds, in parts.

@@ -7,9 +7,8 @@ ghost use Rattle.direction_table.specs.DecimalNumbers.{decimals_part};
 ghost use Rattle.direction_table.specs.Directions as spec;
 ghost use Rattle.direction_table.specs.Gons as gons;
 
-use crate::decimal::Size;
 use crate::degrees::{has_minutes, sexagesimal_of};
-use crate::gon::{GON, MOST_DECIMALS, size_of};
+use crate::gon::{MOST_DECIMALS, size_of};
 use crate::unit::AngleUnit;
 use adjust_kernel::{CIRCLE, PARTS};
 
@@ -30,26 +29,19 @@ pub(crate) const COARSEST_STEP: u64 = 90_000_000_000;
 pub(crate) struct Angle {
     /// Its parts.
     pub(crate) size: u128,
-    /// The step to which it is rounded as it is written; 0 for a whole number.
+    /// The step to which it is rounded as it is written; 0 where it tells none.
     pub(crate) step: u64,
 }
 
-/// Whether a number is written as a whole one, as 0 or 0.0.
-fn is_written_whole(size: Size) -> bool
-    ensures { result ≡ spec.is_written_whole size.decimals size.value }
-{
-    size.decimals <= 1 && size.value % GON == 0
-}
-
-/// One unit of the last decimal of a number, in units of the ninth; 0 of a whole one.
-fn last_unit(size: Size) -> u64
-    ensures value { result ≡ spec.last_unit size.decimals size.value }
+/// One unit of the last of so many decimals, in units of the ninth; 0 where there are none.
+fn last_unit(decimals: usize) -> u64
+    ensures value { result ≡ spec.last_unit decimals }
     ensures bound { result ≤ 1_000_000_000 }
 {
-    if is_written_whole(size) {
+    if decimals == 0 {
         return 0;
     }
-    10u64.pow(MOST_DECIMALS.saturating_sub(size.decimals) as u32)
+    10u64.pow(MOST_DECIMALS.saturating_sub(decimals) as u32)
 }
 
 /// The decimal number that bytes write, where a unit of its ninth decimal has so many parts.
@@ -57,8 +49,7 @@ fn decimal_of(bytes: &[u8], parts: u64) -> Option<Angle>
     requires { parts ≤ DEGREE_PARTS }
     ensures size { IfSome result (λ angle. angle.size ≡ parts * gons.size_value bytes.now) }
     ensures step { IfSome result (λ angle.
-        angle.step ≡ parts * spec.last_unit (length (decimals_part bytes.now))
-        (gons.size_value bytes.now)) }
+        angle.step ≡ parts * spec.last_unit (length (decimals_part bytes.now))) }
     ensures bound { IfSome result (λ angle. angle.step ≤ COARSEST_STEP) }
     ensures some { OnSome result (gons.is_size bytes.now ≡ true) }
     ensures none { IfNone result (gons.is_size bytes.now ≡ false) }
@@ -66,7 +57,7 @@ fn decimal_of(bytes: &[u8], parts: u64) -> Option<Angle>
     let size = size_of(bytes)?;
     Some(Angle {
         size: u128::from(parts) * u128::from(size.value),
-        step: parts * last_unit(size),
+        step: parts * last_unit(size.decimals),
     })
 }
 
@@ -128,7 +119,7 @@ impl Direction {
         }
     }
 
-    /// The step to which it is rounded as it is written, in parts; 0 for a whole number.
+    /// The step to which it is rounded as it is written, in parts; 0 where it tells none.
     pub(crate) fn step(self) -> u64
         ensures { result ≡ self.angle.step }
     {

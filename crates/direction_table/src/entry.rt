@@ -29,7 +29,7 @@ pub(crate) struct Entry {
 pub(crate) struct Stated {
     /// In parts.
     pub(crate) direction: i64,
-    /// The step to which it is rounded as it is written, in parts; 0 for a whole number.
+    /// The step to which it is rounded as it is written, in parts; 0 where it tells none.
     pub(crate) step: u64,
 }
 

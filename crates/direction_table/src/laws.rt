@@ -6,14 +6,15 @@ ghost use Rattle.adjust_kernel.specs.Stations.{AreTargets};
 ghost use Rattle.adjust_kernel.specs.declared.units.TheConstants.{CIRCLE, PARTS};
 ghost use Rattle.direction_table.specs.Degrees.{seconds_step};
 ghost use Rattle.direction_table.specs.Directions.{direction_value, is_direction, is_on_circle};
+ghost use Rattle.direction_table.specs.Directions.{last_unit, step_in};
 ghost use Rattle.direction_table.specs.PlainTables.{IsPlainTable};
 ghost use Rattle.direction_table.specs.TableTexts.{directions_of, names_of, table_text};
 ghost use Rattle.direction_table.specs.Tables.{IsTableFault, IsTableText};
 ghost use Rattle.direction_table.specs.Texts as spec;
-ghost use Rattle.direction_table.specs.UsualLimits.{limit_of_step};
+ghost use Rattle.direction_table.specs.UsualLimits.{finer, limit_of_step};
 ghost use Rattle.direction_table.specs.declared.decimals.TheConstants.{MOST_WRITTEN};
 ghost use Rattle.direction_table.specs.declared.degrees.TheConstants.{DEGREE};
-ghost use Rattle.direction_table.specs.declared.direction.TheConstants.{CIRCLE_PARTS};
+ghost use Rattle.direction_table.specs.declared.direction.TheConstants.{CIRCLE_PARTS, DEGREE_PARTS};
 ghost use Rattle.direction_table.specs.declared.fault.TableFault.{TableFault};
 ghost use Rattle.direction_table.specs.declared.limit.TheConstants.{LARGEST_WITHIN, USUAL_WITHIN};
 ghost use Rattle.direction_table.specs.declared.reading.TheConstants.{LONGEST_TABLE};
@@ -75,18 +76,40 @@ pub fn plain_tables_stand()
         → IsTableText Gon targets bytes directions }
 {}
 
-/// The limits in digits, in units of 0.000001 gon: for 1 to 4 decimals of a gon half a step and one
-/// unit, for more of them no more than 10; and for seconds without decimals, and with one and two.
+/// The limits in digits, in units of 0.000001 gon: for 1 to 4 decimals of a gon half a step and 5
+/// units, for more of them no more than 10; for seconds without decimals, and with one and two; and
+/// for 4 and 5 decimals of a degree.
 pub fn usual_limits()
     ensures few { (decimals : ℕ) → 1 ≤ decimals → decimals ≤ 4
         → 2_000 * limit_of_step (PARTS * spec.step_of decimals)
-        ≡ spec.step_of decimals + 2_000 }
+        ≡ spec.step_of decimals + 10_000 }
     ensures many { (decimals : ℕ) → 5 ≤ decimals
         → limit_of_step (PARTS * spec.step_of decimals) ≤ 10 }
-    ensures whole { limit_of_step 0 ≡ 1 }
-    ensures seconds { limit_of_step (seconds_step 0) ≡ 156 }
-    ensures one_decimal { limit_of_step (seconds_step 1) ≡ 17 }
-    ensures two_decimals { limit_of_step (seconds_step 2) ≡ 3 }
+    ensures none { limit_of_step 0 ≡ 5 }
+    ensures seconds { limit_of_step (seconds_step 0) ≡ 160 }
+    ensures one_decimal { limit_of_step (seconds_step 1) ≡ 21 }
+    ensures two_decimals { limit_of_step (seconds_step 2) ≡ 7 }
+    ensures degrees_of_four { limit_of_step (DEGREE_PARTS * last_unit 4) ≡ 61 }
+    ensures degrees_of_five { limit_of_step (DEGREE_PARTS * last_unit 5) ≡ 11 }
+{}
+
+/// What rows tell of the step of their table, in parts. Of two steps the finer counts, in whichever
+/// order their rows stand, and 0 is none.
+pub fn told_steps()
+    ensures finer { (a b : ℕ) → 1 ≤ a → a ≤ b → finer a b ≡ a }
+    ensures in_any_order { (a b : ℕ) → finer a b ≡ finer b a }
+    ensures none { (a : ℕ) → finer a 0 ≡ a }
+    // A decimal is told, and be it 0; gon without decimals tell nothing.
+    ensures decimal { step_in Gon (codes "200.0") ≡ PARTS * spec.step_of 1 }
+    ensures decimals_of_zero { step_in Gon (codes "-0.0000") ≡ PARTS * spec.step_of 4 }
+    ensures whole { step_in Gon (codes "200") ≡ 0 }
+    ensures zero { step_in Gon (codes "0") ≡ 0 }
+    // Whole seconds are told, and decimals of 0 seconds, but not 0-00-00.
+    ensures seconds { step_in Degrees (codes "200-00-00") ≡ seconds_step 0 }
+    ensures decimals_of_no_seconds { step_in Degrees (codes "0-00-00.0") ≡ seconds_step 1 }
+    ensures no_seconds { step_in Degrees (codes "0-00-00") ≡ 0 }
+    // The sign of degrees is the bytes 194 and 176.
+    ensures no_seconds_by_signs { step_in Degrees (codes "0" ++ (194 ∷ 176 ∷ codes "00'00\"")) ≡ 0 }
 {}
 
 /// Examples of directions in degrees, in parts: with hyphens, with signs, with decimals and

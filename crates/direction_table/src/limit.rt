@@ -1,6 +1,6 @@
 //! The limit of a comparison where none is stated.
 
-ghost use Rattle.std.specs.Prelude.{◌≡◌, ◌≤◌};
+ghost use Rattle.std.specs.Prelude.{◌≡◌, ◌≤◌, max};
 ghost use Rattle.direction_table.specs.UsualLimits as spec;
 
 use crate::direction::COARSEST_STEP;
@@ -15,11 +15,37 @@ pub const LARGEST_WITHIN: u32 = 1_000_000;
 /// 0.000001 gon, in parts.
 pub const UNIT_PARTS: u64 = PARTS * UNIT;
 
+/// By how much the field file has the readings of an instrument rounded at most, in units of
+/// 0.000001 gon: half of 0.01 mgon.
+const ROUNDED_READINGS: u32 = 5;
+
+/// The finer of two steps, where 0 is none.
+pub(crate) fn finer(step: u64, other: u64) -> u64
+    ensures { result ≡ spec.finer step other }
+{
+    if step == 0 {
+        return other;
+    }
+    if other == 0 {
+        return step;
+    }
+    step.min(other)
+}
+
 /// The limit of a comparison with directions that are rounded to steps of so many parts, in units
-/// of 0.000001 gon: half a step, rounded up, and 1.
-pub(crate) fn limit_of_step(step: u64) -> u32
+/// of 0.000001 gon: half a step, rounded up, and 5.
+fn limit_of_step(step: u64) -> u32
     requires { step ≤ COARSEST_STEP }
     ensures { result ≡ spec.limit_of_step step }
 {
-    ((step + (2 * UNIT_PARTS - 1)) / (2 * UNIT_PARTS)) as u32 + 1
+    ((step + (2 * UNIT_PARTS - 1)) / (2 * UNIT_PARTS)) as u32 + ROUNDED_READINGS
+}
+
+/// The usual limit of a table whose finest step has so many parts, or is 0 for none, in units of
+/// 0.000001 gon.
+pub(crate) fn usual_within(finest_step: u64) -> u32
+    requires { finest_step ≤ COARSEST_STEP }
+    ensures { result ≡ max USUAL_WITHIN (spec.limit_of_step finest_step) }
+{
+    limit_of_step(finest_step).max(USUAL_WITHIN)
 }

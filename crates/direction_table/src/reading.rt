@@ -18,9 +18,10 @@ ghost use Rattle.direction_table.specs.declared.fault.TableFault.{TableFault};
 ghost use Rattle.direction_table.specs.declared.fault.TableFault.TheVariants.{Memory, TooLong};
 
 use crate::columns::are_titles;
+use crate::direction::COARSEST_STEP;
 use crate::draft::take_row;
 use crate::fault::TableFault;
-use crate::limit::USUAL_WITHIN;
+use crate::limit::{finer, usual_within};
 use crate::records::Records;
 use crate::separator::{kept_row, separator_of};
 use crate::unit::AngleUnit;
@@ -66,9 +67,9 @@ pub fn read_table(
 pub struct StatedTable {
     /// The directions of the targets, in their order, in parts, 81 of which are 0.000000001 gon.
     pub directions: Vec<i64>,
-    /// The limit of a comparison that is usual for the steps to which its rows round their
-    /// directions, in units of 0.000001 gon: 10, or half the coarsest step, rounded up, and 1,
-    /// where that is more. A whole number of gon or degrees, as 0 or 0.0, is taken as it stands.
+    /// The limit of a comparison that is usual for the finest step to which a row rounds its
+    /// direction, in units of 0.000001 gon: half of it, rounded up, and 5, but 10 at least. Gon and
+    /// degrees without decimals tell no step, nor does 0-00-00.
     pub usual_within: u32,
 }
 
@@ -93,7 +94,7 @@ pub fn read_stated_table(
     let stated = read_rows(alloc, unit, targets, bytes)?;
     Ok(StatedTable {
         directions: all_stated(alloc, &stated.directions)?,
-        usual_within: stated.usual_within,
+        usual_within: usual_within(stated.finest_step),
     })
 }
 
@@ -102,8 +103,8 @@ pub fn read_stated_table(
 struct StatedRows {
     /// Of each target its direction, as far as a row states it.
     directions: Vec<Option<i64>>,
-    /// The limit that is usual for the rows.
-    usual_within: u32,
+    /// The finest step that a row tells, in parts; 0 where none tells one.
+    finest_step: u64,
 }
 
 /// What the rows of bytes that are not too many state of each target, or their first fault.
@@ -119,14 +120,15 @@ fn read_rows(
         (rows_of targets.now bytes.now)) }
     ensures stated { IfOk result (λ stated. stated.directions.items
         ≡ stated_by unit (rows_of targets.now bytes.now) targets.now) }
-    ensures usual_within { IfOk result (λ stated. stated.usual_within
-        ≡ spec.usual_within unit (rows_of targets.now bytes.now)) }
+    ensures finest { IfOk result (λ stated. stated.finest_step
+        ≡ spec.finest_step unit (rows_of targets.now bytes.now)) }
+    ensures small_step { IfOk result (λ stated. stated.finest_step ≤ COARSEST_STEP) }
     ensures fault { IfErr result (IsTableFaultOrMemory unit targets.now bytes.now) }
 {
     let separator = separator_of(alloc, targets, bytes)?;
     let mut records = Records::of(alloc, separator, bytes);
     let mut directions = vec![in alloc; None; targets.len()]?;
-    let mut usual_within = USUAL_WITHIN;
+    let mut finest_step = 0;
     let mut record = ByteRecord::new(alloc);
     let mut kept = ByteRecord::new(alloc);
     let mut number: u32 = 0;
@@ -135,7 +137,7 @@ fn read_rows(
         if !found {
             return Ok(StatedRows {
                 directions,
-                usual_within,
+                finest_step,
             });
         }
         let row = kept_row(separator, &record, &mut kept)?;
@@ -144,7 +146,7 @@ fn read_rows(
             continue;
         }
         match take_row(unit, &mut directions, targets, row) {
-            Ok(limit) => usual_within = usual_within.max(limit),
+            Ok(step) => finest_step = finer(finest_step, step),
             Err(kind) => return Err(TableFault::Row(number, kind)),
         }
     }

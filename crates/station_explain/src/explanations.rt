@@ -1025,21 +1025,21 @@ sheet with 'station_check check'.",
         meaning: "the table is further from the adjustment than its limit",
         when: "\
 After the best rotation some direction of the table is further from the least-squares one than the
-limit that '--within' states. If none is stated it is 0.01 mgon, or, for a table with fewer than 5
-decimals, as much as rounding can move a direction and 0.001 mgon more: 0.051 mgon for 4 decimals,
-0.501 for 3, 5.001 for 2, 50.001 for 1; of degrees 0.057, 0.557, 5.557 and 55.557; of seconds 0.156
-without decimals and 0.017 with 1. The row with the coarsest rounding counts; rows of whole gon or
-degrees, as 0 or 0.0, don't. The number in the line is how far, in units of 0.001 mgon, rounded up:
-the least N with which the table agrees.",
-        example: "refused: compare: Apart 15",
+limit that '--within' states. If none is stated the row with the most decimals tells it, for some
+programs leave out zeros: half of its last decimal and 0.005 mgon, but 0.01 mgon at least. That is
+0.055 mgon for 4 decimals, 0.505 for 3, 5.005 for 2, 50.005 for 1; of degrees 0.061, 0.561, 5.561
+and 55.561; of seconds 0.16 without decimals and 0.021 with 1. Rows of gon or degrees without
+decimals don't count, nor does 0-00-00. The first number in the line is how far, rounded up to 0.001
+mgon: the least limit with which the table agrees. The second is the limit that it was held to.",
+        example: "refused: compare: Apart 0.015 mgon, limit 0.010 mgon",
         remedy: "\
 Print the difference of each target by 'station_check differences', or in the protocol
 of the sets by 'station_check report --table'. The best rotation halves the error of a single
-target, since all others take the other half: 1 mgon shows as 500, and as 0.500 beside -0.500. If
-one row stands out, see what the program did: plain means of incomplete sets, weights and
-observations that it left out give other directions. If all rows differ by no more than the program
-rounds, state the number of the line by --within. The results of an instrument come from readings
-that it did not round: allow 4 units more. If the program prints degrees, state --degrees.",
+target, since all others take the other half: 1 mgon shows as 0.500 mgon, and in the differences as
+0.500 beside -0.500. If one row stands out, see what the program did: plain means of incomplete
+sets, weights and observations that it left out give other directions. If all rows differ by no more
+than the program rounds, as where it prints six digits of each number, state the first number of the
+line, as '--within 0.015mgon'. If the program prints degrees, state --degrees.",
     },
 ];
 

@@ -193,37 +193,52 @@ fn a_name_is_read_as_it_stands_where_a_target_has_it(rt: HostRuntime) -> Result<
     Ok(())
 }
 
-/// Tables of A and B in gon, and the limit that is usual for their coarsest row.
-const GON_LIMITS: [(&str, u32); 12] = [
+/// Tables of A and B in gon, and the limit that is usual for their finest row.
+const GON_LIMITS: [(&str, u32); 21] = [
     ("A,0\nB,50\n", 10),
     ("A,0\nB,50.00003\n", 10),
     ("A,0.000000\nB,50.000030\n", 10),
-    ("A,0.0000\nB,50.0001\n", 51),
-    ("Name,Hz\nA,0.000\nB,50.0001\n", 501),
-    ("A;0,00\nB;50,0000\n", 5_001),
-    ("A 1.5\nB 50.00003\n", 50_001),
-    ("A,7.\nB,50.0003\n", 51),
-    ("A,0.0\nB,50.0001\n", 51),
-    ("A,0.0\nB,50.0\n", 10),
-    ("A,0.00\nB,50.0001\n", 5_001),
+    ("A,1.0000\nB,50.0001\n", 55),
+    ("Name,Hz\nA,0.001\nB,50.0001\n", 55),
+    ("A;0,00\nB;50,0000\n", 55),
+    ("A 1.5\nB 50.00003\n", 10),
+    ("A 1.5\nB 50.003\n", 505),
+    ("A,7.\nB,50.0003\n", 55),
+    ("A,200\nB,50.01\n", 5_005),
+    ("A,200.0\nB,50.01\n", 5_005),
+    ("A,200.0\nB,50\n", 50_005),
+    ("A,0.0\nB,50\n", 50_005),
+    ("A,0.0\nB,50.0001\n", 55),
+    ("A,0.00000\nB,50.0001\n", 10),
+    ("A,-0.0000\nB,+.000\n", 55),
+    ("A,-0.000\nB,50\n", 505),
+    ("A,400.0000\nB,50\n", 55),
+    ("B,50.1\nA,0.00\n", 5_005),
+    ("Name,1.0000 gon\nA,0\nB,50.001\n", 505),
     ("A,0.000000000000\nB,400.0000000000\n", 10),
 ];
 
 /// Tables in degrees: half a second is 154.3.. units, half of 0.1 degrees 55555.5.. units.
-const DEGREE_LIMITS: [(&str, u32); 9] = [
-    ("A,0-00-00\nB,50.00003\n", 156),
-    ("A,0-00-00.0000\nB,50-00-00\n", 156),
-    ("A,0-00-00.0\nB,50-00-00.00\n", 17),
-    ("A,0-00-00.00\nB,50-00-00.000\n", 10),
+const DEGREE_LIMITS: [(&str, u32); 15] = [
+    ("A,0-00-00\nB,50.00003\n", 11),
+    ("A,0-00-00\nB,50-00-00.39\n", 10),
+    ("A,0-00-00\nB,50-00-00\n", 160),
+    ("A,0-00-00.0000\nB,50-00-00\n", 10),
+    ("A,0-00-00.\nB,50-00-00\n", 160),
+    ("A,0-00-00.0\nB,50-00-00\n", 21),
+    ("A,1-00-00.0\nB,50-00-00.00\n", 10),
+    ("A,0-00-00\nB,-0\u{b0}00'00\"\n", 10),
     ("A,0\nB,50\n", 10),
-    ("A,0.0\nB,50\n", 10),
-    ("A,0.0\nB,50.5\n", 55_557),
-    ("A,0.0000\nB,50-00-00.0\n", 57),
+    ("A,0.0\nB,50\n", 55_561),
+    ("A,0.0\nB,50.5\n", 55_561),
+    ("A,0.0\nB,50.5001\n", 61),
+    ("A,1.0000\nB,50-00-00.0\n", 21),
+    ("A,1.0000\nB,50-00-00\n", 61),
     ("A,0.00000\nB,50.0000000000\n", 10),
 ];
 
 #[test]
-fn the_coarsest_row_tells_the_usual_limit(rt: HostRuntime) -> Result<(), Fail> {
+fn the_finest_row_tells_the_usual_limit(rt: HostRuntime) -> Result<(), Fail> {
     let station = station_of(&rt, rt.alloc(), &[b"A", b"B"])?;
     let units: [(AngleUnit, &[(&str, u32)]); 2] = [
         (AngleUnit::Gon, &GON_LIMITS),

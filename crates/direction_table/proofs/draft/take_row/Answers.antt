@@ -1,13 +1,15 @@
-use Rattle.std.proofs.Common.{◌≡◌, ◌∙◌, ℕ, List, map, sym, ap, Some, Option, FitsSigned, arith}
+use Rattle.std.proofs.Common.{◌≡◌, ◌∙◌, ℕ, List, [], ◌∷◌, map, sym, ap, Some, Option, FitsSigned, arith}
 use mir.Syntax.{w64}
 use Rattle.std.specs.Prelude.{slice_set}
 use Rattle.std.specs.Option.{option_map}
 use Rattle.std.proofs.lemmas.Int.{ints, to_z-of_z}
 use Rattle.csv.specs.Records.{fields_of}
 use Rattle.direction_table.specs.FieldForms.{tidy}
-use Rattle.direction_table.specs.Rows.{direction_in, two_columns_view}
+use Rattle.direction_table.specs.Rows.{direction_in, two_columns_of, two_columns_view}
+use Rattle.direction_table.specs.UsualLimits.{row_step}
 use Rattle.direction_table.specs.declared.columns.Columns.{Columns}
 use Rattle.direction_table.proofs.RowsTaken.{Taken, fault-taken, taken}
+use Rattle.direction_table.proofs.TwoColumns.{row-is}
 use Rattle.direction_table.proofs.draft.take_row.Goals as goal
 use Rattle.direction_table.proofs.draft.take_row.Goals.{After-is_some}
 
@@ -35,6 +37,18 @@ pub returns-clause-faultless : goal.returns-clause-faultless
 returns-clause-faultless c before same = fault-taken
     (row_taken (goal.at.returns-clause-faultless c).After-is_some before same)
     (sym c.is_some.ensures ∙ c.if-is_some.false)
+
+pub returns-clause-step : goal.returns-clause-step
+returns-clause-step c =
+    let row = tidy c.args.targets.now (fields_of c.args.row.now) in
+    let columns = two_columns_view c.in_ok-columns.columns in
+    let two : two_columns_of row ≡ Some columns =
+    sym c.parse.ensures ∙ ap (λ (o : Option Columns). option_map two_columns_view o)
+    c.in_ok-columns.ensures.ok_part in
+    let is : row ≡ columns.name ∷ columns.direction ∷ [] = row-is row columns two in
+    let step : row_step c.args.unit (columns.name ∷ columns.direction ∷ []) ≡ c.in_ok-entry.entry.stated.step =
+    rw c.in_ok-entry.ensures.form (sym c.in_ok-entry.ensures.step) in
+    sym step ∙ ap (row_step c.args.unit) (sym is)
 
 pub returns-clause-taken : goal.returns-clause-taken
 returns-clause-taken c before same =

@@ -6,9 +6,10 @@ use Rattle.direction_table.proofs.reading.read_rows.Given as goal
 
 abbrev pub invariant-rows : goal.invariant-rows
 invariant-rows l = HasRead l.fn.unit l.targets (rows_of l.targets l.fn.bytes) l.directions.items
-    l.usual_within l.number (rows_left l.separator l.targets (records_left l.records))
+    l.finest_step l.number (rows_left l.separator l.targets (records_left l.records))
     × (l.number + length l.records.unread.now ≤ length l.fn.bytes)
     × (length l.directions.items ≡ length l.targets)
+    × (l.finest_step ≤ 90_000_000_000)
 
 abbrev pub decreases-rows : goal.decreases-rows
 decreases-rows l = length l.records.unread.now
