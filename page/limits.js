@@ -70,8 +70,8 @@ export const isWithin = (/** @type {string} */ residual, /** @type {Limits} */ l
   Number(residual.replace(/[-.]/g, '')) * LIMITS.residual.per <= limits.residual * THOUSAND;
 
 /**
- * Limits in one line: those of 2c and 2i, and as it is said that of residuals and that of tables, so
- * that no limit is told to which nothing was held.
+ * Limits in one line: those of 2c and 2i, and as it is said that of residuals and that of tables,
+ * so that no limit is told to which nothing was held.
  * @param {Limits} limits
  * @param {{ residual: boolean, within: boolean }} held
  */
