@@ -1,6 +1,6 @@
 /* The two calls that are told whether a limit is stated. The proved exports take it as a `bool`,
  * which is 0 or 1 and nothing else: of another value they would see the lowest bit. These take any
- * number, of which 0 alone says that none is stated, and hand on 0 or 1. capi/link.sh links them. */
+ * number, of which 0 alone says that none is stated, and hand on 0 or 1. link.sh links them. */
 #include "station_check.h"
 
 #include <stdbool.h>

@@ -15,9 +15,9 @@
  * station_check_compare; any other text may have more bytes than the files.
  *
  * Limits: those of face differences, `two_c` and `two_i`, are in units of 0.01 mgon, at most
- * 1,000,000, and usually STATION_CHECK_FACES. Where `is_stated` is 0 there is no limit of residuals,
- * or the usual one of a comparison, whatever number stands after it; any other value states that
- * number.
+ * 1,000,000, and usually STATION_CHECK_FACES. Where `is_stated` is 0 there is no limit of
+ * residuals, or the usual one of a comparison, whatever number stands after it; any other value
+ * states that number.
  *
  * Names of stations have 1 to 16 bytes from 20 to 7E (hex), without a zero at the end.
  */

@@ -179,7 +179,9 @@ def _answer(name: str, inputs: Sequence[bytes], numbers: Sequence[ctypes.c_uint3
     return reply.text
 
 
-def _call(name: str, inputs: Sequence[bytes], numbers: Sequence[ctypes.c_uint32], texts: int = 1) -> _Reply:
+def _call(
+    name: str, inputs: Sequence[bytes], numbers: Sequence[ctypes.c_uint32], texts: int = 1
+) -> _Reply:
     """What a call answers, asked again with more room until that is enough."""
     room = max(_ROOM, 2 * sum(map(len, inputs)))
     while True:

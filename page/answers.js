@@ -23,12 +23,12 @@ import { each, greatestOf, recognizedIn, residualsIn, stationsOf } from './recor
  * call, and so was one that was refused for it: then no residuals are told.
  * @typedef {{ isKept: boolean, residuals?: Answer,
  *   greatest?: import('./records.js').Residual }} Judged
- * What is shown of a station, or of a file without one, which is `file`: `readings` counts those of a
- * file without sets, `waiting` has the files that are not checked yet, `isStopped` says that the work
- * was stopped before they were, `unplaced` is the text that says why a file has no place, `marked`
- * the answer when codes were put into a copy, and `recognized` what it told of the card's station,
- * and at the first card of a copy of the stations without sets too; of a job that needs a name what
- * would be recognized by any.
+ * What is shown of a station, or of a file without one, which is `file`: `readings` counts those of
+ * a file without sets, `waiting` has the files that are not checked yet, `isStopped` says that the
+ * work was stopped before they were, `unplaced` is the text that says why a file has no place,
+ * `marked` the answer when codes were put into a copy, and `recognized` what it told of the card's
+ * station, and at the first card of a copy of the stations without sets too; of a job that needs a
+ * name what would be recognized by any.
  * @typedef {{ title: string, mood: Mood, file: Input, field?: Input, station?: Station,
  *   answers: Answer[], waiting: Input[], isStopped?: boolean, readings?: number, unplaced?: string,
  *   marked?: Answer, recognized?: import('./records.js').Recognized[], judged?: Judged,
@@ -41,8 +41,8 @@ import { each, greatestOf, recognizedIn, residualsIn, stationsOf } from './recor
 export const ACCEPTED = 0, REFUSED = 1, OUT_OF_RANGE = 2, TOO_LITTLE_ROOM = 3;
 
 /**
- * So many bytes are read at most, again and again, to judge the residuals of all stations of a field
- * file that have no results to be checked: of more they are judged when they are opened.
+ * So many bytes are read at most, again and again, to judge the residuals of all stations of a
+ * field file that have no results to be checked: of more they are judged when they are opened.
  */
 const MOST_READ = 200_000_000;
 
@@ -203,8 +203,8 @@ async function answerOfTable(table, station, limits) {
 const RESIDUAL = /^refused: (?:kernel|adjust): Residual /;
 
 /**
- * Holds a station to the limit of residuals: where no call has done it, by the greatest residual that
- * the call wrote, with its three decimals.
+ * Holds a station to the limit of residuals: where no call has done it, by the greatest residual
+ * that the call wrote, with its three decimals.
  * @param {Card} card
  * @param {Limits} limits
  */

@@ -20,10 +20,11 @@ import { text } from './texts.js';
 /**
  * @typedef {import('./answers.js').Card} Card
  * @typedef {import('./answers.js').Answer} Answer
- * What a card asks of the page: the limits, to load its results, to print it, to name the station
- * of a field file.
+ * What a card asks of the page: the limits, to load its results, what its protocol says of what
+ * else was handed in, to print it, to name the station of a field file.
  * @typedef {{ limits: import('./limits.js').Limits, load: (card: Card) => Promise<void>,
- *   print: (card: Card) => void, name: (field: Input, station: string) => void }} Desk
+ *   beside: (card: Card) => string[], print: (card: Card) => void,
+ *   name: (field: Input, station: string) => void }} Desk
  * @typedef {import('./files.js').Input} Input
  * Gives what is in a file that can be saved; nothing where there is none, and it is said why.
  * @typedef {() => string | null | Promise<string | null>} Content
@@ -112,7 +113,8 @@ function showButtons(card, desk, parent) {
     said.textContent = text('saved', { name: file });
   });
   const protocol = `${stemOf(field)}_${name}.html`;
-  offer('saveProtocol', protocol, () => protocolFile(card, desk.limits), 'text/html');
+  offer('saveProtocol', protocol, () => protocolFile(card, desk.limits, desk.beside(card)),
+    'text/html');
   if (results.directions.status === ACCEPTED)
     offer('saveDirections', `${name}_directions.csv`, () => `${results.directions.line}\n`);
   if (results.residuals.status === ACCEPTED) {
@@ -268,7 +270,7 @@ function showDigests(/** @type {Card} */ card, /** @type {Element} */ parent) {
  * Shows a card.
  * @param {Card} card
  * @param {Desk} desk
- * @param {boolean} isFew whether its results are open where the user did neither open nor close them
+ * @param {boolean} isFew whether its results are open where the user has not said it
  * @param {Element} parent
  */
 export function showCard(card, desk, isFew, parent) {

@@ -5,11 +5,11 @@ import { each, recordsOf } from './records.js';
  * What a file is: a field file, a sheet or a table; or why it is none of them.
  * @typedef {'field' | 'sheet' | 'table' | 'spreadsheet' | 'utf16' | 'empty' | 'unread' |
  *   'other'} Kind
- * A file that was handed in: `shown` is its name as the page shows it, `choice` the station that the
- * user chose for it, `station` the name that the user gave to a field file without one, `typed` the
- * name that is being typed, and `original` the field file that a marked copy is of. `opened` says of
- * the stations of a field file by their names whether the user opened or closed their results. The
- * digest is there once the file was judged.
+ * A file that was handed in: `shown` is its name as the page shows it, `choice` the station that
+ * the user chose for it, `station` the name that the user gave to a field file without one, `typed`
+ * the name that is being typed, and `original` the field file that a marked copy is of. `opened`
+ * says of the stations of a field file by their names whether the user opened or closed their
+ * results. The digest is there once the file was judged.
  * @typedef {{ name: string, shown: string, bytes: Uint8Array, kind: Kind, digest: string,
  *   choice?: { field: Input, name: string }, station?: string, typed?: string, original?: Input,
  *   opened?: Map<string, boolean> }} Input
@@ -40,7 +40,8 @@ const SEPARATORS = [',', ';', '\t', ' '];
 export const textOf = (/** @type {Uint8Array} */ bytes) => new TextDecoder().decode(bytes);
 
 /** Signs of a name that are not seen, or change the order in which others are. */
-const UNSEEN = /[\0-\x1f\x7f-\x9f\u00ad\u061c\u200b-\u200f\u2028-\u202e\u2060-\u206f\ufeff]/g;
+export const UNSEEN =
+  /[\0-\x1f\x7f-\x9f\u00ad\u061c\u200b-\u200f\u2028-\u202e\u2060-\u206f\ufeff]/g;
 
 function escaped(/** @type {string} */ sign) {
   const digits = sign.charCodeAt(0).toString(16);
@@ -48,8 +49,8 @@ function escaped(/** @type {string} */ sign) {
 }
 
 /**
- * Says how files are shown: by their names, those of one name each with a number of its own, so that
- * they are told apart. What is not seen in a name is shown as an escape.
+ * Says how files are shown: by their names, those of one name each with a number of its own, so
+ * that they are told apart. What is not seen in a name is shown as an escape.
  */
 export function tellApart(/** @type {Input[]} */ files) {
   const names = files.map(file => file.name.replace(UNSEEN, escaped)), taken = new Set(names);

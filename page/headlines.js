@@ -133,8 +133,8 @@ export const titleOf = (/** @type {Card} */ { station, title }) =>
   station ? text('station', { name: title }) : title;
 
 /**
- * All that is said of a card in words: its refusals, or else its answers, and what came of the limit
- * of residuals where it is not kept.
+ * All that is said of a card in words: its refusals, or else its answers, and what came of the
+ * limit of residuals where it is not kept.
  * @param {Card} card
  * @param {Limits} limits
  */

@@ -1,4 +1,5 @@
 // The limits that the calls are given, as fields in mgon.
+import { UNSEEN } from './files.js';
 import { APART, FACE, HALF, mgonOf, unitsIn } from './numbers.js';
 import { text } from './texts.js';
 
@@ -69,8 +70,8 @@ export const isWithin = (/** @type {string} */ residual, /** @type {Limits} */ l
   Number(residual.replace(/[-.]/g, '')) * LIMITS.residual.per <= limits.residual * THOUSAND;
 
 /**
- * Limits in one line: those of 2c and 2i, and as it is said that of residuals and that of tables, so
- * that no limit is told to which nothing was held.
+ * Limits in one line: those of 2c and 2i, and as it is said that of residuals and that of tables,
+ * so that no limit is told to which nothing was held.
  * @param {Limits} limits
  * @param {{ residual: boolean, within: boolean }} held
  */
@@ -101,5 +102,11 @@ export function commandOf(command, names, limits, operands, more = []) {
   return ['station_check', command, ...words].join(' ');
 }
 
-const quoted = (/** @type {string} */ word) =>
-  /^[\w.,\/+-]+$/.test(word) ? word : `'${word.replaceAll("'", "'\\''")}'`;
+/** A word for a shell: one with signs that are not seen has escapes in their place. */
+function quoted(/** @type {string} */ word) {
+  if (/^[\w.,\/+-]+$/.test(word)) return word;
+  if (word.replace(UNSEEN, '') === word) return `'${word.replaceAll("'", "'\\''")}'`;
+  const letters = Array.from(new TextEncoder().encode(word), byte => String.fromCharCode(byte));
+  const hex = (/** @type {string} */ letter) => letter.charCodeAt(0).toString(16).padStart(2, '0');
+  return `$'${letters.join('').replace(/[^ -~]|['\\]/g, letter => `\\x${hex(letter)}`)}'`;
+}

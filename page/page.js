@@ -5,7 +5,7 @@ import { button, element } from './elements.js';
 import { isChosen, isUsed, kindOf, originalOf, placeName, tellApart } from './files.js';
 import { kindText, saidOfCard, titleOf } from './headlines.js';
 import { limitsLine, limitsNow, LIMITS, showLimit, wrongLimit } from './limits.js';
-import { showProtocol, showProtocols } from './protocol.js';
+import { besideOf, showProtocol, showProtocols } from './protocol.js';
 import { LANGUAGES, languageOf, speak, spoken, text } from './texts.js';
 import { Stopped, start, stop } from './work.js';
 
@@ -128,10 +128,11 @@ function showInputs() {
 
 /** The kinds of parts that are drawn anew, and what the keyboard reaches in them. */
 const PARTS = ['#inputs > li', '#answers > .card'], REACHED = 'button, input, select, summary';
+const RESULT = '.results > :not(summary), .results > :not(summary) *';
 
 /**
- * Where the keyboard is: in the nth part of a kind, within its results or not, at the nth of what it
- * reaches there; nowhere once it is turned to something else.
+ * Where the keyboard is: in the nth part of a kind, within its results or not, at the nth of what
+ * it reaches there; nowhere once it is turned to something else.
  * @type {{ kind: string, part: number, isResult: boolean, at: number } | null}
  */
 let inHand = null;
@@ -145,7 +146,7 @@ for (const turned of ['focusin', 'pointerdown'])
  */
 const reachedIn = (part, isResult) =>
   /** @type {HTMLElement[]} */ ([...part?.querySelectorAll(REACHED) ?? []])
-    .filter(one => one.matches('.results > :not(summary), .results > :not(summary) *') === isResult);
+    .filter(one => one.matches(RESULT) === isResult);
 
 /** Keeps in mind where the keyboard is, before all is drawn anew. */
 function keepFocus() {
@@ -289,6 +290,7 @@ const desk = {
     show();
     if (sayAgain === sayHow) sayHow();
   },
+  beside(/** @type {Card} */ card) { return besideOf(card, inputs, cards, limits); },
   print(/** @type {Card} */ card) {
     only = card;
     window.print();
@@ -311,7 +313,7 @@ let only = null;
 
 onbeforeprint = () => {
   $('protocol').textContent = '';
-  if (only) showProtocol(only, limits, $('protocol'));
+  if (only) showProtocol(only, limits, $('protocol'), '', desk.beside(only));
   else if (inputs.length > 0)
     showProtocols(inputs, cards, limits, $('verdict').textContent, $('protocol'));
 };

@@ -1,9 +1,10 @@
 // The protocol of a station, as an office prints and files it, and the page before several.
 import { ACCEPTED, REFUSED, filesOf } from './answers.js';
 import { element, ofProgram } from './elements.js';
-import { originalOf, stemOf } from './files.js';
+import { isUsed, originalOf, stemOf } from './files.js';
 import {
-  countsOf, headlineOfCard, judgedText, recognizedText, saidOf, saidOfFile, waitingText,
+  countsOf, headlineOfCard, judgedText, kindText, recognizedText, saidOf, saidOfCard, saidOfFile,
+  titleOf, waitingText,
 } from './headlines.js';
 import { limitsLine } from './limits.js';
 import { showFault } from './refusals.js';
@@ -53,6 +54,7 @@ function showDate(/** @type {Element} */ parent) {
  * What was answered of a card, each with the program's line and the command; and what came of the
  * limit of residuals, and of the files that wait.
  * @param {Card} card
+ * @param {import('./limits.js').Limits} limits
  * @param {Element} parent
  */
 function showAnswers(card, limits, parent) {
@@ -98,8 +100,10 @@ function showMarks({ marked, recognized, title }, parent) {
  * A text of the style that says this: each of its signs is an escape of six digits, so that a name
  * is never a part of the style.
  */
-const inStyle = (/** @type {string} */ said) =>
-  `"${Array.from(said, sign => `\\${sign.codePointAt(0).toString(16).padStart(6, '0')}`).join('')}"`;
+function inStyle(/** @type {string} */ said) {
+  const signs = Array.from(said, sign => sign.codePointAt(0).toString(16).padStart(6, '0'));
+  return `"${signs.map(digits => `\\${digits}`).join('')}"`;
+}
 
 /**
  * Has each page of a protocol say what it is of, at its foot, in browsers that write there: others
@@ -115,12 +119,31 @@ function nameItsPages(part, said, page) {
 }
 
 /**
+ * What a protocol that stands alone says of what else was handed in: each other card that is
+ * refused or open, and each file that is not used, so that none misses on paper.
+ * @param {Card} card
+ * @param {Input[]} inputs
+ * @param {Card[]} cards
+ * @param {import('./limits.js').Limits} limits
+ */
+export function besideOf(card, inputs, cards, limits) {
+  const others = cards.filter(one => one !== card && ['bad', 'open'].includes(one.mood));
+  const unused = inputs.filter(file => !isUsed(file));
+  return [
+    ...others.map(one => ({ label: titleOf(one), said: saidOfCard(one, limits) })),
+    ...unused.map(file => ({ label: file.shown, said: kindText(file) })),
+  ].map(about => text('labelled', about));
+}
+
+/**
  * The protocol of a card: of a station with its results, where they are loaded.
  * @param {Card} card
  * @param {import('./limits.js').Limits} limits
  * @param {Element} parent
+ * @param {string} [page] its name, where others are printed too
+ * @param {string[]} [beside] what is said of what else was handed in
  */
-export function showProtocol(card, limits, parent, page = '') {
+export function showProtocol(card, limits, parent, page = '', beside = []) {
   const part = element('article', '', parent, { className: 'protocol' }), { station } = card;
   const title = station ? text('protocol', { name: station.listed.name })
     : text('checkOf', { name: card.title });
@@ -137,6 +160,8 @@ export function showProtocol(card, limits, parent, page = '') {
   const held = { residual: card.judged !== undefined, within: isCompared };
   if (card.field) row('limits', facts).textContent = limitsLine(limits, held);
   showAnswers(card, limits, row('answer', facts));
+  const others = beside.length > 0 ? row('beside', facts) : null;
+  for (const said of beside) element('div', said, others);
   showFaults(card, part);
   if (card.results) showResults(card, part);
   else if (station) element('p', text('notOpened'), part);
@@ -181,13 +206,14 @@ export function showProtocols(inputs, cards, limits, verdict, parent) {
  * The protocol as a file of its own, with the style of the page.
  * @param {Card} card
  * @param {import('./limits.js').Limits} limits
+ * @param {string[]} [beside]
  */
-export function protocolFile(card, limits) {
+export function protocolFile(card, limits, beside) {
   const whole = document.implementation.createHTMLDocument(`${stemOf(card.field)} ${card.title}`);
   whole.documentElement.lang = spoken();
   element('meta', '', whole.head).setAttribute('charset', 'utf-8');
   element('style', document.querySelector('style').textContent, whole.head);
   whole.body.className = 'saved';
-  showProtocol(card, limits, whole.body);
+  showProtocol(card, limits, whole.body, '', beside);
   return `<!doctype html>\n${whole.documentElement.outerHTML}\n`;
 }

@@ -1072,6 +1072,11 @@ class PageInBrowserTest(TimedTest):
             self.assertIn(hashlib.sha256(path.read_bytes()).hexdigest(), first)
         for said in (P7_HEADLINE, "Refused.", "not used: ", NOTHING_RECOGNIZED, "several stations are possible", page.text("#verdict")):
             self.assertIn(" ".join(said.split()), " ".join(first.split()))
+        # The protocol of one station, printed or saved alone, names what was refused, open or not used.
+        page.js("only = cards[0]; onbeforeprint(); only = null")
+        for alone in (page.text("#protocol"), page.js("protocolFile(cards[0], limits, desk.beside(cards[0]))")):
+            for said in ("fault_hz.gsi: Refused. An angle is not digits alone.", f"{UNUSED[0][0]}: not used: ", f"rain.gsi: {NOTHING_RECOGNIZED}"):
+                self.assertIn(said, alone)
         all_of = "".join(rest)
         titles = ["Protocol of sets: Station P7", "Protocol of sets: Station S1", "Check of fault_hz.gsi", "Check of rain.gsi", "Check of odd.csv"]
         for title in titles:
@@ -1119,6 +1124,10 @@ class PageInBrowserTest(TimedTest):
                 # It stands at the foot of the page, which may cut it.
                 self.assertIn(f"Protocol of sets: Station P7, {shown}"[:40], printed)
                 self.assertIn("Refused. ", page.js("protocolFile(cards[0], limits)"))
+                # The command that is shown is one, by that name.
+                word = page.js("commandOf('list', [], {}, [cards[0].field.name])").removeprefix("station_check list ")
+                echoed = subprocess.run(["bash", "-c", f"printf %s {word}"], capture_output=True, check=True).stdout
+                self.assertEqual((name, False), (echoed.decode(), "\n" in word))
 
     # ------------------------------------------------------------ everyone
 
