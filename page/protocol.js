@@ -160,7 +160,7 @@ export function showProtocol(card, limits, parent, page = '', beside = []) {
   const held = { residual: card.judged !== undefined, within: isCompared };
   if (card.field) row('limits', facts).textContent = limitsLine(limits, held);
   showAnswers(card, limits, row('answer', facts));
-  const others = beside.length > 0 ? row('beside', facts) : null;
+  const others = beside.length > 0 ? row('handedIn', facts) : null;
   for (const said of beside) element('div', said, others);
   showFaults(card, part);
   if (card.results) showResults(card, part);

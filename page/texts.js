@@ -497,7 +497,7 @@ export const TEXTS = {
     de: 'Prüfung von {n} Datei|Prüfung von {n} Dateien',
     fr: 'Vérification de {n} fichier|Vérification de {n} fichiers',
   },
-  beside: { en: 'Handed in with it', de: 'Mit übergeben', fr: 'Remis avec' },
+  handedIn: { en: 'Handed in with it', de: 'Mit übergeben', fr: 'Remis avec' },
   notOpened: {
     en: 'Directions, residuals and face differences are printed where they were opened.',
     de: 'Richtungen, Verbesserungen und Lagedifferenzen werden gedruckt, wo sie geöffnet wurden.',

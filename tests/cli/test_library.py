@@ -345,7 +345,9 @@ class LibraryTest(ProgramTest):
         status, said, stderr = answer_to([program, GSI, SHEET, *map(str, numbers)], cwd=self.folder)
         lines = said.decode().splitlines()
         of_sheet = [ACCEPTED, *["refused: kernel: Residual 1"] * (len(numbers) - 1)]
-        of_table = ["agrees P7: 6 targets, within 4", *["refused: compare: Apart 4"] * (len(numbers) - 1)]
+        agrees = "agrees P7: 6 targets, within 0.004 mgon, limit 0.010 mgon"
+        apart = "refused: compare: Apart 0.004 mgon, limit 0.000 mgon"
+        of_table = [agrees, *[apart] * (len(numbers) - 1)]
         self.assertEqual((0, [*of_sheet, *of_table], b""), (status, lines, stderr))
 
     def test_memory_is_given_back(self) -> None:
