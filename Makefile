@@ -50,6 +50,9 @@ $(foreach crate,$(EVERY),$(eval under_$(crate) := \
 # The crates that the program is made of, lowest first.
 CRATES := $(filter $(under_$(PROGRAM_CRATE)) $(PROGRAM_CRATE),$(EVERY))
 
+# The same in the order in which they are begun: those first with which the longest chains begin.
+ORDER := $(shell $(PYTHON) tools/order.py)
+
 # A file for each crate that is proved as its sources are now: what the proof said, with the time at
 # which it began. And where the libraries and the program are made.
 PROVED := build/proved
@@ -68,15 +71,6 @@ JOBS ?= $(shell most=$$(( $(or $(KIBIBYTES),0) / 4194304 )); here=$$(nproc); \
 ifndef IS_WITHIN
 MAKEFLAGS += --jobs=$(JOBS)
 endif
-
-# The longest chains of proofs, in which each crate stands on the one before: the whole takes as long
-# as they do. So each of them is proved by as many processes as there are processors, and what is
-# proved beside them by one, which takes less processor time in all.
-CHAIN := adjust_kernel sheet_format station_check station_compare station_residuals station_report table_report station_record command_run station_program
-CHAIN_OF_BLOCKS := gsi_word station_book station_check
-CHAIN_OF_WORDS := station_check station_explain command_line command_run
-CHAINS := $(CHAIN) $(CHAIN_OF_BLOCKS) $(CHAIN_OF_WORDS)
-IS_BESIDE = $(if $(filter $*,$(CHAINS))$(filter 1,$(JOBS)),,yes)
 
 # What each recipe that proves begins with.
 NEED_TOOLCHAIN = command -v $(RT) > /dev/null || { \
@@ -189,7 +183,7 @@ $(CRATES:%=$(PROVED)/%): $(PROVED)/%: crates.txt | $(PROVED)
 	@$(NEED_TOOLCHAIN)
 	@rm -f $@ $(foreach crate,$(CRATES),$(if $(filter $*,$(under_$(crate))),$(PROVED)/$(crate)))
 	@touch $(MADE)/$*.begun
-	@RT='$(RT)' $(PYTHON) tools/prove.py $* --jobs $(if $(IS_BESIDE),1,$(JOBS)) \
+	@RT='$(RT)' $(PYTHON) tools/prove.py $* --jobs $$($(PYTHON) tools/order.py $* $(JOBS)) \
 	  < /dev/null > $(MADE)/$*.log 2>&1 || { \
 	  $(call say,$* is NOT PROVED: $(MADE)/$*.log ends with); tail -n 20 $(MADE)/$*.log >&2; exit 1; }
 	@flock $(PROVED) sh -c 'touch -r $(MADE)/$*.begun $(MADE)/$*.log && mv $(MADE)/$*.log $@ && \
@@ -203,5 +197,5 @@ $(foreach crate,$(CRATES),$(eval $(PROVED)/$(crate): \
   $(filter crates/$(crate)/%,$(SOURCES)) $(below_$(crate):%=$(PROVED)/%)))
 
 # Puts the program where it is run and installed from.
-$(PROGRAM): $(PROVED)/$(PROGRAM_CRATE)
+$(PROGRAM): $(ORDER:%=$(PROVED)/%) $(PROVED)/$(PROGRAM_CRATE)
 	@install -D -m 755 $(MADE)/$(PROGRAM_CRATE) $@

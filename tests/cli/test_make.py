@@ -184,30 +184,25 @@ class MakeTest(ProgramTest):
                     running.append(running[-1] + (1 if call.startswith("begin") else -1))
                 self.assertEqual(most > 1, max(running) > 1)
 
-    def test_what_is_proved_beside_the_longest_chains_has_one_process(self):
-        """Those of the chains have as many as crates are proved side by side. Of libraries the
-        statements are kept."""
+    def test_proofs_are_shared_where_little_is_proved_beside_them(self):
+        """Where less than three tenths of the lines can be proved beside a crate, as many processes share
+        its proof as crates are proved side by side. Of libraries the statements are kept."""
         for jobs in (4, 1):
             with self.subTest(jobs):
                 self.make("clean")
                 self.make("run", f"JOBS={jobs}")
                 asked = {crate: (self.folder / f"asked_{crate}").read_text() for crate in PROVED}
-                chain, beside = f"{jobs} True", "1 True"
-                self.assertEqual({chain}, {asked[crate] for crate in ("station_compare", "station_explain")})
+                shared, alone = {"low", "middle", "station_compare"}, {"other_low", "station_explain"}
+                self.assertEqual({f"{jobs} True"}, {asked[crate] for crate in shared})
+                self.assertEqual({"1 True"}, {asked[crate] for crate in alone})
                 self.assertEqual(f"{jobs} False", asked["station_program"])
-                self.assertEqual({beside}, {asked[crate] for crate in ("low", "other_low", "middle")})
 
-    def test_the_longest_chains_are_of_crates(self):
-        """Each ends with the program, or goes on as the first does."""
-        found = re.findall(r"^CHAIN(?:_\w+)? := (.*)$", (ROOT / "Makefile").read_text(), re.MULTILINE)
-        lines = dict(re.findall(r"^(\w+)[^:]*:(.*)$", (ROOT / "crates.txt").read_text(), re.MULTILINE))
-        first, *others = map(str.split, found)
-        self.assertEqual("station_program", first[-1])
-        self.assertEqual(2, len(others))
-        for chain in (first, *others):
-            for low, crate in zip(chain, chain[1:]):
-                self.assertIn(low, lines[crate].split())
-            self.assertIn(chain[-1], first)
+    def test_crates_that_begin_longer_chains_are_begun_first(self):
+        order = run_of("python3", "tools/order.py", cwd=self.folder).stdout.split()
+        self.assertEqual(["low", "other_low", "middle", "station_compare", "station_explain", "station_program"], order)
+        self.write("station_explain", 500 * "one\n")
+        order = run_of("python3", "tools/order.py", cwd=self.folder).stdout.split()
+        self.assertEqual(["low", "station_explain", "other_low", "middle", "station_compare", "station_program"], order)
 
     def test_crates_on_the_same_library_are_proved_side_by_side(self):
         made = self.make("run", "JOBS=4", MEET="middle station_explain")
