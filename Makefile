@@ -60,6 +60,9 @@ EITHER := $(filter $(CRATES) $(PAGE_CRATES),$(EVERY))
 # The program's in the order in which they are begun: those first with which the longest chains begin.
 ORDER := $(shell $(PYTHON) tools/order.py)
 
+# The same in the order in which they are begun: those first with which the longest chains begin.
+ORDER := $(shell $(PYTHON) tools/order.py)
+
 # A file for each crate that is proved as its sources are now: what the proof said, with the time at
 # which it began. And where the libraries and the program are made.
 PROVED := build/proved

@@ -1,7 +1,7 @@
 use Rattle.std.specs.Prelude.{option_map}
 use Rattle.std.proofs.Common.{rules}
-use Rattle.station_explain.proofs.ExplainingLaws.{explained}
-use Rattle.station_explain.proofs.explain.print.Goals as goal
+use Rattle.command_run.proofs.ExplainingLaws.{explained}
+use Rattle.command_run.proofs.explaining.print.Goals as goal
 
 pub returns-in-Err : goal.returns-in-Err
 returns-in-Err c c' =
