@@ -76,7 +76,7 @@ TABLE_ROW = re.compile(
 TITLES = {
     b"station,set,target,direction,2c,2i": "list --csv",
     b"set,target,direction,adjusted,residual": "residuals",
-    b"target,stated,least squares,difference": "differences",
+    b"target,stated,least squares,difference,from the median": "differences",
     b"station,set,target,face one,face two,direction,2c,2i,adjusted,residual": "report --csv",
 }
 

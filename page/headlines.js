@@ -55,12 +55,12 @@ export function headlineOf(/** @type {Answer} */ answer) {
 /** So many targets of a table that is apart are named. */
 const MOST_NAMED = 4;
 
-/** The targets that are furthest apart, each with its difference as the call wrote it. */
+/** The targets that are furthest from the median of all, each with its difference from it. */
 export function furthestOf(/** @type {string} */ differences) {
   const all = differencesIn(differences);
-  const greatest = Math.max(...all.map(one => sizeOf(one.difference)));
-  const furthest = all.filter(one => sizeOf(one.difference) === greatest)
-    .map(({ target, difference }) => `${target} ${signed(difference)}\u00a0mgon`);
+  const greatest = Math.max(...all.map(one => sizeOf(one.fromMedian)));
+  const furthest = all.filter(one => sizeOf(one.fromMedian) === greatest)
+    .map(({ target, fromMedian }) => `${target} ${signed(fromMedian)}\u00a0mgon`);
   const more = furthest.length > MOST_NAMED ? ['…'] : [];
   return text('furthest', { targets: [...furthest.slice(0, MOST_NAMED), ...more].join(', ') });
 }

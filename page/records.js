@@ -155,7 +155,8 @@ export function accuracyIn(/** @type {string} */ report) {
 /**
  * By target what a table states and the least-squares direction, in gon, and their difference after
  * the best rotation, in mgon, as the call wrote them.
- * @typedef {{ target: string, stated: string, least: string, difference: string }} Difference
+ * @typedef {{ target: string, stated: string, least: string, difference: string,
+ *   fromMedian: string }} Difference
  */
 
 /**
@@ -164,6 +165,6 @@ export function accuracyIn(/** @type {string} */ report) {
  */
 export function differencesIn(/** @type {string} */ text) {
   const [, ...records] = recordsOf(text);
-  return records.map(({ fields: [target, stated, least, difference] }) =>
-    ({ target, stated, least, difference }));
+  return records.map(({ fields: [target, stated, least, difference, fromMedian] }) =>
+    ({ target, stated, least, difference, fromMedian }));
 }

@@ -73,10 +73,13 @@ function cellWithBar(/** @type {string} */ number, /** @type {number} */ greates
  * @param {Element} parent
  */
 export function differencesTable(differences, parent) {
-  const greatest = Math.max(...differences.map(one => sizeOf(one.difference)));
-  const rows = differences.map(({ target, stated, least, difference }) =>
-    [target, cellWithBar(difference, greatest), { text: stated }, { text: least }]);
-  const headings = ['target', 'difference', 'stated', 'leastSquares'].map(name => text(name));
+  const greatest = Math.max(...differences.map(one => sizeOf(one.fromMedian)));
+  const rows = differences.map(({ target, stated, least, difference, fromMedian }) => [
+    target, cellWithBar(fromMedian, greatest), { text: stated }, { text: least },
+    { text: signed(difference) },
+  ]);
+  const headings = ['target', 'fromMedian', 'stated', 'leastSquares', 'difference']
+    .map(name => text(name));
   tableOf(text('differencesCaption'), headings, /** @type {any} */ (rows), parent, 'numbers bars');
 }
 

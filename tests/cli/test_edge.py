@@ -49,9 +49,9 @@ DEGREES_OFF = edited(TABLE_OFF, (b"50.000060", b"45.000054"))
 WITHIN_15 = b"agrees S1: 2 targets, within 0.015 mgon, limit 0.015 mgon\n"
 
 DIFFERENCES_15 = b"""\
-target,stated,least squares,difference
-A,0.000000,0.000000,-0.015
-B,50.000060,50.000030,0.015
+target,stated,least squares,difference,from the median
+A,0.000000,0.000000,-0.015,0.000
+B,50.000060,50.000030,0.015,0.030
 """
 
 

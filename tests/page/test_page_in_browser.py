@@ -627,7 +627,7 @@ class PageInBrowserTest(TimedTest):
         self.assertEqual("station_check compare station_p7.gsi P7 four.csv", page.text(".exact code"))
         self.assertIn("tables within 0.01 mgon or as they are rounded", page.text("#in-force"))
         page.fill("within", "0.01")
-        furthest = f"Furthest from the least-squares directions: MAST {MINUS}0.025\xa0mgon, P12 +0.025\xa0mgon."
+        furthest = f"Furthest from the least-squares directions: MAST {MINUS}0.038\xa0mgon."
         self.assertEqual([furthest], page.texts(".reason"))
         here = page.text(".here")
         for said in ("The differences of all targets stand below.", "--within in mgon", "Tables are read in gon alone"):
@@ -648,18 +648,18 @@ class PageInBrowserTest(TimedTest):
         middle = (max(apart.values()) + min(apart.values())) / 2
         expected = {name: float((one - middle) * 1000) for name, one in apart.items()}
         saved = page.saved("Save differences (CSV)", "one_differences.csv").decode().splitlines()
-        self.assertEqual("target,stated,least squares,difference", saved[0])
+        self.assertEqual("target,stated,least squares,difference,from the median", saved[0])
         shown = {row[0]: float(row[3]) for row in csv.reader(saved[1:])}
         self.assertEqual(list(expected), list(shown))
         for name, value in expected.items():
             self.assertAlmostEqual(value, shown[name], delta=0.0006)
         self.assertEqual("Differences of one.csv", page.text(".results h3"))
-        self.assertEqual(["\u22120.029", "+0.029"], page.texts(".results section:first-child td.greatest"))
+        self.assertEqual(["+0.056"], page.texts(".results section:first-child td.greatest"))
         # Turned by nearly a full circle the differences are the same.
         turned = "".join(f"{name},{(float(gon) + 399.9) % 400:.5f}\n" for name, gon in csv.reader(other.splitlines()))
         page.empty()
         page.give(P7_FIELD, self.file("one.csv", turned.encode()))
-        self.assertEqual(["\u22120.029", "+0.029"], page.texts(".results section:first-child td.greatest"))
+        self.assertEqual(["+0.056"], page.texts(".results section:first-child td.greatest"))
 
     # ------------------------------------------------------------ files
 

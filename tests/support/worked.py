@@ -46,9 +46,9 @@ ACCEPTED = b"accepted S1: 2 sets, 2 targets, 4 directions, greatest residual 4/4
 AGREES = b"agrees S1: 2 targets, within 0.000 mgon, limit 0.010 mgon\n"
 
 DIFFERENCES = b"""\
-target,stated,least squares,difference
-A,0.000000,0.000000,0.000
-B,50.000030,50.000030,0.000
+target,stated,least squares,difference,from the median
+A,0.000000,0.000000,0.000,0.000
+B,50.000030,50.000030,0.000,0.000
 """
 
 RESIDUALS = b"""\

@@ -84,7 +84,9 @@ target makes 'compare' refuse a table. It is no verdict: however far apart they 
 
 The rotation is the one that makes the largest of the differences smallest: half of the gap between
 the least and the greatest lies on each side of 0. If one target is off by 1 mgon and all others
-agree, the one has 0.500 and the others -0.500, or the other way round.
+agree, the one has 0.500 and the others -0.500, or the other way round. The last column is that
+difference less the median of all, of two in the middle the lower: there the one has 1.000, and the
+others are about 0.
 
 The first row has the titles. Directions are in gon: the stated ones exact, with 6 decimals, or all
 with 9 if one needs more; the least-squares ones counted from the first target, with 6. What is
@@ -104,9 +106,9 @@ Exit status:
 Example:
   station_check differences field.gsi S1 table.csv
 
-  target,stated,least squares,difference
-  A,100.000100,0.000000,0.015
-  B,150.000100,50.000030,-0.015";
+  target,stated,least squares,difference,from the median
+  A,100.000100,0.000000,0.015,0.030
+  B,150.000100,50.000030,-0.015,0.000";
 
 pub const DIRECTIONS_LONG_ABOUT: &str = "\
 Prints the least-squares directions of a station, complete sets or not, as a table: least over all

@@ -6,3 +6,5 @@ pub mod RowLaws
 pub mod LeastLaws
 pub mod AnswerLaws
 pub mod StatedTexts
+pub mod Medians
+pub mod MedianLaws

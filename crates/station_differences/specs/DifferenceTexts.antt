@@ -1,11 +1,12 @@
 -- The text of the differences of a table from its station (profile).
 use Rattle.std.specs.Prelude.{ℕ, ◌+◌, ◌*◌, ◌/◌, ◌%◌, ◌==◌, Bool, if◌then◌else◌, List, [], ◌∷◌, map}
-use Rattle.std.specs.Prelude.{codes}
+use Rattle.std.specs.Prelude.{codes, ℤ, ◌-ℤ◌}
 use Rattle.std.specs.List.{list_all}
 use Rattle.angle_texts.specs.MgonTexts.{mgon_text}
 use Rattle.direction_table.specs.Texts.{direction_text}
 use Rattle.adjust_kernel.specs.declared.units.TheConstants.{CIRCLE, PARTS, UNIT}
 use Rattle.sheet_format.specs.Texts.{rows_text}
+use Rattle.station_differences.specs.Medians.{median_of}
 use Rattle.station_differences.specs.declared.compared.TargetDifference.{TargetDifference}
 
 -- six decimals of a gon write each stated direction of these rows exactly
@@ -27,15 +28,18 @@ stated_text short direction = gon_text short (rounded direction)
 
 -- the titles
 abbrev pub titles : List (List ℕ)
-titles = codes "target" ∷ codes "stated" ∷ codes "least squares" ∷ codes "difference" ∷ []
+titles =
+    codes "target" ∷ codes "stated" ∷ codes "least squares" ∷ codes "difference"
+    ∷ codes "from the median" ∷ []
 
 -- The row of a target: its name, its stated direction and its least-squares direction in gon, and
--- their difference in mgon.
-abbrev pub row_of : Bool → TargetDifference → List (List ℕ)
-row_of short row =
+-- their difference in mgon, as it is and less the median.
+abbrev pub row_of : Bool → ℤ → TargetDifference → List (List ℕ)
+row_of short median row =
     row.target ∷ stated_text short row.stated ∷ direction_text 6 row.least
-    ∷ mgon_text row.difference ∷ []
+    ∷ mgon_text row.difference ∷ mgon_text (row.difference -ℤ median) ∷ []
 
 -- The text: the titles, and the rows of the targets, in their order.
 abbrev pub differences_text : List TargetDifference → List ℕ
-differences_text rows = rows_text (titles ∷ map (row_of (are_short rows)) rows)
+differences_text rows =
+    rows_text (titles ∷ map (row_of (are_short rows) (median_of rows)) rows)

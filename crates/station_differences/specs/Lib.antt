@@ -2,6 +2,7 @@
 -- needs them.
 pub mod BestArcs
 pub mod Differences
+pub mod Medians
 pub mod ByAdjustment
 pub mod DifferenceTexts
 pub mod Stating

@@ -1,5 +1,5 @@
 //! Laws of the definitions that contracts cite. The functions do nothing.
-ghost use Rattle.std.specs.Prelude.{◌≡◌, ℕ, List, All, ℤ, pos, Result};
+ghost use Rattle.std.specs.Prelude.{◌≡◌, ◌≤◌, ℕ, List, All, ℤ, length, pos, true, Result};
 ghost use Rattle.adjust_kernel.specs.Stations.{StationValue};
 ghost use Rattle.adjust_kernel.specs.Within.{IsWithin};
 ghost use Rattle.byte_ends.specs.Source.{Told};
@@ -12,6 +12,7 @@ ghost use Rattle.station_compare.specs.OneAnswer.{IsSettled};
 ghost use Rattle.station_compare.specs.declared.fault.CompareFault.{CompareFault};
 ghost use Rattle.station_differences.specs.Answers.{TellsDifferences};
 ghost use Rattle.station_differences.specs.Differences.{AreCompared, differences_of};
+ghost use Rattle.station_differences.specs.Medians.{is_median, median_of};
 ghost use Rattle.station_differences.specs.declared.compared.TargetDifference.{TargetDifference};
 
 /// Stated directions beside a station are one list of rows. What came of two readers has one answer
@@ -34,4 +35,12 @@ pub fn within_apart()
     ensures { (station : StationValue) (stated : List ℤ) (rows : List TargetDifference)
         (apart : ℕ) → AreCompared station stated rows → AreApart station (stated_by stated) apart
         → All (IsWithin (pos apart)) (differences_of rows) }
+{}
+
+/// Rows that are not none have one lower median: the one that is found.
+pub fn one_median()
+    ensures is { (rows : List TargetDifference) → 1 ≤ length rows
+        → is_median rows (median_of rows) ≡ true }
+    ensures only { (rows : List TargetDifference) (a b : ℤ) → is_median rows a ≡ true
+        → is_median rows b ≡ true → a ≡ b }
 {}

@@ -14,10 +14,12 @@ mod compared;
 mod difference;
 mod differences;
 pub mod laws;
+mod median;
 mod runs;
 mod text;
 
 pub use compared::{TargetDifference, differences_by, target_differences};
 pub use differences::{differences_text, write_differences};
+pub use median::median_of;
 pub use runs::run_differences;
 pub use text::{are_short, push_stated, text_of};

@@ -1,15 +1,18 @@
 //! The text of differences, made in memory.
 //!
 //! The rows go through `csv`'s writer, which puts quotes where a name asks for them.
-ghost use Rattle.std.specs.Prelude.{◌≡◌, ◌++◌, map, IfOk, OnOk, OnErr};
+ghost use Rattle.std.specs.Prelude.{◌≡◌, ◌++◌, ◌-ℤ◌, map, IfOk, OnOk, OnErr};
+ghost use Rattle.angle_texts.specs.MgonTexts.{mgon_text};
 ghost use Rattle.direction_table.specs.Beginnings.{IsBegun};
 ghost use Rattle.csv.specs.Writing.{default_writer, row_text};
 ghost use Rattle.sheet_format.specs.Texts.{Writes, rows_text};
 ghost use Rattle.station_differences.specs.DifferenceTexts as spec;
+ghost use Rattle.station_differences.specs.Medians as medians;
 
 use crate::compared::TargetDifference;
+use crate::median::median_of;
 use adjust_kernel::{CIRCLE, PARTS, UNIT};
-use angle_texts::{digit, push_gon, push_mgon};
+use angle_texts::{digit, push_gon, push_mgon, push_thousandths};
 use csv::{Writer, WriterBuilder};
 use std::alloc::{AllocError, Global};
 use std::io::Write;
@@ -50,6 +53,7 @@ fn push_titles<W: Write + Drop>(writer: &mut Writer<W>) -> Result<(), AllocError
             b"stated".as_slice(),
             b"least squares".as_slice(),
             b"difference".as_slice(),
+            b"from the median".as_slice(),
         ],
     )
 }
@@ -61,12 +65,15 @@ fn push_rows<W: Write + Drop>(
     rows: &[TargetDifference],
 ) -> Result<(), AllocError>
     ensures { OnOk result (Writes W.contents writer.old writer.new
-        (rows_text (map (spec.row_of (spec.are_short rows.now)) rows.now))) }
+        (rows_text (map (spec.row_of (spec.are_short rows.now) (medians.median_of rows.now))
+        rows.now))) }
 {
     let short = are_short(rows);
+    let median = median_of(rows);
     let mut stated = Vec::new(alloc);
     let mut least = Vec::new(alloc);
     let mut difference = Vec::new(alloc);
+    let mut from_median = Vec::new(alloc);
     for row in rows {
         stated.clear();
         push_stated(&mut stated, short, row.stated)?;
@@ -74,6 +81,8 @@ fn push_rows<W: Write + Drop>(
         push_gon(&mut least, row.least)?;
         difference.clear();
         push_mgon(&mut difference, row.difference)?;
+        from_median.clear();
+        push_less(&mut from_median, row.difference, median)?;
         push_row(
             writer,
             &[
@@ -81,10 +90,21 @@ fn push_rows<W: Write + Drop>(
                 stated.as_slice(),
                 least.as_slice(),
                 difference.as_slice(),
+                from_median.as_slice(),
             ],
         )?;
     }
     Ok(())
+}
+
+/// Adds a difference less the median of all, in mgon.
+fn push_less(text: &mut Vec<u8>, difference: i32, median: i32) -> Result<(), AllocError>
+    ensures { OnOk result (text.new.items ≡ text.old.items ++ mgon_text (difference -ℤ median)) }
+{
+    if difference < median {
+        text.push(b'-')?;
+    }
+    push_thousandths(text, difference.abs_diff(median))
 }
 
 /// Writes one row after those that were written. An error of `csv` is out of memory: the text is

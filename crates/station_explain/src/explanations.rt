@@ -1033,8 +1033,9 @@ decimals don't count, nor does 0-00-00. The first number in the line is how far,
 mgon: the least limit with which the table agrees. The second is the limit that it was held to.",
         example: "refused: compare: Apart 0.015 mgon, limit 0.010 mgon",
         remedy: "\
-Print the difference of each target by 'station_check differences', or in the protocol
-of the sets by 'station_check report --table'. The best rotation halves the error of a single
+Print the difference of each target by 'station_check differences': in its last column
+a direction that is wrong stands out alone, by its whole error. The protocol of the sets has the
+differences too, by 'station_check report --table'. The best rotation halves the error of a single
 target, since all others take the other half: 1 mgon shows as 0.500 mgon, and in the differences as
 0.500 beside -0.500. If one row stands out, see what the program did: plain means of incomplete
 sets, weights and observations that it left out give other directions. If all rows differ by no more

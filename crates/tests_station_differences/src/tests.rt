@@ -20,9 +20,9 @@ use test_support::{Observed, S1, TIE, TWO_PARTS, station_of};
 const STATED: &[u8] = b"B;150,0001\nA;100,0001\n";
 
 /// What is printed of it.
-const DIFFERENCES: &[u8] = b"target,stated,least squares,difference\n\
-A,100.000100,0.000000,0.015\n\
-B,150.000100,50.000030,-0.015\n";
+const DIFFERENCES: &[u8] = b"target,stated,least squares,difference,from the median\n\
+A,100.000100,0.000000,0.015,0.030\n\
+B,150.000100,50.000030,-0.015,0.000\n";
 
 fn limits(rt: &impl Abort) -> Limits {
     Limits::new(100, 100).expect(rt, "limits")
@@ -82,42 +82,42 @@ fn two_targets_lie_on_both_sides_of_their_middle(rt: HostRuntime) -> Result<(), 
         // Exactly the least-squares angle, in whichever rotation, and with more than six decimals.
         (
             [123_456_789_012, 173_456_814_012],
-            b"target,stated,least squares,difference\n\
-            A,123.456789012,0.000000,0.000\n\
-            B,173.456814012,50.000025,0.000\n",
+            b"target,stated,least squares,difference,from the median\n\
+            A,123.456789012,0.000000,0.000,0.000\n\
+            B,173.456814012,50.000025,0.000,0.000\n",
         ),
         // Half a unit and one and a half: the middle of two goes up, on both sides of 0.
         (
             [0, 50_000_026_000],
-            b"target,stated,least squares,difference\n\
-            A,0.000000,0.000000,0.000\n\
-            B,50.000026,50.000025,0.001\n",
+            b"target,stated,least squares,difference,from the median\n\
+            A,0.000000,0.000000,0.000,0.000\n\
+            B,50.000026,50.000025,0.001,0.001\n",
         ),
         (
             [0, 50_000_028_000],
-            b"target,stated,least squares,difference\n\
-            A,0.000000,0.000000,-0.001\n\
-            B,50.000028,50.000025,0.002\n",
+            b"target,stated,least squares,difference,from the median\n\
+            A,0.000000,0.000000,-0.001,0.000\n\
+            B,50.000028,50.000025,0.002,0.003\n",
         ),
         (
             [0, 50_000_024_000],
-            b"target,stated,least squares,difference\n\
-            A,0.000000,0.000000,0.001\n\
-            B,50.000024,50.000025,0.000\n",
+            b"target,stated,least squares,difference,from the median\n\
+            A,0.000000,0.000000,0.001,0.001\n\
+            B,50.000024,50.000025,0.000,0.000\n",
         ),
         // What is stated below 0 is printed on the circle.
         (
             [-1_000, 50_000_024_000],
-            b"target,stated,least squares,difference\n\
-            A,399.999999,0.000000,0.000\n\
-            B,50.000024,50.000025,0.000\n",
+            b"target,stated,least squares,difference,from the median\n\
+            A,399.999999,0.000000,0.000,0.000\n\
+            B,50.000024,50.000025,0.000,0.000\n",
         ),
         // Half a circle apart: of the two arcs the one that begins at the first target.
         (
             [200 * GON, 50_000_025_000],
-            b"target,stated,least squares,difference\n\
-            A,200.000000,0.000000,-100000.000\n\
-            B,50.000025,50.000025,100000.000\n",
+            b"target,stated,least squares,difference,from the median\n\
+            A,200.000000,0.000000,-100000.000,0.000\n\
+            B,50.000025,50.000025,100000.000,200000.000\n",
         ),
     ];
     let station = station_of(rt.alloc(), 2, b"AB", &TWO)?;
@@ -132,18 +132,18 @@ fn an_incomplete_station_has_differences_of_fractions(rt: HostRuntime) -> Result
     let cases: [([i64; 3], &[u8]); 2] = [
         (
             [0, 50_000_026_000, 150_000_029_000],
-            b"target,stated,least squares,difference\n\
-            A,0.000000,0.000000,0.010\n\
-            B,50.000026,50.000047,-0.010\n\
-            C,150.000029,150.000049,-0.010\n",
+            b"target,stated,least squares,difference,from the median\n\
+            A,0.000000,0.000000,0.010,0.020\n\
+            B,50.000026,50.000047,-0.010,0.000\n\
+            C,150.000029,150.000049,-0.010,0.000\n",
         ),
         // One direction has a decimal more than six, so all have nine.
         (
             [1_000_000, 50_000_026_400, 150_000_029_000],
-            b"target,stated,least squares,difference\n\
-            A,0.001000000,0.000000,0.510\n\
-            B,50.000026400,50.000047,-0.510\n\
-            C,150.000029000,150.000049,-0.510\n",
+            b"target,stated,least squares,difference,from the median\n\
+            A,0.001000000,0.000000,0.510,1.020\n\
+            B,50.000026400,50.000047,-0.510,0.000\n\
+            C,150.000029000,150.000049,-0.510,0.000\n",
         ),
     ];
     let station = station_of(rt.alloc(), 3, b"ABC", &GAPS)?;
@@ -159,39 +159,39 @@ fn four_targets_have_one_rotation(rt: HostRuntime) -> Result<(), Fail> {
         // One target is off by 1 mgon, and half of that shows at each.
         (
             [0, 100 * GON, 200_001_000_000, 300 * GON],
-            b"target,stated,least squares,difference\n\
-            A,0.000000,0.000000,-0.500\n\
-            B,100.000000,100.000000,-0.500\n\
-            C,200.001000,200.000000,0.500\n\
-            D,300.000000,300.000000,-0.500\n",
+            b"target,stated,least squares,difference,from the median\n\
+            A,0.000000,0.000000,-0.500,0.000\n\
+            B,100.000000,100.000000,-0.500,0.000\n\
+            C,200.001000,200.000000,0.500,1.000\n\
+            D,300.000000,300.000000,-0.500,0.000\n",
         ),
         // Differences of -1, 1, -2 and 0 units, across 0.
         (
             [399_999_999_000, 100_000_001_000, 199_999_998_000, 300 * GON],
-            b"target,stated,least squares,difference\n\
-            A,399.999999,0.000000,0.000\n\
-            B,100.000001,100.000000,0.002\n\
-            C,199.999998,200.000000,-0.001\n\
-            D,300.000000,300.000000,0.001\n",
+            b"target,stated,least squares,difference,from the median\n\
+            A,399.999999,0.000000,0.000,0.000\n\
+            B,100.000001,100.000000,0.002,0.002\n\
+            C,199.999998,200.000000,-0.001,-0.001\n\
+            D,300.000000,300.000000,0.001,0.001\n",
         ),
         // Differences of 0, 100, 200 and 300 gon: an arc from each is as wide, and A is the first.
         (
             [0, 200 * GON, 400 * GON, 200 * GON],
-            b"target,stated,least squares,difference\n\
-            A,0.000000,0.000000,-150000.000\n\
-            B,200.000000,100.000000,-50000.000\n\
-            C,0.000000,200.000000,50000.000\n\
-            D,200.000000,300.000000,150000.000\n",
+            b"target,stated,least squares,difference,from the median\n\
+            A,0.000000,0.000000,-150000.000,-100000.000\n\
+            B,200.000000,100.000000,-50000.000,0.000\n\
+            C,0.000000,200.000000,50000.000,100000.000\n\
+            D,200.000000,300.000000,150000.000,200000.000\n",
         ),
         // Differences of 0, 350, 200 and 150 gon: arcs from B and from D are as wide, and B is
         // first.
         (
             [0, 50 * GON, 400 * GON, 50 * GON],
-            b"target,stated,least squares,difference\n\
-            A,0.000000,0.000000,-75000.000\n\
-            B,50.000000,100.000000,-125000.000\n\
-            C,0.000000,200.000000,125000.000\n\
-            D,50.000000,300.000000,75000.000\n",
+            b"target,stated,least squares,difference,from the median\n\
+            A,0.000000,0.000000,-75000.000,0.000\n\
+            B,50.000000,100.000000,-125000.000,-50000.000\n\
+            C,0.000000,200.000000,125000.000,200000.000\n\
+            D,50.000000,300.000000,75000.000,150000.000\n",
         ),
     ];
     let station = station_of(rt.alloc(), 1, b"ABCD", &QUARTERS)?;
@@ -204,7 +204,7 @@ fn four_targets_have_one_rotation(rt: HostRuntime) -> Result<(), Fail> {
 #[test]
 fn one_target_has_no_difference(rt: HostRuntime) -> Result<(), Fail> {
     let station = station_of(rt.alloc(), 1, b",", &[(0, 0, 7)])?;
-    let want: &[u8] = b"target,stated,least squares,difference\n\",\",399.000000,0.000000,0.000\n";
+    let want: &[u8] = b"target,stated,least squares,difference,from the median\n\",\",399.000000,0.000000,0.000,0.000\n";
     assert_eq!(rt;
         text(&rt, rt.alloc(), &station, &[399 * GON])?.as_slice(),
         want
@@ -285,23 +285,23 @@ fn what_is_stated_in_degrees_is_printed_in_gon(rt: HostRuntime) -> Result<(), Fa
         // 45 degrees and 0.0972 seconds are 50.00003 gon.
         (
             b"A,0-00-00.0000\nB,45-00-00.0972\n",
-            b"target,stated,least squares,difference\n\
-A,0.000000,0.000000,0.000\n\
-B,50.000030,50.000030,0.000\n",
+            b"target,stated,least squares,difference,from the median\n\
+A,0.000000,0.000000,0.000,0.000\n\
+B,50.000030,50.000030,0.000,0.000\n",
         ),
         // 0.2 seconds are 0.00006172839.. gon.
         (
             b"B,45-00-00.20\nA,360-00-00.00\n",
-            b"target,stated,least squares,difference\n\
-A,0.000000000,0.000000,-0.016\n\
-B,50.000061728,50.000030,0.016\n",
+            b"target,stated,least squares,difference,from the median\n\
+A,0.000000000,0.000000,-0.016,0.000\n\
+B,50.000061728,50.000030,0.016,0.032\n",
         ),
         // 0.000001 seconds before 0 are 0.3 of the last decimal, up to a full circle.
         (
             b"A,-0-00-00.000001\nB,45.000027\n",
-            b"target,stated,least squares,difference\n\
-A,0.000000000,0.000000,0.000\n\
-B,50.000030000,50.000030,0.000\n",
+            b"target,stated,least squares,difference,from the median\n\
+A,0.000000000,0.000000,0.000,0.000\n\
+B,50.000030000,50.000030,0.000,0.000\n",
         ),
     ];
     for (table, want) in cases {

@@ -1,4 +1,4 @@
-use Rattle.std.proofs.Common.{List, ℕ, Bool, ◌++◌, ◌∙◌, ap, map, take, subst, FitsSigned, rules}
+use Rattle.std.proofs.Common.{List, ℕ, ◌-ℤ◌, Bool, ◌++◌, ◌∙◌, ap, map, take, subst, FitsSigned, rules}
 use Rattle.std.specs.Int.{w32}
 use mir.Val.{to_z, of_z}
 use Rattle.std.proofs.lemmas.Int.{to_z-of_z}
@@ -8,13 +8,17 @@ use Rattle.direction_table.specs.Texts.{direction_text}
 use Rattle.sheet_format.specs.Texts.{HasWritten, rows_text}
 use Rattle.sheet_format.proofs.TextRows.{entry-more}
 use Rattle.station_differences.specs.DifferenceTexts.{are_short, row_of, stated_text}
+use Rattle.station_differences.specs.Medians.{median_of}
 use Rattle.station_differences.proofs.text.push_rows.Goals as goal
 
 pub loop-row-preserved : goal.loop-row-preserved
 loop-row-preserved g c text h =
     let row = c.row-item.result in
     let short = are_short c.args.rows.now in
+    let median = median_of c.args.rows.now in
     let fits : FitsSigned w32 row.difference = search rules in
+    let found = c.median_of-median.result in
+    let found_fits : FitsSigned w32 found = search rules in
     let stated = c.as_slice.ensures.value ∙ c.in_ok-push_stated.ensures.added
     ∙ ap (λ (t : List ℕ). t ++ stated_text c.are_short-short.result row.stated)
     c.clear.ensures.items
@@ -25,15 +29,22 @@ loop-row-preserved g c text h =
     ∙ ap (λ (t : List ℕ). t ++ mgon_text (to_z w32 (of_z w32 row.difference)))
     c.clear-in-loop-row-2.ensures.items
     ∙ ap mgon_text (to_z-of_z w32 row.difference fits) in
-    let before = text ++ rows_text (map (row_of short) (take c.loop-row.row-index c.args.rows.now))
+    let from_median = c.as_slice-in-loop-row-3.ensures.value ∙ c.in_ok-push_less.ensures
+    ∙ ap (λ (t : List ℕ). t ++ mgon_text (to_z w32 (of_z w32 row.difference) -ℤ
+    to_z w32 (of_z w32 found))) c.clear-in-loop-row-3.ensures.items
+    ∙ ap (λ z. mgon_text (z -ℤ to_z w32 (of_z w32 found))) (to_z-of_z w32 row.difference fits)
+    ∙ ap (λ z. mgon_text (row.difference -ℤ z)) (to_z-of_z w32 found found_fits)
+    ∙ ap (λ z. mgon_text (row.difference -ℤ z)) c.median_of-median.ensures in
+    let before = text ++ rows_text (map (row_of short median) (take c.loop-row.row-index c.args.rows.now))
     in
     let written = rw (
       c.bytes.ensures.value,
       stated,
       least,
       difference,
+      from_median,
     ) at c.in_ok-push_row.ensures in
-    let more = entry-more (row_of short) text c.args.rows.now c.loop-row.row-index row
+    let more = entry-more (row_of short median) text c.args.rows.now c.loop-row.row-index row
     c.row-item.is c.loop-row-test.true in
     subst (λ (t : List ℕ). HasWritten {W = g.row.W.Denot} g.W.Write.contents c.push_row.new.writer
     t) more (written before (c.loop-row.invariant text h))

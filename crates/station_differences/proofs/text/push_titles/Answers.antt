@@ -7,4 +7,5 @@ returns g c =
       c.as_slice-2.ensures,
       c.as_slice-3.ensures,
       c.as_slice-4.ensures,
+      c.as_slice-5.ensures,
     ) at c.push_row.ensures
