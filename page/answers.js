@@ -292,11 +292,10 @@ function leave(files, cards, fields, stations) {
     card?.waiting.push(file);
     if (!card) cards.push({ ...cardOfFile(file), unplaced: 'notReached' });
   }
-  for (const card of cards) {
-    const isJudged = card.judged || !card.station || card.answers.length === 0;
-    if (card.waiting.length === 0 && isJudged) continue;
-    card.isStopped = true;
-    if (card.station) card.mood = moodOf(card);
+  // (files that wait on a card of a station have not been reached; others wait for a station)
+  for (const card of cards.filter(({ station }) => station)) {
+    card.isStopped = card.waiting.length > 0 || (card.answers.length > 0 && !card.judged);
+    card.mood = moodOf(card);
   }
 }
 

@@ -136,7 +136,8 @@ export function besideOf(card, inputs, cards, limits) {
 }
 
 /**
- * The protocol of a card: of a station with its results, where they are loaded.
+ * The protocol of a card: of a station with its results, where they are loaded. Those without are
+ * brief where others are printed too, and stand below each other.
  * @param {Card} card
  * @param {import('./limits.js').Limits} limits
  * @param {Element} parent
@@ -144,10 +145,12 @@ export function besideOf(card, inputs, cards, limits) {
  * @param {string[]} [beside] what is said of what else was handed in
  */
 export function showProtocol(card, limits, parent, page = '', beside = []) {
-  const part = element('article', '', parent, { className: 'protocol' }), { station } = card;
+  const { station } = card, isBrief = page !== '' && !card.results;
+  const className = isBrief ? 'protocol brief' : 'protocol';
+  const part = element('article', '', parent, { className });
   const title = station ? text('protocol', { name: station.listed.name })
     : text('checkOf', { name: card.title });
-  nameItsPages(part, station ? `${title}, ${card.field.shown}` : title, page);
+  if (!isBrief) nameItsPages(part, station ? `${title}, ${card.field.shown}` : title, page);
   element('h1', title, part);
   const facts = element('dl', '', part, { className: 'facts' });
   const files = row('files', facts);
@@ -165,6 +168,7 @@ export function showProtocol(card, limits, parent, page = '', beside = []) {
   showFaults(card, part);
   if (card.results) showResults(card, part);
   else if (station) element('p', text('notOpened'), part);
+  if (isBrief) return;
   const signs = element('div', '', part, { className: 'signs' });
   for (const label of ['observer', 'sign']) element('p', text(label), signs);
   element('p', text('madeBy', { ...made() }), part, { className: 'quiet foot' });

@@ -1087,10 +1087,13 @@ class PageInBrowserTest(TimedTest):
         page.empty()
         page.give(*(self.file(name, FIELD.read_bytes()) for name in names))
         first, *rest = self.printed(page)
-        self.assertEqual(4, len(rest))
-        for name, one in zip(names, rest):
-            self.assertIn(f"Protocol of sets: Station S1, {name}", one)
-            self.assertIn("are printed where they were opened", one)
+        brief = "".join(rest)
+        self.assertEqual(4, brief.count("Protocol of sets: Station S1"))
+        self.assertLess(len(rest), 4)
+        self.assertEqual(4, brief.count("are printed where they were opened"))
+        for name in names:
+            self.assertIn(name, first)
+            self.assertIn(name, brief)
 
     def test_what_was_stopped_is_printed_as_not_checked(self):
         page = self.page()
