@@ -47,8 +47,21 @@ $(foreach crate,$(EVERY),$(eval below_$(crate) := $(filter $(EVERY), \
 $(foreach crate,$(EVERY),$(eval under_$(crate) := \
   $(sort $(below_$(crate)) $(foreach low,$(below_$(crate)),$(under_$(low))))))
 
-# The crates that the program is made of, lowest first.
-CRATES := $(filter $(under_$(PROGRAM_CRATE)) $(PROGRAM_CRATE),$(EVERY))
+# The crates whose wrong bodies are tried: those that are named, as CRATES="gsi_word ..", or all.
+NAMED := $(and $(findstring command line,$(origin CRATES)),$(CRATES))
+
+# The crates that the program is made of, lowest first, and those that the page stands on; which of them
+# are asked for, and all of them.
+override CRATES := $(filter $(under_$(PROGRAM_CRATE)) $(PROGRAM_CRATE),$(EVERY))
+PAGE_CRATES := $(filter $(under_station_page),$(EVERY))
+ASKED := $(if $(filter page,$(IS_WITHIN)),$(PAGE_CRATES),$(CRATES))
+EITHER := $(filter $(CRATES) $(PAGE_CRATES),$(EVERY))
+
+# The program's in the order in which they are begun: those first with which the longest chains begin.
+ORDER := $(shell $(PYTHON) tools/order.py)
+
+# The same in the order in which they are begun: those first with which the longest chains begin.
+ORDER := $(shell $(PYTHON) tools/order.py)
 
 # A file for each crate that is proved as its sources are now: what the proof said, with the time at
 # which it began. And where the libraries and the program are made.
@@ -69,21 +82,12 @@ ifndef IS_WITHIN
 MAKEFLAGS += --jobs=$(JOBS)
 endif
 
-# The longest chains of proofs, in which each crate stands on the one before: the whole takes as long
-# as they do. So each of them is proved by as many processes as there are processors, and what is
-# proved beside them by one, which takes less processor time in all.
-CHAIN := adjust_kernel sheet_format station_check station_compare station_residuals station_report table_report station_record command_run station_program
-CHAIN_OF_BLOCKS := gsi_word station_book station_check
-CHAIN_OF_WORDS := station_check station_explain command_line command_run
-CHAINS := $(CHAIN) $(CHAIN_OF_BLOCKS) $(CHAIN_OF_WORDS)
-IS_BESIDE = $(if $(filter $*,$(CHAINS))$(filter 1,$(JOBS)),,yes)
-
 # What each recipe that proves begins with.
 NEED_TOOLCHAIN = command -v $(RT) > /dev/null || { \
   echo "make: the Rattle toolchain is missing: no command '$(RT)' is found; put it on PATH, or name it as RT=/path/to/rt" >&2; \
   exit 1; }
 
-.PHONY: run page library test sweep check bench install uninstall dist clean
+.PHONY: run try page library test sweep wrong-bodies check bench install uninstall dist clean
 
 # Builds the proved program and runs it on an example.
 run: $(PROGRAM)
@@ -100,6 +104,11 @@ run: $(PROGRAM)
 	@echo '$$ station_check words $(EXAMPLE)'
 	@$(PROGRAM) words $(EXAMPLE)
 
+# Shows the program's answers on an example within minutes, with no proof.
+try:
+	@$(NEED_TOOLCHAIN)
+	@RT='$(RT)' $(PYTHON) tools/try_program.py
+
 # Makes the page that checks in a browser, one file, of the proved calls. The crates that it stands on
 # are proved only where it is older than its sources: so the gate, which makes it of what it has proved
 # itself, leaves nothing to prove again.
@@ -107,13 +116,13 @@ page: $(PAGE)
 
 $(PAGE): $(SOURCES) $(wildcard page/*.py page/*.js page/*.css) page/heap.c page/station_check.html
 	@$(NEED_TOOLCHAIN)
-	@$(MAKE) --no-print-directory --silent IS_WITHIN=page $(filter $(under_station_page:%=$(PROVED)/%),$(CRATES:%=$(PROVED)/%))
+	@$(MAKE) --no-print-directory --silent IS_WITHIN=page $(PAGE_CRATES:%=$(PROVED)/%)
 	@RT='$(RT)' $(PYTHON) page/build.py $@
 
 # Makes the library for C and Python, of the same build of the proved calls as the page. Needs a C compiler.
 library: $(LIBRARY)
 
-$(LIBRARY): $(PAGE) capi/link.sh capi/names.ld
+$(LIBRARY): $(PAGE) capi/link.sh capi/names.ld capi/stated.c capi/station_check.h
 	@$(NEED_TOOLCHAIN)
 	@RT='$(RT)' CC='$(CC)' sh capi/link.sh build/page/lib.a $@
 
@@ -126,12 +135,21 @@ test:
 sweep:
 	@SWEEP=1 $(PYTHON) tests/command_line.py
 
+# Tries the wrong bodies that the gate tries and all others, of every crate or of CRATES="gsi_word ..":
+# each must be refused. What they are tried over is proved before, where it has changed.
+wrong-bodies:
+	@$(NEED_TOOLCHAIN)
+	@$(MAKE) --no-print-directory --silent IS_WITHIN=wrong-bodies $(addprefix $(PROVED)/,$(filter \
+	  $(EITHER),$(foreach crate,$(or $(NAMED),$(EVERY)),$(crate) $(under_$(crate)))))
+	@RT='$(RT)' $(PYTHON) tools/wrong_bodies.py $(NAMED) --jobs $(JOBS)
+
 # Proves every crate over what earlier checks kept.
 check:
 	@$(NEED_TOOLCHAIN)
 	@$(RT) all check
 
-# Measures the program beside a plain one of the same job: time, and instructions where valgrind is found. BENCH has options.
+# Measures the program beside plain ones of the same job: by the clock, with marks that it fails on, and in instructions
+# where valgrind is found. BENCH has options: '--only clock tuned=PATH' is the short form. Nothing else should run.
 bench: $(PROGRAM)
 	@$(PYTHON) bench/bench.py $(BENCH)
 
@@ -185,23 +203,23 @@ clean:
 # Proves a crate over those that it stands on. A failed proof is a failed build. What the proof said
 # is the crate's file in build/proved, which has the time at which the proof began, so that a source
 # that changes meanwhile is proved again.
-$(CRATES:%=$(PROVED)/%): $(PROVED)/%: crates.txt | $(PROVED)
+$(EITHER:%=$(PROVED)/%): $(PROVED)/%: crates.txt | $(PROVED)
 	@$(NEED_TOOLCHAIN)
-	@rm -f $@ $(foreach crate,$(CRATES),$(if $(filter $*,$(under_$(crate))),$(PROVED)/$(crate)))
+	@rm -f $@ $(foreach crate,$(EITHER),$(if $(filter $*,$(under_$(crate))),$(PROVED)/$(crate)))
 	@touch $(MADE)/$*.begun
-	@RT='$(RT)' $(PYTHON) tools/prove.py $* --jobs $(if $(IS_BESIDE),1,$(JOBS)) \
+	@RT='$(RT)' $(PYTHON) tools/prove.py $* --jobs $$($(PYTHON) tools/order.py $* $(JOBS)) \
 	  < /dev/null > $(MADE)/$*.log 2>&1 || { \
 	  $(call say,$* is NOT PROVED: $(MADE)/$*.log ends with); tail -n 20 $(MADE)/$*.log >&2; exit 1; }
 	@flock $(PROVED) sh -c 'touch -r $(MADE)/$*.begun $(MADE)/$*.log && mv $(MADE)/$*.log $@ && \
-	$(call say,$* is proved$(comma) $$(ls $(PROVED) | wc -l) of $(words $(CRATES)))'
+	$(call say,$* is proved$(comma) $$(cd $(PROVED) && ls $(ASKED) 2> /dev/null | wc -l) of $(words $(ASKED)))'
 
 $(PROVED):
 	@mkdir -p $@ $(MADE)
-	@$(call say,proving $(words $(CRATES)) crates$(comma) $(JOBS) side by side; the first time takes minutes)
+	@$(call say,proving $(words $(ASKED)) crates$(comma) $(JOBS) side by side; the first time takes minutes)
 
-$(foreach crate,$(CRATES),$(eval $(PROVED)/$(crate): \
+$(foreach crate,$(EITHER),$(eval $(PROVED)/$(crate): \
   $(filter crates/$(crate)/%,$(SOURCES)) $(below_$(crate):%=$(PROVED)/%)))
 
 # Puts the program where it is run and installed from.
-$(PROGRAM): $(PROVED)/$(PROGRAM_CRATE)
+$(PROGRAM): $(ORDER:%=$(PROVED)/%) $(PROVED)/$(PROGRAM_CRATE)
 	@install -D -m 755 $(MADE)/$(PROGRAM_CRATE) $@

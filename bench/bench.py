@@ -1,20 +1,26 @@
 #!/usr/bin/env python3
-"""Measures station_check beside a plain Rust program of the same job, and beside `cat`.
+"""Measures station_check beside plain Rust programs of the same job: its time and its instructions.
 
-It makes field files of the shapes that users have, builds plain.rs into a temporary folder,
-compares what both programs print byte for byte, and measures each command on each file:
+It makes field files of the shapes that users have, builds plain.rs into a temporary folder, and
+compares what the programs print byte for byte. Then there is a table for each of these:
 
-  time           the least of several runs; all programs take turns, in one run of this script
-  memory         the most that a run held, and how many of its pages were brought in
-  instructions   a byte of the field file, less those of the same command on empty files, counted by
-                 valgrind
+  clock          `words`, `list`, `means` and `check` of files of 16 MB beside the other programs,
+                 and the most memory that a run held
+  instructions   the same on files of up to 2 MB, a byte of the field file, less those of the same
+                 command on empty files, counted by valgrind
+  adjusting      `directions` and all that prints more of an adjustment
+  rows           `list --csv` beside `list`
+  digests        `check --sha256` beside `check` and `sha256sum`
+  mark           `mark` beside `list` of the same job without codes
+  parts          in which functions most instructions are run
 
-Instructions are the figure to keep: times depend on the machine and on what else it does.
+A time is the least of many turns, in which the commands of a row run one after the other. Times
+have marks. At the end it is said which are not kept, and how busy other work kept the machine
+meanwhile: nothing else should run. The status is 1 where a mark is not kept. The marks of `clock`
+are those beside the program that is called `tuned`; where none is, beside the plain one.
 
-`directions` and `compare`, which the plain program has not, are then timed beside `means` of the
-same file, or alone where sets have gaps; it is said whether they keep their marks. So are
-`differences`, `residuals` and `report` beside `directions`, the rows of `list` beside its lines, and
-`mark` beside `list` of the same files without codes.
+`--only clock` is the short form, a minute or two. STATION_CHECK names another program than the
+built one.
 """
 
 import argparse
@@ -24,472 +30,404 @@ import shutil
 import subprocess
 import sys
 import tempfile
-import time
-from dataclasses import dataclass
 from pathlib import Path
-from random import Random
-from typing import Any, Sequence
+from typing import NamedTuple, Sequence
+
+from measure import Command, OtherWork, instructions, least_times, memory, printed, shares
+from shapes import Shape, field_file, job_file
 
 ROOT = Path(__file__).resolve().parent.parent
-PROGRAM = ROOT / "build/station_check"
-CIRCLE = 40_000_000
-HALF = CIRCLE // 2
+PROGRAM = Path(os.environ.get("STATION_CHECK", ROOT / "build/station_check")).resolve()
+PAGE = ROOT / "docs" / "PERFORMANCE.md"
 
-# The words of a command, the first of them the program; what stands in a row of a table; and a
-# sight: the name of its target, its direction and its zenith angle.
-Command = Sequence[str | Path]
-Row = list[str]
-Sight = tuple[str, int, int]
+# What stands before and after a table that is made here.
+BEGIN = "<!-- The table {name}, made by bench/bench.py. -->\n\n"
+END = "\n\n<!-- The end of {name}. -->"
 
-# How rustc builds the plain program: the fastest way that was found.
+# How rustc builds the plain programs: the fastest way that was found.
 RUSTC = ["-C", "opt-level=3", "-C", "lto=fat", "-C", "codegen-units=1", "-C", "panic=abort"]
 
-
-@dataclass(frozen=True)
-class Shape:
-    """A field file: its stations, the sets of each, the targets of each set, and how its lines are
-    written. `gaps` is the share of readings that are left out after the first set; `parts` are
-    sessions of equal numbers of sets and targets, each of which has one target of the one before.
-    A job without codes has so many detail points after the sets of each station."""
-
-    title: str
-    stations: int
-    sets: int
-    targets: int
-    gaps: float = 0
-    parts: int = 1
-    width: int = 8
-    end: str = "\r\n"
-    distances: bool = False
-    shuffled: bool = False
-    details: int = 0
-
-    def name(self) -> str:
-        """What a row of a table calls it."""
-        more = [
-            f"{self.targets} targets",
-            *(["GSI-16"] if self.width == 16 else []),
-            *(["LF"] if self.end == "\n" else []),
-            *(["words 31, 51, 87"] if self.distances else []),
-            *(["shuffled"] if self.shuffled else []),
-            *([f"{self.details:,} detail points"] if self.details else []),
-        ]
-        return f"{self.title}, {', '.join(more)}"
-
-
-SHAPES = (
-    Shape("16 KB", 1, 16, 10),
-    Shape("400 KB", 10, 40, 10),
+# By the clock a command takes at most so many times what the tuned program takes; `words` of GSI-16
+# has a mark of its own.
+TUNED, PLAIN = "tuned", "plain"
+TIMES_TUNED, TIMES_TUNED_OF_LONG_WORDS = 0.92, 0.95
+LARGE = (
     Shape("16 MB", 400, 40, 10),
-    Shape("10 KB", 1, 1, 100),
-    Shape("400 KB", 1, 40, 100),
     Shape("16 MB", 41, 40, 100),
+    Shape("16 MB", 270, 40, 10, width=16),
+    Shape("16 MB", 28, 40, 100, width=16),
+)
+
+# The files in which instructions are counted.
+COUNTED = (
+    Shape("16 KB", 1, 16, 10),
+    Shape("10 KB", 1, 1, 100),
+    Shape("400 KB", 10, 40, 10),
+    Shape("400 KB", 1, 40, 100),
     Shape("400 KB", 10, 40, 10, end="\n"),
+    Shape("400 KB", 1, 40, 100, shuffled=True),
     Shape("800 KB", 10, 40, 10, distances=True),
     Shape("600 KB", 10, 40, 10, width=16),
     Shape("600 KB", 1, 40, 100, width=16, end="\n"),
-    Shape("1.2 MB", 10, 40, 10, width=16, distances=True),
-    Shape("400 KB", 1, 40, 100, shuffled=True),
-    Shape("700 KB, 1,000 stations of 2 sets", 1000, 2, 3),
     Shape("2 MB, 1,000 stations of 4 sets", 1000, 4, 5),
+    Shape("700 KB, 1,000 stations of 2 sets", 1000, 2, 3),
     Shape("200 KB, 1,000 stations of 1 set", 1000, 1, 1),
 )
 
-# The files of `directions` and `compare`, and the mark of each: at most so many times the time of
-# `means`, or so many milliseconds.
+# The files of what is adjusted, and the mark of `directions` and `compare`: so many times `means`,
+# or so many milliseconds. What prints more takes at most so many times what `directions` takes.
 TIMES_MEANS, MILLISECONDS = "times means", "ms"
-STATED = (
-    (Shape("4 KB", 1, 4, 10), (1.1, TIMES_MEANS)),
-    (Shape("400 KB", 10, 40, 10), (30, MILLISECONDS)),
-    (Shape("16 MB", 400, 40, 10), (1.1, TIMES_MEANS)),
-    (Shape("400 KB", 1, 40, 100), (30, MILLISECONDS)),
-    (Shape("280 KB with gaps", 1, 40, 100, gaps=0.3), (30, MILLISECONDS)),
-    (Shape("two sessions with one target in common", 1, 40, 100, parts=2), (30, MILLISECONDS)),
-    (Shape("ten sessions in a row", 1, 40, 100, parts=10), (30, MILLISECONDS)),
+ADJUSTED = (
+    (Shape("4 KB", 1, 4, 10), 1.1, TIMES_MEANS),
+    (Shape("400 KB", 10, 40, 10), 30, MILLISECONDS),
+    (Shape("16 MB", 400, 40, 10), 1.1, TIMES_MEANS),
+    (Shape("400 KB", 1, 40, 100), 30, MILLISECONDS),
+    (Shape("280 KB with gaps", 1, 40, 100, gaps=0.3), 30, MILLISECONDS),
+    (Shape("two sessions with one target in common", 1, 40, 100, parts=2), 30, MILLISECONDS),
+    (Shape("ten sessions in a row", 1, 40, 100, parts=10), 30, MILLISECONDS),
 )
+TIMES_DIRECTIONS = 1.2
+
+# The files of which `list --csv` takes at most so many times what `list` takes.
+LISTED = (LARGE[0], *(shape for shape in COUNTED if shape.stations in (10, 1000)))
+TIMES_LIST = 1.2
 
 # The jobs without codes of `mark`, which takes at most so many times the time of `list`. The last
 # two are refused: more sets than a station may have, of one target.
 JOBS = (
     Shape("16 KB", 1, 16, 10),
     Shape("400 KB", 10, 40, 10),
-    Shape("16 MB", 400, 40, 10),
     Shape("400 KB", 1, 40, 100),
-    Shape("16 MB", 41, 40, 100),
     Shape("600 KB", 10, 40, 10, width=16),
     Shape("800 KB", 10, 40, 10, distances=True),
-    Shape("1.2 MB", 10, 40, 10, width=16, distances=True),
+    Shape("400 KB", 1, 40, 100, shuffled=True),
+    Shape("280 KB with gaps", 1, 40, 100, gaps=0.3),
     Shape("790 KB, 80 stations of 1 set", 80, 1, 100),
     Shape("600 KB, 1,000 stations of 2 sets", 1000, 2, 3),
     Shape("1.3 MB, 1,000 stations of 2 sets", 1000, 2, 3, details=15),
-    Shape("400 KB", 1, 40, 100, shuffled=True),
-    Shape("280 KB with gaps", 1, 40, 100, gaps=0.3),
     Shape("1 MB", 1, 2, 100, details=20_000),
+    Shape("16 MB", 400, 40, 10),
+    Shape("16 MB", 41, 40, 100),
     Shape("400 KB", 1, 4_000, 1),
     Shape("16 MB", 1, 170_000, 1),
 )
-TIMES_LIST = 2
+TIMES_LIST_OF_JOB = 2
 
-# The commands that print more of an adjustment take at most so many times what `directions` takes of
-# the same file, and the rows of the list so many times what its lines take.
-TIMES_BESIDE = 1.2
+# The files and jobs of which it is told in which functions most instructions are run: those that
+# have so many of a hundred.
+PARTED = (Shape("400 KB", 10, 40, 10), Shape("400 KB", 1, 40, 100))
+LEAST_SHARE = 5
 
-# Files that are larger than this many bytes are counted only where it is asked for.
-COUNTED = 1_000_000
+# Files of more bytes than this have fewer turns, and instructions are not counted there.
+LONG = 3_000_000
 
+# A machine is idle where other work keeps at most so many of its threads busy.
+IDLE = 0.1
 
-def word(shape: Shape, index: str, info: str, value: int | str) -> str:
-    """A word with a blank after it."""
-    return f"{index}{info}{value:0>{shape.width}} "
-
-
-def line(shape: Shape, *words: str) -> str:
-    """The line of these words, in the width and with the end of the file's lines."""
-    text = "".join(words).rstrip()
-    return f"{'*' if shape.width == 16 else ''}{text}{shape.end}"
+Row = list[str]
 
 
-def reading(shape: Shape, number: int, target: str, hz: int, v: int) -> str:
-    """The line of a reading."""
-    angles = word(shape, "21", ".102+", hz % CIRCLE), word(shape, "22", ".102+", v)
-    more: list[tuple[str, str, int | str]]
-    more = [("31", "..00+", 45678 + number), ("51", "....+", "0010+000"), ("87", "..10+", 1500)]
-    extra = [word(shape, *one) for one in more] if shape.distances else []
-    return line(shape, word(shape, "11", f"{number % 10000:04}+", target), *angles, *extra)
+class Mark(NamedTuple):
+    """What was measured, and the most that it may be: times another command, or milliseconds."""
+
+    what: str
+    found: float
+    most: float
+
+    def is_kept(self) -> bool:
+        return self.found <= self.most
 
 
-def code(shape: Shape, number: int, value: int, info: int | str | None = None) -> str:
-    """The line of a code."""
-    words = [word(shape, "41", f"{number % 10000:04}+", value)]
-    return line(shape, *words, *([] if info is None else [word(shape, "42", "....+", info)]))
+class Table:
+    """A table, of which each row is printed as soon as it is measured."""
+
+    def __init__(self, name: str, *header: str) -> None:
+        self.name = name
+        self.rows: list[Row] = []
+        self.add([*header])
+        self.add(["---"] * len(header))
+
+    def add(self, row: Row) -> None:
+        """Takes a row, and prints it."""
+        self.rows.append(row)
+        print(line_of(row), flush=True)
 
 
-def sights_of(shape: Shape, draw: Random, number: int, sights: list[Sight]) -> list[Sight]:
-    """What is read in the set of this number, from 1: all, or those of its session, less gaps."""
-    session = (number - 1) * shape.parts // shape.sets
-    size = len(sights) // shape.parts
-    first = max(0, session * size - 1)
-    seen = sights[first:] if session == shape.parts - 1 else sights[first : (session + 1) * size]
-    if shape.gaps and number > 1:
-        seen = [one for one in seen if draw.random() >= shape.gaps]
-    return draw.sample(seen, len(seen)) if shape.shuffled else seen
-
-
-def field_file(shape: Shape) -> str:
-    """The text of stations with small errors in every reading."""
-    draw = Random(1)
-    lines = list[str]()
-    for station in range(1, shape.stations + 1):
-        lines.append(code(shape, len(lines) + 1, 10, f"S{station}"))
-        names = [f"P{target}" for target in range(1, shape.targets + 1)]
-        sights = [
-            (name, draw.randrange(CIRCLE), draw.randrange(9_000_000, 11_000_000)) for name in names
-        ]
-        for number in range(1, shape.sets + 1):
-            lines.append(code(shape, len(lines) + 1, 20, number))
-            begin = draw.randrange(CIRCLE)
-            seen = sights_of(shape, draw, number, sights)
-            for name, hz, v in seen:
-                error = draw.randrange(-50, 51)
-                lines.append(reading(shape, len(lines) + 1, name, hz - begin + error, v))
-            for name, hz, v in reversed(seen):
-                error = draw.randrange(-50, 51)
-                angles = hz - begin + HALF + error, CIRCLE - v + error
-                lines.append(reading(shape, len(lines) + 1, name, *angles))
-    lines.append(code(shape, len(lines) + 1, 30))
-    return "".join(lines)
-
-
-def seen_in_job(shape: Shape, draw: Random, number: int, names: list[str]) -> list[str]:
-    """The targets of a set of a job without codes: the first and the last are those of set 1."""
-    if len(names) == 1:
-        return names
-    first, *between, last = names
-    if number > 1:
-        between = [name for name in between if draw.random() >= shape.gaps]
-        between = draw.sample(between, len(between)) if shape.shuffled else between
-    return [first, *between, last]
-
-
-def job_file(shape: Shape) -> str:
-    """The text of stations as an instrument records them: set-up lines, and no codes."""
-    draw = Random(1)
-    lines = list[str]()
-
-    def read(name: str, face: int) -> None:
-        hz, v = draw.randrange(CIRCLE), draw.randrange(9_000_000, 11_000_000)
-        lines.append(reading(shape, len(lines) + 1, name, hz, v if face == 1 else CIRCLE - v))
-
-    for station in range(1, shape.stations + 1):
-        point = word(shape, "11", f"{len(lines) % 10000:04}+", f"S{station}")
-        lines.append(line(shape, point, word(shape, "88", "..10+", 1543)))
-        names = [f"P{target}" for target in range(1, shape.targets + 1)]
-        for number in range(1, shape.sets + 1):
-            seen = seen_in_job(shape, draw, number, names)
-            for name in seen:
-                read(name, 1)
-            for name in reversed(seen):
-                read(name, 2)
-        for number in range(shape.details):
-            read(f"D{number}", 1)
-    return "".join(lines)
-
-
-def build_plain(folder: Path) -> Path | None:
-    """Builds the plain program, where rustc is found."""
-    if shutil.which("rustc") is None:
-        return None
-    program = folder / "plain"
-    source = Path(__file__).with_name("plain.rs")
-    subprocess.run(["rustc", "--edition", "2021", *RUSTC, "-o", program, source], check=True)
-    return program
-
-
-def run(command: Command, statuses: Sequence[int] = (0,), stderr: int | None = None) -> float:
-    """Runs a command; answers how long it took, in milliseconds."""
-    null = subprocess.DEVNULL
-    start = time.perf_counter_ns()
-    done = subprocess.run(command, close_fds=False, stdin=null, stdout=null, stderr=stderr)
-    took = time.perf_counter_ns() - start
-    if done.returncode not in statuses:
-        sys.exit(f"{' '.join(map(str, command))}: status {done.returncode}")
-    return took / 1e6
-
-
-def printed(command: Command) -> bytes:
-    """What a command prints."""
-    null, pipe = subprocess.DEVNULL, subprocess.PIPE
-    return subprocess.run(command, stdin=null, stdout=pipe, check=True).stdout
-
-
-def least_times(
-    commands: Sequence[Command],
-    runs: int,
-    statuses: Sequence[int] = (0,),
-    stderr: int | None = None,
-) -> list[float]:
-    """The least time of each command; they take turns, and another one begins each round."""
-    times: list[list[float]] = [[] for _ in commands]
-    for turn in range(runs):
-        for place in range(len(commands)):
-            which = (turn + place) % len(commands)
-            times[which].append(run(commands[which], statuses, stderr))
-    return [min(of_one) for of_one in times]
-
-
-def memory(
-    command: Command, folder: Path, statuses: Sequence[int] = (0,), stderr: int | None = None
-) -> tuple[int, int]:
-    """The most memory that a run of a command held, in KB, and how many pages were brought in. A
-    small program has to start it: the kernel counts what its parent held, too."""
-    log = folder / "time.log"
-    run(["time", "--quiet", "--format=%M %R %F", f"--output={log}", *command], statuses, stderr)
-    most, *pages = map(int, log.read_text().split())
-    return most, sum(pages)
-
-
-def instructions(
-    command: Command, folder: Path, statuses: Sequence[int] = (0,), stderr: int | None = None
-) -> int:
-    """How many instructions a command runs."""
-    log = folder / "valgrind.log"
-    tool = ["valgrind", "--tool=cachegrind", "--cache-sim=no", "--cachegrind-out-file=/dev/null"]
-    run([*tool, f"--log-file={log}", *command], statuses, stderr)
-    found = re.search(r"I +refs: +([\d,]+)", log.read_text())
-    assert found, "valgrind has counted nothing"
-    return int(found[1].replace(",", ""))
+def line_of(row: Row) -> str:
+    return "| " + " | ".join(row) + " |"
 
 
 class Bench:
-    """The programs that are measured, the first of them ours, and a folder for their files."""
+    """The programs that are measured, the first of them ours, a folder for their files, and the
+    marks so far."""
 
-    def __init__(
-        self, programs: dict[str, Path], folder: Path, options: argparse.Namespace
-    ) -> None:
+    def __init__(self, programs: dict[str, Path], folder: Path, turns: int) -> None:
         self.programs = programs
         self.folder = folder
-        self.options = options
+        self.gsi = folder / "file.gsi"
+        self.turns = turns
         self.can_count = shutil.which("valgrind") is not None
         self.can_weigh = shutil.which("time") is not None
-        self.empty = folder / "empty"
-        self.empty.touch()
-        self.starts: dict[str, list[int]] = {}
+        self.marks: list[Mark] = []
+        # The program that the marks are those beside, if there is one.
+        self.marked = next((name for name in (TUNED, PLAIN) if name in programs), None)
 
-    def commands(self, words: Command) -> list[Command]:
-        """The command line of each program, and of `cat` of the field file."""
-        commands: list[Command] = [[program, *words] for program in self.programs.values()]
-        return [*commands, ["cat", words[1]]]
+    def file(self, text: str) -> Path:
+        """The field file, which has this text from now on."""
+        self.gsi.write_text(text, newline="")
+        return self.gsi
 
-    def compare(self, words: Command) -> bytes:
+    def is_long(self) -> bool:
+        """Whether the field file is a long one."""
+        return self.gsi.stat().st_size > LONG
+
+    def times(self, commands: Sequence[Command], may_refuse: bool = False) -> list[float]:
+        """The least time of each command, of more turns where they are short."""
+        turns = self.turns * (1 if self.is_long() else 4)
+        return least_times(commands, turns, may_refuse)
+
+    def count(self, command: Command, may_refuse: bool = False) -> int | None:
+        """The instructions of a command, where they are counted."""
+        if not self.can_count or self.is_long():
+            return None
+        return instructions(command, self.folder, may_refuse)
+
+    def of_all(self, shape: Shape) -> dict[str, Command]:
+        """The words of the commands that all programs have, on the file of a shape and its sheet.
+        They print the same."""
+        gsi, sheet = self.file(field_file(shape)), self.folder / "sheet.csv"
+        means: Command = ["means", gsi, f"S{shape.stations}"]
+        sheet.write_bytes(self.same(means))
+        asked: dict[str, Command]
+        asked = {"words": ["words", gsi], "list": ["list", gsi], "means": means}
+        asked["check"] = ["check", gsi, sheet]
+        for words in asked.values():
+            self.same(words)
+        return asked
+
+    def same(self, words: Command) -> bytes:
         """What all programs print alike."""
         outputs = [printed([program, *words]) for program in self.programs.values()]
         if any(output != outputs[0] for output in outputs):
             sys.exit(f"the programs print different texts: {' '.join(map(str, words))}")
         return outputs[0]
 
-    def counted_starts(self, words: Command) -> list[int]:
-        """The instructions of each program's run of this command on empty files, counted once."""
-        name = str(words[0])
-        if name not in self.starts:
-            on_empty: Command = [self.empty if isinstance(word, Path) else word for word in words]
-            # Of empty files `means` and `check` refuse.
-            commands = self.commands(on_empty)
-            quiet = (0, 1), subprocess.DEVNULL
-            self.starts[name] = [instructions(one, self.folder, *quiet) for one in commands]
-        return self.starts[name]
-
-    def row(self, name: str, command: str, gsi: Path, *more: str | Path) -> Row:
-        """What was measured of a command on a field file."""
-        words: Command = [command, gsi, *more]
-        size = gsi.stat().st_size
-        commands = self.commands(words)
-        row = [command, name, *figures(least_times(commands, self.options.runs), 2)]
-        if self.can_weigh:
-            held = [memory(command, self.folder) for command in commands[:-1]]
-            row += [*(f"{most:,}" for most, _ in held), *(f"{pages:,}" for _, pages in held)]
-        if self.can_count:
-            counts = list[float]()
-            if self.options.instructions or size <= COUNTED:
-                starts = self.counted_starts(words)
-                totals = [instructions(command, self.folder) for command in commands]
-                counts = [(total - start) / size for total, start in zip(totals, starts)]
-            row += figures(counts, 1) or [""] * (2 * len(commands) - 2)
-        return row
-
-    def header(self) -> Row:
-        """The titles of these rows."""
-        names = list(self.programs)
-        ratios = [f"of {name}" for name in names[1:]]
-        header = ["command", "file", *(f"{name}, ms" for name in names), "cat, ms", *ratios]
-        if self.can_weigh:
-            header += [f"{name}, {what}" for what in ("KB", "pages") for name in names]
-        if self.can_count:
-            header += [*(f"{name}, a byte" for name in names), "cat, a byte", *ratios]
-        return header
+    def keeps(self, what: str, found: float, most: float) -> bool:
+        """Whether a mark is kept; takes note of it."""
+        self.marks.append(Mark(what, found, most))
+        return self.marks[-1].is_kept()
 
 
-def figures(values: Sequence[float], places: int) -> Row:
-    """Figures of all programs and of `cat`, and then the ratios of ours to the other programs."""
-    ratios = [f"{values[0] / other:.2f}" for other in values[1:-1]]
-    return [*(f"{value:.{places}f}" for value in values), *ratios]
+def yes(is_so: bool) -> str:
+    return "yes" if is_so else "**no**"
 
 
-def show(row: Row) -> None:
-    """Prints a row of a table."""
-    print("| " + " | ".join(row) + " |", flush=True)
-
-
-def measure(bench: Bench) -> None:
-    """The commands that the plain program has too."""
-    show(bench.header())
-    show(["---"] * len(bench.header()))
-    for number, shape in enumerate(SHAPES):
-        gsi = bench.folder / f"{number}.gsi"
-        gsi.write_text(field_file(shape), newline="")
-        sheet = gsi.with_suffix(".csv")
-        means: Command = ["means", gsi, f"S{shape.stations}"]
-        sheet.write_bytes(bench.compare(means))
-        asked: dict[str, Command] = {"words": [], "list": [], "means": means[2:], "check": [sheet]}
-        for command, more in asked.items():
-            if command in bench.options.commands:
-                bench.compare([command, gsi, *more])
-                show(bench.row(shape.name(), command, gsi, *more))
-
-
-def measure_stated(folder: Path, runs: int) -> None:
-    """The times of `directions` and `compare`, beside `means` where sets are complete."""
-    show(["file", "means, ms", "directions, ms", "compare, ms", "mark", "kept"])
-    show(["---"] * 6)
-    for shape, (most, of) in STATED:
-        gsi, table = folder / "stated.gsi", folder / "stated.csv"
-        gsi.write_text(field_file(shape), newline="")
-        station = f"S{shape.stations}"
-        directions: Command = [PROGRAM, "directions", gsi, station]
-        table.write_bytes(printed(directions))
-        commands: list[Command] = [directions, [PROGRAM, "compare", gsi, station, table]]
-        is_complete = shape.gaps == 0 and shape.parts == 1
-        means: list[Command] = [[PROGRAM, "means", gsi, station]] if is_complete else []
-        *of_means, stated, compared = least_times([*means, *commands], runs)
-        limit = most * of_means[0] if of == TIMES_MEANS else most
-        kept = "yes" if max(stated, compared) <= limit else "no"
-        times = [f"{of_means[0]:.2f}" if means else "", f"{stated:.2f}", f"{compared:.2f}"]
-        show([shape.name(), *times, f"{most} {of}", kept])
-
-
-def measure_beside(bench: Bench) -> None:
-    """What commands take beside a simpler one of the same file: in time, and in instructions where
-    these can be counted. The mark is one of instructions where they are."""
-    header = ["command", "file", "ms", "beside, ms", "times"]
-    header += ["million instructions", "beside", "times"] if bench.can_count else []
-    show([*header, "kept"])
-    show(["---"] * (len(header) + 1))
-    gsi, table = bench.folder / "beside.gsi", bench.folder / "beside.csv"
-    for shape, _ in STATED:
-        gsi.write_text(field_file(shape), newline="")
-        of_station: list[str | Path] = [gsi, f"S{shape.stations}"]
-        directions: Command = [PROGRAM, "directions", *of_station]
-        table.write_bytes(printed(directions))
-        named: dict[str, list[str | Path]] = {
-            "differences": ["differences", *of_station, table],
-            "residuals": ["residuals", *of_station],
-            "report": ["report", *of_station],
-            "report --csv": ["report", "--csv", *of_station],
-            "report --table": ["report", f"--table={table}", *of_station],
-        }
-        for name, words in named.items():
-            show(row_beside(bench, name, shape, [PROGRAM, *words], directions))
-    for shape in SHAPES:
-        gsi.write_text(field_file(shape), newline="")
-        rows: Command = [PROGRAM, "list", "--csv", gsi]
-        lines: Command = [PROGRAM, "list", gsi]
-        show(row_beside(bench, "list --csv", shape, rows, lines))
-
-
-def row_beside(
-    bench: Bench, name: str, shape: Shape, command: Command, other: Command
-) -> list[str]:
-    """What a command takes, and what the other one does."""
-    times = least_times([command, other], bench.options.runs)
-    row = [name, shape.name(), *(f"{one:.2f}" for one in times), f"{times[0] / times[1]:.2f}"]
-    counts = []
-    if bench.can_count:
-        size = max(word.stat().st_size for word in command[1:] if isinstance(word, Path))
-        if bench.options.instructions or size <= COUNTED:
-            counts = [instructions(one, bench.folder) for one in (command, other)]
-            row += [*(f"{count / 1e6:.1f}" for count in counts), f"{counts[0] / counts[1]:.2f}"]
-        else:
-            row += [""] * 3
-    mine, its = counts or times
-    return [*row, "yes" if mine <= TIMES_BESIDE * its else "no"]
-
-
-def measure_jobs(bench: Bench) -> None:
-    """The times of `mark` beside those of `list`, the pages that they bring in, and instructions,
-    where these can be counted."""
-    header = ["job without codes", "list, ms", "mark, ms", "of list", "kept"]
-    header += ["list, KB", "mark, KB", "list, pages", "mark, pages"] if bench.can_weigh else []
-    header += ["list, a byte", "mark, a byte", "of list"] if bench.can_count else []
-    show(header)
-    show(["---"] * len(header))
-    for shape in JOBS:
-        gsi = bench.folder / "job.gsi"
-        gsi.write_text(job_file(shape), newline="")
-        commands: list[Command] = [[PROGRAM, "list", gsi], [PROGRAM, "mark", gsi]]
-        quiet: dict[str, Any] = {"statuses": (0, 1), "stderr": subprocess.DEVNULL}
-        listed, marked = least_times(commands, bench.options.runs, **quiet)
-        kept = "yes" if marked <= TIMES_LIST * listed else "no"
-        row = [shape.name(), f"{listed:.2f}", f"{marked:.2f}", f"{marked / listed:.2f}", kept]
-        if bench.can_weigh:
-            held = [memory(command, bench.folder, **quiet) for command in commands]
-            row += [*(f"{most:,}" for most, _ in held), *(f"{pages:,}" for _, pages in held)]
-        if bench.can_count:
-            size = gsi.stat().st_size
-            if bench.options.instructions or size <= COUNTED:
-                counted = [instructions(one, bench.folder, **quiet) / size for one in commands]
-                row += [*(f"{count:.1f}" for count in counted), f"{counted[1] / counted[0]:.2f}"]
+def clock(bench: Bench) -> Table:
+    """The commands that all programs have, by the clock, on files of 16 MB."""
+    names = [*bench.programs]
+    titles = [f"{name}, ms" for name in names] + [f"of {name}" for name in names[1:]]
+    held = [f"{name}, KB" for name in names] if bench.can_weigh else []
+    table = Table("clock", "file", "command", *titles, "at most", "kept", *held)
+    for shape in LARGE:
+        for name, words in bench.of_all(shape).items():
+            commands = [[program, *words] for program in bench.programs.values()]
+            times = dict(zip(names, bench.times(commands)))
+            ratios = {other: times["ours"] / times[other] for other in names[1:]}
+            row = [shape.name(), f"`{name}`", *(f"{one:.2f}" for one in times.values())]
+            row += [f"{one:.3f}" for one in ratios.values()]
+            is_long = name == "words" and shape.width == 16
+            most = TIMES_TUNED_OF_LONG_WORDS if is_long else TIMES_TUNED
+            if bench.marked:
+                what = f"{name} of {shape.name()}, times {bench.marked}"
+                row += [f"{most}", yes(bench.keeps(what, ratios[bench.marked], most))]
             else:
-                row += [""] * 3
-        show(row)
+                row += ["", ""]
+            if bench.can_weigh:
+                row += [f"{memory(command, bench.folder)[0]:,}" for command in commands]
+            table.add(row)
+    if bench.marked != TUNED:
+        print(f"\nbench: no program {TUNED} was named: marks are beside {bench.marked or 'none'}")
+    return table
+
+
+def counted(bench: Bench) -> Table:
+    """The instructions of these commands a byte of smaller files: ours, and ours of the others'."""
+    table = Table("instructions", "file", "`words`", "`list`", "`means`", "`check`")
+    empty, starts = bench.folder / "empty", dict[str, list[int]]()
+    empty.touch()
+    for shape in COUNTED:
+        row = [shape.name()]
+        for name, words in bench.of_all(shape).items():
+            programs = bench.programs.values()
+            if name not in starts:
+                # Of empty files `means` and `check` refuse.
+                on_empty: Command = [empty if isinstance(word, Path) else word for word in words]
+                begun: list[Command] = [[one, *on_empty] for one in programs]
+                starts[name] = [instructions(one, bench.folder, True) for one in begun]
+            totals = [instructions([one, *words], bench.folder) for one in programs]
+            ours, *others = [total - start for total, start in zip(totals, starts[name])]
+            ratios = "".join(f", {ours / other:.2f}" for other in others)
+            row.append(f"{ours / bench.gsi.stat().st_size:.1f}{ratios}")
+        table.add(row)
+    return table
+
+
+def with_count(time: float, count: float | None) -> str:
+    """A time, and instructions where they were counted."""
+    return f"{time:.2f}" + ("" if count is None else f"; {count:.1f}")
+
+
+def adjusting(bench: Bench) -> Table:
+    """What adjusts: beside `means` where sets are complete, and beside `directions`."""
+    printing = ["differences", "residuals", "report", "report --csv", "report --table"]
+    names = ["means", "directions", "compare", *printing]
+    table = Table("adjusting", "file", *(f"`{name}`" for name in names), "kept")
+    sheet = bench.folder / "table.csv"
+    more: dict[str, Sequence[str | Path]]
+    more = {"compare": [sheet], "differences": [sheet], "report --table": [f"--table={sheet}"]}
+    more["report --csv"] = ["--csv"]
+    for shape, most, of in ADJUSTED:
+        of_station: Command = [bench.file(field_file(shape)), f"S{shape.stations}"]
+        is_complete = shape.gaps == 0 and shape.parts == 1
+        commands: dict[str, Command] = {
+            name: [PROGRAM, name.split()[0], *of_station, *more.get(name, [])]
+            for name in names
+            if is_complete or name != "means"
+        }
+        sheet.write_bytes(printed(commands["directions"]))
+        times = dict(zip(commands, bench.times([*commands.values()])))
+        kept = list[bool]()
+        for name in ("directions", "compare"):
+            found = times[name] / times["means"] if of == TIMES_MEANS else times[name]
+            kept.append(bench.keeps(f"{name} of {shape.name()}, {of}", found, most))
+        for name in printing:
+            what, found = f"{name} of {shape.name()}", times[name] / times["directions"]
+            kept.append(bench.keeps(f"{what}, times directions", found, TIMES_DIRECTIONS))
+        counts = {name: bench.count(command) for name, command in commands.items()}
+        millions = {name: None if one is None else one / 1e6 for name, one in counts.items()}
+        cells = {name: with_count(times[name], millions[name]) for name in commands}
+        table.add([shape.name(), *(cells.get(name, "") for name in names), yes(all(kept))])
+    return table
+
+
+def rows(bench: Bench) -> Table:
+    """The rows of the list beside its lines."""
+    table = Table("rows", "file", "`list`", "`list --csv`", "times", "kept")
+    for shape in LISTED:
+        gsi = bench.file(field_file(shape))
+        commands: list[Command] = [[PROGRAM, "list", gsi], [PROGRAM, "list", "--csv", gsi]]
+        times, counts = bench.times(commands), [bench.count(one) for one in commands]
+        millions = [None if count is None else count / 1e6 for count in counts]
+        found = times[1] / times[0]
+        kept = bench.keeps(f"list --csv of {shape.name()}, times list", found, TIMES_LIST)
+        table.add([shape.name(), *map(with_count, times, millions), f"{found:.3f}", yes(kept)])
+    return table
+
+
+def digests(bench: Bench) -> Table:
+    """What digests cost, and what one costs another program."""
+    table = Table("digests", "file", "`check`", "`check --sha256`", "`sha256sum`")
+    shape = LARGE[0]
+    words = bench.of_all(shape)["check"][1:]
+    commands: list[Command] = [[PROGRAM, "check", *words], [PROGRAM, "check", "--sha256", *words]]
+    if shutil.which("sha256sum"):
+        commands.append(["sha256sum", bench.gsi])
+    cells = [f"{time:.2f}" for time in bench.times(commands)]
+    table.add([shape.name(), *cells, *[""] * (3 - len(cells))])
+    return table
+
+
+def marking(bench: Bench) -> Table:
+    """`mark` beside `list` of the same jobs without codes: instructions a byte, and pages."""
+    held = ["`list`, pages", "`mark`, pages", "`mark`, KB"] if bench.can_weigh else []
+    table = Table("mark", "job", "`list`", "`mark`", "times", "kept", *held)
+    for shape in JOBS:
+        gsi = bench.file(job_file(shape))
+        commands: list[Command] = [[PROGRAM, "list", gsi], [PROGRAM, "mark", gsi]]
+        times = bench.times(commands, may_refuse=True)
+        counts = [bench.count(one, may_refuse=True) for one in commands]
+        size, found = gsi.stat().st_size, times[1] / times[0]
+        a_byte = [None if count is None else count / size for count in counts]
+        kept = bench.keeps(f"mark of {shape.name()}, times list", found, TIMES_LIST_OF_JOB)
+        row = [shape.name(), *map(with_count, times, a_byte), f"{found:.3f}", yes(kept)]
+        if bench.can_weigh:
+            (_, listed), (most, marked) = (memory(one, bench.folder, True) for one in commands)
+            row += [f"{listed:,}", f"{marked:,}", f"{most:,}"]
+        table.add(row)
+    return table
+
+
+def parts(bench: Bench) -> Table:
+    """The functions in which commands run most of their instructions."""
+    table = Table("parts", "file", "command", "of a hundred instructions")
+    for shape in PARTED:
+        asked = bench.of_all(shape)
+        asked["directions"] = ["directions", bench.gsi, f"S{shape.stations}"]
+        asked["mark"] = ["mark", bench.folder / "job.gsi"]
+        (bench.folder / "job.gsi").write_text(job_file(shape), newline="")
+        for name, words in asked.items():
+            most = [
+                f"`{function}` {share:.0f}"
+                for function, share in shares([PROGRAM, *words], bench.folder)
+                if share >= LEAST_SHARE
+            ]
+            table.add([shape.name(), f"`{name}`", ", ".join(most)])
+    return table
+
+
+# The tables, by the names of `--only`.
+TABLES = {
+    "clock": clock,
+    "instructions": counted,
+    "adjusting": adjusting,
+    "rows": rows,
+    "digests": digests,
+    "mark": marking,
+    "parts": parts,
+}
+
+
+def of_git(*words: str) -> str:
+    """What git says of the code."""
+    command = ["git", "-C", str(ROOT), *words, "--", "crates", "crates.txt"]
+    return subprocess.run(command, capture_output=True, text=True).stdout.strip()
+
+
+def commit() -> str:
+    """The last commit of the code, and whether it has changed since."""
+    name = of_git("log", "-1", "--format=%h") or "unknown"
+    return f"{name} with changes" if of_git("status", "--porcelain") else name
+
+
+def machine() -> str:
+    """The processors of this machine."""
+    found = re.search(r"^model name\s*: (.*)$", Path("/proc/cpuinfo").read_text(), re.MULTILINE)
+    return f"{os.cpu_count()} threads of {found[1] if found else 'an unknown processor'}"
+
+
+def write_part(table: Table, said: str) -> None:
+    """Puts a table into the page, below what is said of how it was measured."""
+    begin, end = BEGIN.format(name=table.name), END.format(name=table.name)
+    before, rest = PAGE.read_text().split(begin)
+    made = "\n".join([said, "", *map(line_of, table.rows)])
+    PAGE.write_text(before + begin + made + end + rest.split(end)[1])
+
+
+def build(source: Path, folder: Path) -> Path:
+    """Builds a program of one source file."""
+    program = folder / f"built_{source.stem}_{len([*folder.iterdir()])}"
+    subprocess.run(["rustc", "--edition", "2021", *RUSTC, "-o", program, source], check=True)
+    return program
+
+
+def programs_of(others: Sequence[tuple[str, Path]], folder: Path) -> dict[str, Path]:
+    """The programs by their names, ours first; those of which the source is named are built."""
+    sources = [(PLAIN, Path(__file__).with_name("plain.rs")), *others]
+    if not shutil.which("rustc"):
+        print("bench: rustc isn't found: no source is built, so there is no plain program")
+        sources = [(name, path) for name, path in others if path.suffix != ".rs"]
+    built = {name: build(path, folder) if path.suffix == ".rs" else path for name, path in sources}
+    return {"ours": PROGRAM, **built}
 
 
 def named_program(text: str) -> tuple[str, Path]:
@@ -500,44 +438,56 @@ def named_program(text: str) -> tuple[str, Path]:
     return name, Path(path).resolve()
 
 
-def main() -> None:
+def say_at_end(bench: Bench, others: float) -> int:
+    """Says which marks are kept, and whether the machine was idle; answers the status."""
+    lost = [mark for mark in bench.marks if not mark.is_kept()]
+    for mark in lost:
+        print(f"bench: NOT KEPT: {mark.what}: {mark.found:.3f}, at most {mark.most}")
+    if bench.marks:
+        print(f"bench: {len(bench.marks) - len(lost)} of {len(bench.marks)} marks of time are kept")
+    print(f"bench: other work kept {others:.1f} of {os.cpu_count()} threads busy meanwhile")
+    if others > IDLE:
+        print("bench: THE MACHINE WAS NOT IDLE: measure again with nothing else running")
+    return 1 if lost else 0
+
+
+def main() -> int:
     as_it_is = argparse.RawDescriptionHelpFormatter
     parser = argparse.ArgumentParser(description=__doc__, formatter_class=as_it_is)
     name = "NAME=PROGRAM"
-    parser.add_argument(
-        "others", nargs="*", type=named_program, metavar=name, help="measure these too"
-    )
-    parser.add_argument("--runs", type=int, default=9, help="how often each command is timed (9)")
-    counted = "count those of the largest files too: minutes"
-    parser.add_argument("--instructions", action="store_true", help=counted)
-    commands = ["words", "list", "means", "check", "directions", "compare"]
-    commands += ["report", "mark"]
-    parser.add_argument("--commands", nargs="+", default=commands, metavar="COMMAND")
+    also = "measure these too; of a path that ends in .rs it builds the program itself"
+    parser.add_argument("others", nargs="*", type=named_program, metavar=name, help=also)
+    turns = "turns of each command on a large file (25); a smaller one has four times as many"
+    parser.add_argument("--turns", type=int, default=25, help=turns)
+    only = "only this table; it may be said more than once"
+    parser.add_argument("--only", action="append", choices=TABLES, help=only)
+    page = "put the tables into docs/PERFORMANCE.md"
+    parser.add_argument("--page", action="store_true", help=page)
     options = parser.parse_args()
     if not os.access(PROGRAM, os.X_OK):
         sys.exit(f"no program at {PROGRAM}: 'make run' builds it")
+    load = os.getloadavg()[0]
+    print(f"bench: commit {commit()}; {machine()}; load {load:.2f} at the beginning", flush=True)
     with tempfile.TemporaryDirectory() as top:
         folder = Path(top)
-        programs = {"ours": PROGRAM}
-        if plain := build_plain(folder):
-            programs["plain"] = plain
-        else:
-            print("rustc isn't found: there is no plain program to compare with")
-        programs.update(options.others)
-        bench = Bench(programs, folder, options)
+        bench = Bench(programs_of(options.others, folder), folder, options.turns)
+        asked = [*dict.fromkeys(options.only or TABLES)]
         if not bench.can_count:
-            print("valgrind isn't found: no instructions are counted")
+            print("bench: valgrind isn't found: no instructions are counted")
+            asked = [one for one in asked if one not in ("instructions", "parts")]
         if not bench.can_weigh:
-            print("GNU time isn't found: no memory is measured")
-        if set(options.commands) & {"words", "list", "means", "check"}:
-            measure(bench)
-        if set(options.commands) & {"directions", "compare"}:
-            measure_stated(folder, options.runs)
-        if "report" in options.commands:
-            measure_beside(bench)
-        if "mark" in options.commands:
-            measure_jobs(bench)
+            print("bench: GNU time isn't found: no memory is measured")
+        whole = OtherWork()
+        for one in asked:
+            print(f"\n{one}\n", flush=True)
+            beside = OtherWork()
+            table = TABLES[one](bench)
+            if options.page:
+                said = f"Commit {commit()}, {machine()}; other work kept {beside.processors():.1f}"
+                write_part(table, f"{said} of them busy meanwhile.")
+        print()
+        return say_at_end(bench, whole.processors())
 
 
 if __name__ == "__main__":
-    main()
+    sys.exit(main())

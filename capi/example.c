@@ -22,7 +22,7 @@ int main(int count, char **words) {
     char line[STATION_CHECK_LINE];
     size_t length;
     int status = station_check_check(gsi, gsi_length, sheet, sheet_length, STATION_CHECK_FACES,
-                                     STATION_CHECK_FACES, false, 0, line, sizeof line, &length);
+                                     STATION_CHECK_FACES, 0, 0, line, sizeof line, &length);
     fwrite(line, 1, length, status == STATION_CHECK_DONE ? stdout : stderr);
     return status;
 }

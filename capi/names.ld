@@ -1,6 +1,5 @@
-/* What the shared library shows: the proved exports of station_page, by the names of station_check.h. */
-station_check_check = station_page_check;
-station_check_compare = station_page_compare;
+/* What the shared library shows: the proved exports of station_page, by the names of station_check.h.
+ * station_check_check and station_check_compare stand in stated.c. */
 station_check_differences = station_page_differences;
 station_check_directions = station_page_directions;
 station_check_residuals = station_page_residuals;

@@ -15,15 +15,15 @@
  * station_check_compare; any other text may have more bytes than the files.
  *
  * Limits: those of face differences, `two_c` and `two_i`, are in units of 0.01 mgon, at most
- * 1,000,000, and usually STATION_CHECK_FACES. Where `is_stated` is false there is no limit of
- * residuals, or the usual one of a comparison, whatever number stands after it.
+ * 1,000,000, and usually STATION_CHECK_FACES. Where `is_stated` is 0 there is no limit of
+ * residuals, or the usual one of a comparison, whatever number stands after it; any other value
+ * states that number.
  *
  * Names of stations have 1 to 16 bytes from 20 to 7E (hex), without a zero at the end.
  */
 #ifndef STATION_CHECK_H
 #define STATION_CHECK_H
 
-#include <stdbool.h>
 #include <stddef.h>
 #include <stdint.h>
 
@@ -49,7 +49,7 @@ enum {
  * `residual` limits the residuals, in half units of 0.005 mgon, at most 2,000. */
 uint8_t station_check_check(const void *gsi, size_t gsi_length,
                             const void *sheet, size_t sheet_length,
-                            uint32_t two_c, uint32_t two_i, bool is_stated, uint32_t residual,
+                            uint32_t two_c, uint32_t two_i, uint32_t is_stated, uint32_t residual,
                             char *text, size_t room, size_t *length);
 
 /* Compares a table of directions, in gon, with the least-squares ones of a station. The text is the
@@ -58,7 +58,7 @@ uint8_t station_check_check(const void *gsi, size_t gsi_length,
 uint8_t station_check_compare(const void *gsi, size_t gsi_length,
                               const void *table, size_t table_length,
                               const char *station, size_t station_length,
-                              uint32_t two_c, uint32_t two_i, bool is_stated, uint32_t within,
+                              uint32_t two_c, uint32_t two_i, uint32_t is_stated, uint32_t within,
                               char *text, size_t room, size_t *length);
 
 /* The differences of a table of directions from the least-squares ones of a station: a row of

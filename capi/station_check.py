@@ -34,7 +34,6 @@ _DONE, _REFUSED, _OUT_OF_RANGE, _TOO_LITTLE_ROOM = range(4)
 # A text is given so many bytes at least, and so many times more where that was too little.
 _ROOM, _MORE = 1 << 16, 8
 
-_Number = ctypes.c_uint32 | ctypes.c_bool
 
 
 class _Reply(NamedTuple):
@@ -137,6 +136,8 @@ def words(gsi: bytes) -> str:
 def mark(gsi: bytes, station: str | None = None) -> Marked:
     """A copy of a job that was recorded without codes, with codes put in. `station` names the one
     station of a job whose lines name none."""
+    if station == "":
+        raise ValueError("a station has no empty name")
     reply = _call("mark", [gsi, (station or "").encode()], [], texts=2)
     if reply.status == _REFUSED:
         raise Refused(_line(reply.beside))
@@ -153,7 +154,7 @@ def explain(line: str = "") -> str:
     return _answer("explain", [line.encode()], []).decode()
 
 
-def _numbers(*numbers: int) -> Sequence[_Number]:
+def _numbers(*numbers: int) -> Sequence[ctypes.c_uint32]:
     """Numbers as the library takes them. What has no place there is out of every range."""
     for number in numbers:
         if not 0 <= number < 1 << 32:
@@ -161,16 +162,16 @@ def _numbers(*numbers: int) -> Sequence[_Number]:
     return [ctypes.c_uint32(number) for number in numbers]
 
 
-def _stated(limit: int | None) -> Sequence[_Number]:
+def _stated(limit: int | None) -> Sequence[ctypes.c_uint32]:
     """A limit that need not be stated: whether one is, and which."""
-    return [ctypes.c_bool(limit is not None), *_numbers(limit or 0)]
+    return _numbers(limit is not None, limit or 0)
 
 
 def _line(text: bytes) -> str:
     return text.decode().removesuffix("\n")
 
 
-def _answer(name: str, inputs: Sequence[bytes], numbers: Sequence[_Number]) -> bytes:
+def _answer(name: str, inputs: Sequence[bytes], numbers: Sequence[ctypes.c_uint32]) -> bytes:
     """The text that a call answers."""
     reply = _call(name, inputs, numbers)
     if reply.status == _REFUSED:
@@ -178,7 +179,9 @@ def _answer(name: str, inputs: Sequence[bytes], numbers: Sequence[_Number]) -> b
     return reply.text
 
 
-def _call(name: str, inputs: Sequence[bytes], numbers: Sequence[_Number], texts: int = 1) -> _Reply:
+def _call(
+    name: str, inputs: Sequence[bytes], numbers: Sequence[ctypes.c_uint32], texts: int = 1
+) -> _Reply:
     """What a call answers, asked again with more room until that is enough."""
     room = max(_ROOM, 2 * sum(map(len, inputs)))
     while True:
@@ -191,7 +194,7 @@ def _call(name: str, inputs: Sequence[bytes], numbers: Sequence[_Number], texts:
 
 
 def _call_within(
-    room: int, name: str, inputs: Sequence[bytes], numbers: Sequence[_Number], texts: int
+    room: int, name: str, inputs: Sequence[bytes], numbers: Sequence[ctypes.c_uint32], texts: int
 ) -> _Reply:
     """The same, with so much room for each text."""
     buffers = [ctypes.create_string_buffer(room) for _ in range(texts)]

@@ -8,11 +8,13 @@ field file NAME.gsi. A table of directions, NAME.directions.csv or NAME.STATION.
 compared with it; a file that holds a table may leave out '.directions'. If more names fit, the
 longest counts. Extensions may be in capitals too.
 
-A field file is done if `station_check list` names stations in it, and each of them has an
-accepted sheet or a table that agrees. The answer to each sheet and table is printed, and kept in
-NAME.answer beside NAME.csv. A table that belongs to no field file, or to one of its stations by no
-name, is said to be skipped, which is no mistake. So is a file of rows that station_check itself
-printed: by `list --csv`, `residuals`, `differences` or `report --csv`.
+A field file is done if `station_check list` names stations in it, and each of them has an accepted
+sheet or a table that agrees. The answer to each sheet and table is printed, and kept in NAME.answer
+beside NAME.csv, in the place of an older answer; a file of that name that holds none is left as it
+is, and NAME.csv is then not checked. Nothing else is written or removed: an answer whose sheet or
+table is gone is named. A table that belongs to no field file, or to one of its stations by no name,
+is said to be skipped, which is no mistake. So is a file of rows that station_check itself printed:
+by `list --csv`, `residuals`, `differences` or `report --csv`.
 
 Exit status: 0 if there are field files, each is done, and nothing was refused; 1 if not;
 2 if nothing could be checked: a mistake on the command line, no such folder, one that takes no
@@ -47,12 +49,19 @@ TABLE = ".directions"
 # What each run of station_check finds in its environment.
 ENVIRONMENT = dict(os.environb)
 
+# What is said of a name that stands for nothing that can be read.
+NO_FILE = "no file, but a folder, a pipe or a link to nothing"
+
+# How an answer of station_check begins, and how many bytes one has at most: a path may be long.
+ANSWERS = (b"accepted ", b"agrees ", b"refused: ", b"cannot open ", b"error: ")
+LONGEST_ANSWER = 1 << 16
+
 # The exit statuses of station_check.
 ACCEPTED, REFUSED, MISTAKE = 0, 1, 2
 
 COUNTS = rb": \d+ sets, \d+ targets, \d+ directions"
 ACCEPTED_LINE = re.compile(rb"accepted (.*)" + COUNTS + rb", greatest residual \d+/\d+\n")
-AGREES_LINE = re.compile(rb"agrees (.*): \d+ targets, within \d+\n")
+AGREES_LINE = re.compile(rb"agrees (.*): \d+ targets, within [\d.]+ mgon, limit [\d.]+ mgon\n")
 STATION_LINE = re.compile(rb"^station (.*)" + COUNTS + rb"$", re.MULTILINE)
 
 # What tells a table from a sheet, in so many bytes of a file: a sheet has rows of five fields that
@@ -88,6 +97,17 @@ class Result(Enum):
 # ---------------------------------------------------------------- names
 
 
+def shown(text: str) -> str:
+    """A text for a terminal: as it is, or its bytes with escapes if a sign in it controls one."""
+    if text.isprintable():
+        return text
+    plain = range(ord(" "), ord("~") + 1)
+    return "".join(
+        chr(byte) if byte in plain and byte != ord("\\") else f"\\x{byte:02x}"
+        for byte in os.fsencode(text)
+    )
+
+
 def files_by_name(paths: Iterable[str], extension: str) -> dict[str, list[str]]:
     """The files with an extension by their names, without it: more where capitals differ."""
     files = defaultdict(list)
@@ -98,21 +118,33 @@ def files_by_name(paths: Iterable[str], extension: str) -> dict[str, list[str]]:
     return files
 
 
-def head_of(path: str) -> bytes:
-    """The first bytes of a file; none of one that can't be read."""
+def head_of(path: str, length: int = HEAD) -> bytes:
+    """The first bytes of a file; none of one that can't be read, or is a pipe or a folder."""
     try:
+        if not os.path.isfile(path):
+            return b""
         with open(path, "rb") as file:
-            return file.read(HEAD)
+            return file.read(length)
     except OSError:
         return b""
 
 
+def is_answer(path: str) -> bool:
+    """Whether a file, and no link, holds an answer of station_check, or nothing where it was
+    stopped."""
+    if os.path.islink(path) or not os.path.isfile(path):
+        return False
+    printed = head_of(path, LONGEST_ANSWER + 1)
+    return len(printed) <= LONGEST_ANSWER and (not printed or printed.startswith(ANSWERS))
+
+
 def is_table(name: str, path: str) -> bool:
-    """Whether a file is a table of directions, by its name or by what it holds."""
-    if name.lower().endswith(TABLE):
-        return True
+    """Whether a file is a table of directions, by what it holds or by its name: that of a station
+    may end as that of a table."""
     head = head_of(path)
-    return bool(TABLE_ROW.search(head)) and not SHEET_ROW.search(head)
+    if SHEET_ROW.search(head):
+        return False
+    return name.lower().endswith(TABLE) or bool(TABLE_ROW.search(head))
 
 
 def printed_by(path: str) -> str | None:
@@ -163,14 +195,14 @@ class Run(NamedTuple):
     output: str
 
     def status(self) -> int:
-        """Runs it, and answers its exit status."""
-        flags = os.O_WRONLY | os.O_CREAT | os.O_TRUNC
+        """Runs it, and answers its exit status. The file is a new one."""
+        flags = os.O_WRONLY | os.O_CREAT | os.O_EXCL
         takes = (os.POSIX_SPAWN_OPEN, 1, self.output, flags, 0o666)
         both = (os.POSIX_SPAWN_DUP2, 1, 2)
         try:
             run = os.posix_spawn(self.args[0], self.args, ENVIRONMENT, file_actions=[takes, both])
         except OSError as why:  # the program has run before, so it is the output
-            raise Refused(f"cannot write {self.output}: {why.strerror}") from None
+            raise Refused(f"cannot write {shown(self.output)}: {why.strerror}") from None
         return os.waitstatus_to_exitcode(os.waitpid(run, 0)[1])
 
     def printed(self) -> bytes:
@@ -205,9 +237,6 @@ class Folder:
     def __init__(self, program: str, options: Options):
         self.program, self.options = program, options
         paths = [path for path in os.listdir() if not path.startswith(".")]
-        for path in paths:
-            if path.endswith(ANSWER):
-                os.remove(path)
         self.fields = files_by_name(paths, FIELD)
         self.claims: list[Claim] = []
         # The names of files of rows that station_check printed, and by which command.
@@ -223,6 +252,18 @@ class Folder:
                 continue
             field = field_of(name, self.fields)
             self.claims.append(Claim(name, files, is_table(name, files[0]), field))
+        # The files that stand where an answer would, and are none; answers of before are gone.
+        self.in_the_way: set[str] = set()
+        for claim in self.claims:
+            path = claim.name + ANSWER
+            if is_answer(path):
+                os.remove(path)
+            elif os.path.lexists(path):
+                self.in_the_way.add(path)
+        # Answers to sheets and tables that are gone.
+        named = {claim.name + ANSWER for claim in self.claims}
+        others = [path for path in sorted(paths) if path.endswith(ANSWER) and path not in named]
+        self.left_over = [path for path in others if is_answer(path)]
         # Of each field file its stations, and what is said where it has none.
         self.stations: dict[str, list[bytes]] = {}
         self.said: dict[str, str] = {}
@@ -236,6 +277,9 @@ class Folder:
         with tempfile.TemporaryDirectory() as lists:
             runs = []
             for place, (field, files) in enumerate(self.fields.items()):
+                if not os.path.isfile(files[0]):
+                    self.stations[field], self.said[field] = [], NO_FILE
+                    continue
                 words = (self.program, "list", *self.options.limits, f"./{files[0]}")
                 runs.append(Run(field, words, os.path.join(lists, str(place))))
             for run, status in finished(runs, self.options.jobs):
@@ -256,6 +300,10 @@ class Folder:
         for files in claim.paths, self.fields[claim.field]:
             if len(files) > 1:
                 return f"one name for {' and '.join(files)}"
+            if not os.path.isfile(files[0]):
+                return NO_FILE
+        if claim.name + ANSWER in self.in_the_way:
+            return f"{claim.name}{ANSWER} is in the way: it is no answer of station_check"
         if claim.is_table and claim.station(self.stations[claim.field]) is None:
             if claim.field in self.said:
                 return self.said[claim.field]
@@ -308,13 +356,15 @@ class Folder:
         """Prints what came of each sheet and table and is left of each field file; whether all is
         well."""
         for claim in self.claims:
-            print(f"{claim.name}: {self.results[claim.name][1]}")
+            print(shown(f"{claim.name}: {self.results[claim.name][1]}"))
         for name, command in self.printed.items():
-            print(f"{name}: rows that 'station_check {command}' printed")
+            print(shown(f"{name}: rows that 'station_check {command}' printed"))
+        for path in self.left_over:
+            print(shown(f"{path}: an answer of before; no sheet or table has its name"))
         left = {field: self.left(field) for field in self.fields}
         for field, lines in left.items():
             for said in lines:
-                print(f"{field}: {said}")
+                print(shown(f"{field}: {said}"))
         done, files = sum(not lines for lines in left.values()), len(self.fields)
         sheets, tables = self.counts(False), self.counts(True)
         each = [f"{sheets[result]} {result.value}" for result in list(Result)[:3]]
@@ -388,13 +438,13 @@ def enter(folder: str) -> None:
     try:
         os.chdir(folder)
     except OSError as why:
-        raise Refused(f"cannot open {folder}: {why.strerror}") from None
+        raise Refused(f"cannot open {shown(folder)}: {why.strerror}") from None
 
 
 def main() -> int:
     asked = command_line().parse_args()
     if isinstance(sys.stdout, io.TextIOWrapper):
-        sys.stdout.reconfigure(errors="surrogateescape")
+        sys.stdout.reconfigure(errors="backslashreplace")
     try:
         options = options_of(asked)
         program = found_program(options)

@@ -8,11 +8,12 @@ The field file stays as it is. It is taken line by line, so that a file that sta
 can be copied too. These are left out: blocks by their numbers; a set by its station and number;
 with --closing the closing sights, which repeat at the end of a half set, in the same face, the
 target that began it, or its pair at the end of a set; with --broken-off, in a job without codes, a
-last set that was not ended; with --without-codes the blocks of codes 10, 20 and 30. --rename gives
-stated blocks another name: to a measurement its word 11, to a code block its word 42. --capitals
-writes the names of measurements in capitals. --codes puts in the codes of a station whose sets
-begin at stated blocks. --plain writes plain ASCII letters for others, a blank for a tab, and drops
-byte order marks and bytes 1A at the ends of lines.
+last set that was not ended; with --without-codes the blocks of codes 10, 20 and 30. The rules for
+closing sights and broken sets leave nothing out where sights before the sets make it doubtful what
+belongs to a set. --rename gives stated blocks another name: to a measurement its word 11, to a code
+block its word 42. --capitals writes the names of measurements in capitals. --codes puts in the
+codes of a station whose sets begin at stated blocks. --plain writes plain ASCII letters for others,
+a blank for a tab, and drops byte order marks and bytes 1A at the ends of lines.
 
 COPY.gsi.log has each line that was left out, changed or put in. The script prints the command
 that shows that nothing else was changed.
@@ -72,6 +73,26 @@ LAST = None
 
 class Refused(Exception):
     """Why no copy is made."""
+
+
+def escaped(text: str) -> str:
+    """A text whose bytes are escapes where a terminal would not show them, or where it takes one
+    for an escape."""
+    plain = range(ord(" "), ord("~") + 1)
+    return "".join(
+        chr(byte) if byte in plain and byte not in b"\\'" else f"\\x{byte:02x}"
+        for byte in os.fsencode(text)
+    )
+
+
+def shown(text: str) -> str:
+    """A text for a terminal or a log: as it is, or with escapes if a sign in it controls one."""
+    return text if text.isprintable() else escaped(text)
+
+
+def quoted(path: str) -> str:
+    """A path as a word for a shell."""
+    return shlex.quote(path) if path.isprintable() else f"$'{escaped(path)}'"
 
 
 # ---------------------------------------------------------------- blocks
@@ -213,7 +234,7 @@ def lines_of(path: str) -> list[bytes]:
         raise Refused(f"cannot read {path}: {why.strerror}") from None
     if text.startswith(UTF_16) or b"\0" in text[:2]:
         raise Refused(f"{path} is in UTF-16: save it as plain text, in ASCII, first")
-    # A transfer may have left CR CR LF, of which station_check takes the first CR for the line's end.
+    # A transfer may have left CR CR LF, of which station_check takes the first CR for the end.
     lines = re.findall(rb"[^\r\n]*(?:\r*\n|\r)|[^\r\n]+", text)
     if any(line.endswith(b"\r") for line in lines):
         raise Refused("its lines end in CR alone: save it with lines that end in LF or CR LF first")
@@ -317,7 +338,7 @@ def last_pair(readings: list[Block]) -> list[Block]:
 
 def half_sets(readings: list[Block]) -> Iterator[list[Block]]:
     """Readings in one face, up to one of the same target as the reading before it."""
-    for _, run in groupby(readings, Block.face):
+    for _, run in groupby(readings, lambda reading: reading.face()):
         half: list[Block] = []
         for reading in run:
             if half and half[-1].target() == reading.target():
@@ -327,20 +348,87 @@ def half_sets(readings: list[Block]) -> Iterator[list[Block]]:
         yield half
 
 
+def closing_among(readings: list[Block]) -> Iterator[Block]:
+    """The readings of sets that close a half set, or pairs that close a set."""
+    if are_pairs(readings):
+        yield from closing_pairs(readings)
+        return
+    for first, *others in half_sets(readings):
+        if len(others) > 1 and others[-1].target() == first.target():
+            yield others[-1]
+    yield from last_pair(readings)
+
+
 def closing_sights(blocks: list[Block]) -> list[Block]:
     """The readings that close a half set, or pairs that close a set."""
-    closing: list[Block] = []
+    has_codes, closing = any(sets_of(blocks)), list[Block]()
     for readings in readings_together(blocks):
-        if are_pairs(readings):
-            closing += closing_pairs(readings)
-            continue
-        for first, *others in half_sets(readings):
-            if len(others) > 1 and others[-1].target() == first.target():
-                closing.append(others[-1])
-        closing += last_pair(readings)
+        found = list(closing_among(readings))
+        if found and not has_codes:
+            refuse_whole_sets(readings)
+        closing += found
     if not closing:
         raise Refused("no set has a closing sight")
     return closing
+
+
+def read_once(readings: list[Block]) -> list[list[Block]]:
+    """Readings in parts, each up to where a target is read in a face once more."""
+    parts: list[list[Block]] = []
+    seen: set[tuple[str | None, int]] = set()
+    for reading in readings:
+        read = reading.target(), reading.face()
+        if not parts or read in seen:
+            parts.append([])
+            seen = set()
+        parts[-1].append(reading)
+        seen.add(read)
+    return parts
+
+
+def is_whole(part: list[Block]) -> bool:
+    """Whether each target is read in both faces: all in one face and then in the other, or target
+    by target."""
+    turns = [one.face() != then.face() for one, then in zip(part, part[1:])]
+    in_each = [{one.target() for one in part if one.face() == face} for face in (1, 2)]
+    return in_each[0] == in_each[1] and (sum(turns) == 1 or are_pairs(part))
+
+
+def ends_of(part: list[Block]) -> set[str | None]:
+    """The targets with which the first half of a whole set begins and ends."""
+    targets = list(dict.fromkeys(reading.target() for reading in part))
+    return {targets[0], targets[-1]}
+
+
+def leave_whole_sets(before: list[Block], readings: list[Block]) -> bool:
+    """Whether readings are whole sets, with the same ends, and those before may be sights that
+    belong to none: in the face in which the sets begin, or in both."""
+    if not readings:
+        return False
+    parts, face = read_once(readings), readings[0].face()
+    if not all(map(is_whole, parts)) or len({frozenset(ends_of(part)) for part in parts}) > 1:
+        return False
+    in_other_face = {one.target() for one in before if one.face() != face}
+    return in_other_face <= {one.target() for one in before if one.face() == face}
+
+
+def without_details(readings: list[Block]) -> list[Block]:
+    """Readings up to the last of a target that is read in both faces."""
+    read = {(reading.target(), reading.face()) for reading in readings}
+    in_both = [at for at, one in enumerate(readings, 1) if (one.target(), 3 - one.face()) in read]
+    return readings[: max(in_both, default=0)]
+
+
+def refuse_whole_sets(readings: list[Block]) -> None:
+    """Stops where readings, of which closing sights would be left out, may be whole sets."""
+    readings = without_details(readings)
+    for before in range(MOST_BEFORE + 1):
+        if leave_whole_sets(readings[:before], readings[before:]):
+            first = readings[before].number
+            raise Refused(
+                "all sets are whole, and no sight closes one, if the first begins at block "
+                f"{first}: leave out by --blocks what the field book calls a closing sight"
+            )
 
 
 def ends_of_sets(readings: list[Block]) -> Iterator[int]:
@@ -354,22 +442,41 @@ def ends_of_sets(readings: list[Block]) -> Iterator[int]:
         odd[reading.target()] += {1: 1, 2: -1}[reading.face()]
 
 
+def broken_after(readings: list[Block], before: int) -> list[Block] | None:
+    """Where so many readings stand before whole sets, the readings of a last set that lacks a face
+    of a target, or ends with another target than the set before it: none of no such set. Nothing
+    where they aren't whole sets, or more than one set may follow."""
+    sights, rest = readings[:before], readings[before:]
+    if leave_whole_sets(sights, without_details(rest)):
+        return []
+    *_, begin = 0, *ends_of_sets(rest)
+    whole, last = rest[:begin], rest[begin:]
+    if not leave_whole_sets(sights, whole):
+        return None
+    targets = {reading.target() for reading in whole}
+    while last[-1].target() not in targets:  # detail points
+        last.pop()
+    faces = Counter((reading.target(), reading.face()) for reading in last)
+    if max(faces.values()) > 1:
+        return None
+    is_even = all(faces[target, 1] == faces[target, 2] for target in targets)
+    return [] if is_even and last[-1].target() == whole[-1].target() else last
+
+
 def broken_set(readings: list[Block]) -> list[Block]:
-    """The readings of a last set that lacks a face of a target, or ends with another target than
-    the set before it; none where no set was broken off, or more than one may stand there."""
-    for before in range(MOST_BEFORE + 1):
-        if ends := list(ends_of_sets(readings[before:])):
-            begin = before + ends[-1]
-            whole, last = readings[before:begin], readings[begin:]
-            targets = {reading.target() for reading in whole}
-            while last[-1].target() not in targets:  # detail points
-                last.pop()
-            faces = Counter((reading.target(), reading.face()) for reading in last)
-            if max(faces.values()) > 1:
-                return []
-            is_even = all(faces[target, 1] == faces[target, 2] for target in targets)
-            return [] if is_even and last[-1].target() == whole[-1].target() else last
-    return []
+    """The readings of a last set that was broken off, however many stand before the sets; none
+    where all sets may be whole."""
+    found = [broken_after(readings, before) for before in range(MOST_BEFORE + 1)]
+    divided = [broken for broken in found if broken is not None]
+    if not all(divided) or not divided:
+        return []
+    numbers = {range_said(broken[0].number, broken[-1].number) for broken in divided}
+    if len(numbers) > 1:
+        raise Refused(
+            f"the last set that was broken off may have {' or '.join(sorted(numbers))}: leave out "
+            "by --blocks what the field book says"
+        )
+    return divided[0]
 
 
 def broken_off(blocks: list[Block]) -> list[Block]:
@@ -551,8 +658,8 @@ def without_end(line: bytes) -> bytes:
 def log_of(asked: Namespace, blocks: list[Block], said: str, changes: Changes) -> Iterator[bytes]:
     """The log: what was asked for and why, and the lines as they were and are, as `diff` has them:
     of those that follow each other first all that were, then all that are."""
-    names = f"{os.path.basename(asked.copy)} is {os.path.basename(asked.field)}"
-    yield f"{names} {said}\n".encode()
+    copy, field = (shown(os.path.basename(path)) for path in (asked.copy, asked.field))
+    yield f"{copy} is {field} {shown(said)}\n".encode()
     yield f"why: {asked.why}\n".encode()
     number = {block.place: block.number for block in blocks}
     lines = {block.place: block.line for block in blocks}
@@ -711,8 +818,8 @@ def main() -> None:
     try:
         done = prepared(asked)
     except (Refused, OSError) as why:
-        sys.exit(f"prepare.py: {why}")
-    field, copy, log = map(shlex.quote, (asked.field, asked.copy, f"{asked.copy}.log"))
+        sys.exit(f"prepare.py: {shown(str(why))}")
+    field, copy, log = map(quoted, (asked.field, asked.copy, f"{asked.copy}.log"))
     others = f"diff -a -d {field} {copy} | grep -a '^[<>]'"
     print(f"{done}; nothing else is changed if this prints nothing:")
     print(f"  {others} | diff -a - {log} | grep -a '^[<>] [<>]'")

@@ -1,8 +1,8 @@
 // Which call is asked for which files, and what it answered: a card for each station, and for each
 // file that belongs to none. Nothing here decides a verdict.
 import { ask, digestOf } from './work.js';
-import { fieldOfSheet, stationOfSheet, stationOfTable, stemOf } from './files.js';
-import { commandOf } from './limits.js';
+import { fieldOfSheet, stationOfSheet, stationOfTable, stemOf, tellApart } from './files.js';
+import { commandOf, isWithin } from './limits.js';
 import { each, greatestOf, recognizedIn, residualsIn, stationsOf } from './records.js';
 
 /**
@@ -18,20 +18,33 @@ import { each, greatestOf, recognizedIn, residualsIn, stationsOf } from './recor
  * @typedef {{ command: string, asked: string, status: number, line: string, explanation: string,
  *   field: Input, other?: Input, station?: Station, greatest?: import('./records.js').Residual,
  *   differences?: string }} Answer
- * What is shown of a station, or of a file without one: `readings` counts those of a file without
- * sets, `waiting` has the files that can't be checked yet, `unplaced` the text that says why a file
- * has no place, `marked` is the answer when codes were put into a copy, and `recognized` what it
- * told of the card's station, and at the first card of a copy of the stations without sets too; of
- * a job that needs a name what would be recognized by any.
- * @typedef {{ title: string, mood: Mood, field?: Input, station?: Station, answers: Answer[],
- *   waiting: Input[], readings?: number, unplaced?: string, marked?: Answer,
- *   recognized?: import('./records.js').Recognized[], results?: Results }} Card
+ * What came of the limit of residuals, to which each station is held: whether it is kept, and the
+ * residuals of which that was seen, with the greatest. An accepted sheet was held to it by its own
+ * call, and so was one that was refused for it: then no residuals are told.
+ * @typedef {{ isKept: boolean, residuals?: Answer,
+ *   greatest?: import('./records.js').Residual }} Judged
+ * What is shown of a station, or of a file without one, which is `file`: `readings` counts those of
+ * a file without sets, `waiting` has the files that are not checked yet, `isStopped` says that the
+ * work was stopped before they were, `unplaced` is the text that says why a file has no place,
+ * `marked` the answer when codes were put into a copy, and `recognized` what it told of the card's
+ * station, and at the first card of a copy of the stations without sets too; of a job that needs a
+ * name what would be recognized by any.
+ * @typedef {{ title: string, mood: Mood, file: Input, field?: Input, station?: Station,
+ *   answers: Answer[], waiting: Input[], isStopped?: boolean, readings?: number, unplaced?: string,
+ *   marked?: Answer, recognized?: import('./records.js').Recognized[], judged?: Judged,
+ *   results?: Results }} Card
  * The results of a station.
  * @typedef {{ directions: Answer, residuals: Answer, report: Answer }} Results
  */
 
 /** Statuses of a call: those of the program's command, and the call's own. */
 export const ACCEPTED = 0, REFUSED = 1, OUT_OF_RANGE = 2, TOO_LITTLE_ROOM = 3;
+
+/**
+ * So many bytes are read at most, again and again, to judge the residuals of all stations of a
+ * field file that have no results to be checked: of more they are judged when they are opened.
+ */
+const MOST_READ = 200_000_000;
 
 /** The name by which it is tried whether a job lacks nothing else: no station has it. */
 const NAME_TO_TRY = '?';
@@ -66,7 +79,8 @@ export const filesOf = (/** @type {Card} */ { field, answers }) =>
  * @param {Input} file
  * @returns {Card}
  */
-const cardOfFile = file => ({ title: file.name, mood: 'open', answers: [], waiting: [] });
+const cardOfFile = file =>
+  ({ title: file.shown, mood: 'open', file, answers: [], waiting: [] });
 
 /**
  * The cards of a field file: of its fault, of each of its stations, or that it has none.
@@ -140,7 +154,7 @@ async function answerOfMark(field, station = '') {
   if (status !== ACCEPTED) return answer;
   const digest = await digestOf({ name: copy, bytes });
   const kind = /** @type {const} */ ('field');
-  return { ...answer, other: { name: copy, bytes, kind, digest, original: field } };
+  return { ...answer, other: { name: copy, shown: copy, bytes, kind, digest, original: field } };
 }
 
 // ---------------------------------------------------------------- sheets and tables
@@ -183,15 +197,47 @@ async function answerOfTable(table, station, limits) {
   return status === ACCEPTED ? { ...answer, differences: text } : answer;
 }
 
-/** The card that an answer belongs to takes it; it is good only where all its answers are. */
-function take(/** @type {Card} */ card, /** @type {Answer} */ answer) {
-  card.answers.push(answer);
-  card.mood = card.answers.every(one => one.status === ACCEPTED) ? 'good' : 'bad';
+// ---------------------------------------------------------------- the limit of residuals
+
+/** A refusal for a residual above its limit, which names the observation. */
+const RESIDUAL = /^refused: (?:kernel|adjust): Residual /;
+
+/**
+ * Holds a station to the limit of residuals: where no call has done it, by the greatest residual
+ * that the call wrote, with its three decimals.
+ * @param {Card} card
+ * @param {Limits} limits
+ */
+export async function judge(card, limits) {
+  const { station, answers } = card;
+  if (!station || card.judged) return;
+  const isAccepted = answers.some(one => one.asked === 'check' && one.status === ACCEPTED);
+  if (isAccepted || answers.some(one => RESIDUAL.test(one.line))) {
+    card.judged = { isKept: isAccepted };
+  } else {
+    const residuals = await residualsOf(station, limits);
+    if (residuals.status !== ACCEPTED) {
+      card.judged = { isKept: false, residuals };
+    } else {
+      const greatest = greatestOf(residualsIn(residuals.line));
+      card.judged = { isKept: isWithin(greatest.residual, limits), residuals, greatest };
+    }
+  }
+  card.mood = moodOf(card);
 }
+
+/** How a card of a station, or of an answer, looks: good only where nothing of it is left. */
+function moodOf(/** @type {Card} */ { answers, isStopped, judged }) {
+  if (judged?.isKept === false || answers.some(one => one.status !== ACCEPTED)) return 'bad';
+  if (isStopped) return 'open';
+  return answers.length > 0 ? 'good' : 'read';
+}
+
+// ---------------------------------------------------------------- all files
 
 /**
  * Makes the cards of all files, one after the other, so that those that are made stay where it is
- * stopped; `told` hears before each file how far it is.
+ * stopped, and what was not reached is said; `told` hears before each file how far it is.
  * @param {Input[]} inputs
  * @param {Limits} limits
  * @param {Card[]} cards where they are put
@@ -200,22 +246,73 @@ function take(/** @type {Card} */ card, /** @type {Answer} */ answer) {
 export async function makeCards(inputs, limits, cards, told) {
   const of = (/** @type {string} */ kind) => inputs.filter(input => input.kind === kind);
   const fields = of('field'), others = [...of('sheet'), ...of('table')];
-  if (fields.length === 0) return;
-  let done = 0;
-  const tell = (/** @type {Input} */ file) =>
-    told(++done, fields.length + others.length, file.name);
-  for (const field of fields) {
-    tell(field);
-    cards.push(...await cardsOfField(field, limits));
-    field.digest ||= await digestOf(field);
+  const left = new Set(fields.length > 0 ? [...fields, ...others] : []), all = left.size;
+  const tell = (/** @type {Input} */ file) => told(all - left.size + 1, all, file.shown);
+  const stations = () => cards.flatMap(card => card.station ?? []);
+  const read = () => each(cards.flatMap(card => card.field ?? []));
+  try {
+    for (const field of fields) {
+      tell(field);
+      field.digest ||= await digestOf(field);
+      cards.push(...await cardsOfField(field, limits));
+      left.delete(field);
+    }
+    tellApart([...inputs, ...read().filter(field => field.original)]);
+    for (const file of others) {
+      if (!left.has(file)) continue;
+      tell(file);
+      file.digest ||= await digestOf(file);
+      await placeFile(file, cards, read(), stations(), limits);
+      left.delete(file);
+    }
+    for (const card of cards) {
+      const mine = cards.filter(one => one.field === card.field).length;
+      const isFew = card.field && mine * card.field.bytes.length <= MOST_READ;
+      if (isFew || card.answers.length > 0) await judge(card, limits);
+    }
+  } catch (error) {
+    leave(left, cards, read(), stations());
+    throw error;
   }
-  const stations = cards.flatMap(card => card.station ?? []);
-  const read = each(cards.map(card => card.field));
-  for (const file of others) {
-    tell(file);
-    await placeFile(file, cards, read, stations, limits);
-    file.digest ||= await digestOf(file);
+}
+
+/**
+ * Says of files that were not reached that they were not, on the cards where they belong: none of
+ * these is good.
+ * @param {Iterable<Input>} files
+ * @param {Card[]} cards
+ * @param {Input[]} fields
+ * @param {Station[]} stations
+ */
+function leave(files, cards, fields, stations) {
+  for (const file of files) {
+    const isField = file.kind === 'field';
+    const station = isField ? undefined : placeOfFile(file, fields, stations).station;
+    const card = cards.find(one => station && one.station === station);
+    card?.waiting.push(file);
+    if (!card) cards.push({ ...cardOfFile(file), unplaced: 'notReached' });
   }
+  // (files that wait on a card of a station have not been reached; others wait for a station)
+  for (const card of cards.filter(({ station }) => station)) {
+    card.isStopped = card.waiting.length > 0 || (card.answers.length > 0 && !card.judged);
+    card.mood = moodOf(card);
+  }
+}
+
+/**
+ * Where a sheet or a table belongs: its field file and its station, as far as they are found.
+ * @param {Input} file
+ * @param {Input[]} fields
+ * @param {Station[]} stations
+ * @returns {{ field?: Input, station?: Station }}
+ */
+function placeOfFile(file, fields, stations) {
+  if (file.kind === 'table') {
+    const station = stationOfTable(file, fields, stations);
+    return { field: station?.field, station };
+  }
+  const field = fieldOfSheet(file, fields, stations), name = stationOfSheet(file);
+  return { field, station: stations.find(one => one.field === field && one.listed.name === name) };
 }
 
 /**
@@ -227,12 +324,7 @@ export async function makeCards(inputs, limits, cards, told) {
  * @param {Limits} limits
  */
 async function placeFile(file, cards, fields, stations, limits) {
-  const isSheet = file.kind === 'sheet';
-  const compared = isSheet ? undefined : stationOfTable(file, fields, stations);
-  const field = isSheet ? fieldOfSheet(file, fields, stations) : compared?.field;
-  const isOfSheet = (/** @type {Station} */ one) =>
-    one.field === field && one.listed.name === stationOfSheet(file);
-  const station = isSheet ? stations.find(isOfSheet) : compared;
+  const isSheet = file.kind === 'sheet', { field, station } = placeOfFile(file, fields, stations);
   const lone = field ?? (fields.length === 1 ? fields[0] : undefined);
   const blocked = lone && !stations.some(one => one.field === lone);
   if (blocked) {
@@ -246,7 +338,8 @@ async function placeFile(file, cards, fields, stations, limits) {
       : await answerOfTable(file, station, limits);
     let card = cards.find(one => station && one.station === station);
     if (!card) cards.push(card = { ...cardOfFile(file), field });
-    take(card, answer);
+    card.answers.push(answer);
+    card.mood = moodOf(card);
   }
 }
 

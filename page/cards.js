@@ -3,14 +3,16 @@ import {
   ACCEPTED, OUT_OF_RANGE, REFUSED, filesOf, isWithoutName, meansOf,
 } from './answers.js';
 import { button, element, menuOf, ofProgram, save } from './elements.js';
-import { stemOf } from './files.js';
+import { originalOf, stemOf } from './files.js';
 import {
-  apartIn, furthestOf, headlineOf, headlineOfCard, meaningOf, recognizedText,
+  furthestOf, headlineOf, headlineOfCard, isApart, judgedText, meaningOf, recognizedText, titleOf,
+  waitingText,
 } from './headlines.js';
 import { pictureFile } from './picture.js';
 import { placeOf } from './place.js';
 import { protocolFile } from './protocol.js';
 import { isComplete, residualsIn } from './records.js';
+import { showExplanation, showFault, showPlace } from './refusals.js';
 import { showResultsInTurn } from './results.js';
 import { facesFile } from './tables.js';
 import { text } from './texts.js';
@@ -18,94 +20,17 @@ import { text } from './texts.js';
 /**
  * @typedef {import('./answers.js').Card} Card
  * @typedef {import('./answers.js').Answer} Answer
- * What a card asks of the page: the limits, to load its results, to print it, to name the station
- * of a field file.
+ * What a card asks of the page: the limits, to load its results, what its protocol says of what
+ * else was handed in, to print it, to name the station of a field file.
  * @typedef {{ limits: import('./limits.js').Limits, load: (card: Card) => Promise<void>,
- *   print: (card: Card) => void, name: (field: Input, station: string) => void }} Desk
+ *   beside: (card: Card) => string[], print: (card: Card) => void,
+ *   name: (field: Input, station: string) => void }} Desk
  * @typedef {import('./files.js').Input} Input
  * Gives what is in a file that can be saved; nothing where there is none, and it is said why.
  * @typedef {() => string | null | Promise<string | null>} Content
  */
 
-/** So many pixels are seen right of what is meant, in a line that is longer than its room. */
-const BESIDE_MARK = 24;
-
 const MOODS = { good: 'moodGood', bad: 'moodBad', read: 'moodRead', open: 'moodOpen' };
-
-// ---------------------------------------------------------------- refusals
-
-/**
- * The lines around a fault, with its place marked.
- * @param {import('./place.js').Place} place
- * @param {Element} parent
- */
-function showPlace({ where, lines, first, end }, parent) {
-  element('p', where, parent, { className: 'where' });
-  if (lines.length === 0) return;
-  const around = element('pre', '', parent, { className: 'lines' });
-  around.setAttribute('aria-label', where);
-  for (const { number, text: line, isMeant } of lines) {
-    const row = element('span', '', around, { className: isMeant ? 'line meant' : 'line' });
-    if (number) element('span', number, row, { className: 'number' });
-    const content = element('span', '', row, { className: 'content' });
-    if (!isMeant) content.textContent = line;
-    else {
-      content.append(line.slice(0, first));
-      element('mark', line.slice(first, end), content);
-      content.append(line.slice(end));
-    }
-    around.append('\n');
-  }
-  const meant = around.querySelector('mark');
-  if (!meant || first === 0) return;
-  // What is meant may stand right of what a phone shows. (All that is new is laid out at once.)
-  requestAnimationFrame(() => {
-    around.scrollLeft = meant.offsetLeft + meant.offsetWidth + BESIDE_MARK - around.clientWidth;
-  });
-}
-
-/**
- * The paragraphs of an explanation, as flowing text without its sample line.
- * @returns {string[]}
- */
-export const paragraphsOf = (/** @type {string} */ explanation) => explanation.trim()
-  .split(/\n\s*\n/)
-  .filter(paragraph => !/^ +refused: /.test(paragraph))
-  .map(paragraph => paragraph.split('\n').map(line => line.trim()).join(' '));
-
-/**
- * What the page has in the place of what an explanation names.
- * @type {[RegExp, string][]}
- */
-const HERE = [
-  [/station_check differences/, 'hereDifferences'],
-  [/--(two-c|two-i|residual|within)/, 'hereLimits'],
-  [/--degrees/, 'hereGon'],
-  [/prepare\.py/, 'hereEditor'],
-];
-
-/** Says what stands in the place of options and scripts that an explanation names. */
-function showHere(/** @type {string} */ explanation, /** @type {Element} */ parent) {
-  const said = HERE.filter(([named]) => named.test(explanation)).map(([, name]) => text(name));
-  if (said.length === 0) return;
-  const part = element('p', '', parent, { className: 'here' });
-  element('strong', `${text('here')} `, part).after(said.join(' '));
-}
-
-function showExplanation(/** @type {string} */ explanation, /** @type {Element} */ parent) {
-  const part = element('div', '', parent, { className: 'explanation' });
-  part.setAttribute('role', 'note');
-  part.setAttribute('aria-label', text('whatItMeans'));
-  element('p', text('whatItMeans'), part, { className: 'label' });
-  const [, ...paragraphs] = paragraphsOf(explanation);
-  for (const paragraph of paragraphs) {
-    const [, lead, rest] = paragraph.match(/^(What to do: )?([^]*)$/);
-    const said = ofProgram('p', '', part);
-    if (lead) element('strong', lead, said);
-    said.append(rest);
-  }
-  showHere(explanation, part);
-}
 
 // ---------------------------------------------------------------- an answer
 
@@ -131,21 +56,38 @@ function showCommand({ line, command, status }, parent) {
  * @param {Element} parent
  */
 function showAnswer(answer, desk, parent) {
-  const { status, line, field, other, station, explanation } = answer;
+  const { status, line, other, explanation } = answer;
   const mood = status === ACCEPTED ? 'good' : 'bad';
   const part = element('div', '', parent, { className: `answer ${mood}` });
-  if (other) element('p', other.name, part, { className: 'label name' });
-  const headline = element('p', headlineOf(answer, desk.limits), part, { className: 'headline' });
-  if (status === REFUSED && !apartIn(line) && explanation) {
+  if (other) element('p', other.shown, part, { className: 'label name' });
+  const headline = element('p', headlineOf(answer), part, { className: 'headline' });
+  if (status === REFUSED && !isApart(line) && explanation) {
     headline.append(' ');
     ofProgram('span', meaningOf(answer), headline);
   }
-  if (apartIn(line) && answer.differences)
+  if (isApart(line) && answer.differences)
     element('p', furthestOf(answer.differences), part, { className: 'reason' });
-  const place = status === REFUSED ? placeOf(line, field, other, station) : null;
-  if (place) showPlace(place, part);
-  if (explanation) showExplanation(explanation, part);
+  showFault(answer, part);
   showCommand(answer, part);
+}
+
+/**
+ * What came of the limit of residuals, where no answer of the card says it.
+ * @param {Card} card
+ * @param {Desk} desk
+ * @param {Element} parent
+ */
+function showJudged(card, desk, parent) {
+  const said = judgedText(card, desk.limits), { judged, station } = card;
+  if (!said) return;
+  if (judged.isKept) {
+    element('p', said, parent);
+    return;
+  }
+  const part = element('div', '', parent, { className: 'answer bad' });
+  element('p', said, part, { className: 'headline' });
+  showFault({ ...judged.residuals, station }, part);
+  if (judged.residuals.status !== ACCEPTED) showCommand(judged.residuals, part);
 }
 
 // ---------------------------------------------------------------- results
@@ -171,7 +113,8 @@ function showButtons(card, desk, parent) {
     said.textContent = text('saved', { name: file });
   });
   const protocol = `${stemOf(field)}_${name}.html`;
-  offer('saveProtocol', protocol, () => protocolFile(card, desk.limits), 'text/html');
+  offer('saveProtocol', protocol, () => protocolFile(card, desk.limits, desk.beside(card)),
+    'text/html');
   if (results.directions.status === ACCEPTED)
     offer('saveDirections', `${name}_directions.csv`, () => `${results.directions.line}\n`);
   if (results.residuals.status === ACCEPTED) {
@@ -196,7 +139,8 @@ function showButtons(card, desk, parent) {
 }
 
 /**
- * The results, which are asked for when they are first opened.
+ * The results, which are asked for when they are first opened; those that are there already are
+ * shown at once, so that the keyboard finds its place again.
  * @param {Card} card
  * @param {Desk} desk
  * @param {boolean} isOpen
@@ -208,10 +152,10 @@ function showOpening(card, desk, isOpen, parent) {
   const names = ['directions', 'residuals', 'faces'].map(name => text(name));
   element('summary', names.join(' · '), part);
   let isFilled = false;
-  part.ontoggle = async () => {
-    if (!part.open || isFilled) return;
+  const fill = async () => {
+    if (isFilled) return;
     isFilled = true;
-    await desk.load(card);
+    if (!card.results) await desk.load(card);
     isFilled = card.results !== undefined;
     if (isFilled) {
       showButtons(card, desk, part);
@@ -219,7 +163,15 @@ function showOpening(card, desk, isOpen, parent) {
     }
     part.classList.add('filled');
   };
-  part.open = isOpen;
+  let was = part.open = isOpen;
+  if (isOpen) fill();
+  part.ontoggle = () => {
+    const field = originalOf(card.field);
+    // (the browser tells of the first state too)
+    if (part.open !== was) (field.opened ??= new Map()).set(card.title, part.open);
+    was = part.open;
+    if (part.open) fill();
+  };
 }
 
 // ---------------------------------------------------------------- jobs without codes
@@ -234,7 +186,7 @@ function showOpening(card, desk, isOpen, parent) {
 function showMarked({ marked, recognized }, desk, parent) {
   const { line, other, field, command } = marked;
   const part = element('div', '', parent, { className: 'marked' });
-  element('p', text('markedCopy', { name: field.name }), part, { className: 'label' });
+  element('p', text('markedCopy', { name: field.shown }), part, { className: 'label' });
   for (const one of recognized) element('p', recognizedText(one), part);
   element('p', text('compareBook'), part);
   const buttons = element('div', '', part, { className: 'buttons' });
@@ -255,8 +207,9 @@ function showMarked({ marked, recognized }, desk, parent) {
 function askName(field, desk, action, parent, className = 'button') {
   const form = element('form', '', parent, { className: 'buttons' });
   const label = element('label', `${text('stationName')} `, form);
-  const about = { type: 'text', maxLength: 16, value: field.station ?? '' };
+  const about = { type: 'text', maxLength: 16, value: field.typed ?? field.station ?? '' };
   const name = /** @type {HTMLInputElement} */ (element('input', '', label, about));
+  name.oninput = () => { field.typed = name.value; };
   element('button', text(action), form, { type: 'submit', className });
   form.onsubmit = event => {
     event.preventDefault();
@@ -301,19 +254,13 @@ function showTodo(card, desk, parent) {
   else if (card.marked) showUnmarked(card, desk, parent);
 }
 
-/** Why files of a card are not checked yet. */
-function waitingFor(/** @type {Card} */ { mood, marked }) {
-  if (mood === 'bad') return 'waiting';
-  return marked && isWithoutName(marked) ? 'waitingForName' : 'waitingForSets';
-}
-
 function showDigests(/** @type {Card} */ card, /** @type {Element} */ parent) {
   const files = filesOf(card).filter(file => file.digest);
   if (files.length === 0) return;
   const list = element('ul', '', parent, { className: 'digests quiet' });
-  for (const { name, digest } of files) {
+  for (const { shown, digest } of files) {
     const item = element('li', '', list);
-    element('span', name, item, { className: 'name' });
+    element('span', shown, item, { className: 'name' });
     item.append(' ');
     ofProgram('code', text('digest', { digest }), item);
   }
@@ -323,27 +270,26 @@ function showDigests(/** @type {Card} */ card, /** @type {Element} */ parent) {
  * Shows a card.
  * @param {Card} card
  * @param {Desk} desk
- * @param {boolean} isOpen whether its results are open
+ * @param {boolean} isFew whether its results are open where the user has not said it
  * @param {Element} parent
  */
-export function showCard(card, desk, isOpen, parent) {
+export function showCard(card, desk, isFew, parent) {
   const part = element('article', '', parent, { className: `card ${card.mood}` });
   const head = element('header', '', part);
   element('span', text(MOODS[card.mood]), head, { className: 'mood' });
-  const title = card.station ? text('station', { name: card.title }) : card.title;
-  part.setAttribute('aria-label', title);
-  element('h2', title, head, { className: card.station ? '' : 'name' });
-  if (card.station) element('span', card.field.name, head, { className: 'quiet name' });
+  part.setAttribute('aria-label', titleOf(card));
+  element('h2', titleOf(card), head, { className: card.station ? '' : 'name' });
+  if (card.station) element('span', card.field.shown, head, { className: 'quiet name' });
   if (card.marked?.other) showMarked(card, desk, part);
   for (const answer of card.answers) showAnswer(answer, desk, part);
   if (card.answers.length === 0)
     element('p', headlineOfCard(card), part, { className: 'headline' });
+  showJudged(card, desk, part);
   if (card.station && card.answers.length === 0) element('p', text('nothingCompared'), part);
   if (card.readings !== undefined) showTodo(card, desk, part);
-  if (card.waiting.length > 0) {
-    const names = card.waiting.map(file => file.name).join(', ');
-    element('p', text(waitingFor(card), { names }), part);
-  }
-  if (card.station) showOpening(card, desk, isOpen, part);
+  if (card.waiting.length > 0) element('p', waitingText(card), part);
+  else if (card.isStopped) element('p', text('notJudged'), part);
+  const opened = card.station && originalOf(card.field).opened?.get(card.title);
+  if (card.station) showOpening(card, desk, opened ?? isFew, part);
   showDigests(card, part);
 }

@@ -5,11 +5,14 @@ import { each, recordsOf } from './records.js';
  * What a file is: a field file, a sheet or a table; or why it is none of them.
  * @typedef {'field' | 'sheet' | 'table' | 'spreadsheet' | 'utf16' | 'empty' | 'unread' |
  *   'other'} Kind
- * A file that was handed in: `choice` is the place that the user chose for it, `station` the name
- * that the user gave to a field file without one, and `original` the field file that a marked copy
- * is of. The digest is there once the file was judged.
- * @typedef {{ name: string, bytes: Uint8Array, kind: Kind, digest: string, choice?: string,
- *   station?: string, original?: Input }} Input
+ * A file that was handed in: `shown` is its name as the page shows it, `choice` the station that
+ * the user chose for it, `station` the name that the user gave to a field file without one, `typed`
+ * the name that is being typed, and `original` the field file that a marked copy is of. `opened`
+ * says of the stations of a field file by their names whether the user opened or closed their
+ * results. The digest is there once the file was judged.
+ * @typedef {{ name: string, shown: string, bytes: Uint8Array, kind: Kind, digest: string,
+ *   choice?: { field: Input, name: string }, station?: string, typed?: string, original?: Input,
+ *   opened?: Map<string, boolean> }} Input
  * A station of a field file, with its residuals once they were asked for.
  * @typedef {{ field: Input, listed: import('./records.js').Listed,
  *   residuals?: import('./answers.js').Answer }} Station
@@ -35,6 +38,36 @@ const SEPARATORS = [',', ';', '\t', ' '];
 
 /** The text of bytes; what is no text shows as a sign. */
 export const textOf = (/** @type {Uint8Array} */ bytes) => new TextDecoder().decode(bytes);
+
+/** Signs of a name that are not seen, or change the order in which others are. */
+export const UNSEEN =
+  /[\0-\x1f\x7f-\x9f\u00ad\u061c\u200b-\u200f\u2028-\u202e\u2060-\u206f\ufeff]/g;
+
+function escaped(/** @type {string} */ sign) {
+  const digits = sign.charCodeAt(0).toString(16);
+  return digits.length > 2 ? `\\u{${digits}}` : `\\x${digits.padStart(2, '0')}`;
+}
+
+/**
+ * Says how files are shown: by their names, those of one name each with a number of its own, so
+ * that they are told apart. What is not seen in a name is shown as an escape.
+ */
+export function tellApart(/** @type {Input[]} */ files) {
+  const names = files.map(file => file.name.replace(UNSEEN, escaped)), taken = new Set(names);
+  files.forEach((file, at) => {
+    const name = names[at], before = names.slice(0, at).filter(one => one === name).length;
+    file.shown = name;
+    if (names.indexOf(name) === names.lastIndexOf(name)) return;
+    for (let nth = before + 1; taken.has(file.shown); nth++) file.shown = `${name} (${nth})`;
+    taken.add(file.shown);
+  });
+}
+
+/** Whether a file plays a part: it is a field file, a sheet or a table. */
+export const isUsed = (/** @type {Input} */ { kind }) => ['field', 'sheet', 'table'].includes(kind);
+
+/** The file that was handed in, of a file that may be a marked copy of it. */
+export const originalOf = (/** @type {Input} */ file) => file.original ?? file;
 
 /** The name of a file without what stands after its last point. */
 export const stemOf = (/** @type {{ name: string }} */ file) => file.name.replace(EXTENSION, '');
@@ -70,7 +103,7 @@ export function stationOfSheet(/** @type {Input} */ sheet) {
  * The field files with the longest name that begins this one, as in a folder: `NAME.STATION.csv`.
  */
 function fieldsByName(/** @type {string} */ name, /** @type {Input[]} */ fields) {
-  const stem = (/** @type {Input} */ field) => stemOf(field.original ?? field);
+  const stem = (/** @type {Input} */ field) => stemOf(originalOf(field));
   const fit = fields.filter(field =>
     [...'._-'].some(end => name.startsWith(`${stem(field)}${end}`)));
   const longest = Math.max(...fit.map(field => stem(field).length));
@@ -79,7 +112,15 @@ function fieldsByName(/** @type {string} */ name, /** @type {Input[]} */ fields)
 
 /** The place of a station, as the list of files names it. */
 export const placeName = (/** @type {Station} */ { field, listed }) =>
-  `${field.name}: ${listed.name}`;
+  `${field.shown}: ${listed.name}`;
+
+/**
+ * Whether a station is the one that the user chose for a file: that of this very field file, or of
+ * a copy of it, and not one of the same name.
+ * @param {Input} file
+ */
+export const isChosen = ({ choice }, /** @type {Station} */ { field, listed }) =>
+  choice?.field === originalOf(field) && choice.name === listed.name;
 
 /**
  * Those that pass, or all where none does: a hint narrows the choice, and never empties it.
@@ -100,7 +141,7 @@ function narrowed(all, passes) {
  * @returns {Input | undefined}
  */
 export function fieldOfSheet(sheet, fields, stations) {
-  const chosen = stations.find(station => placeName(station) === sheet.choice);
+  const chosen = stations.find(station => isChosen(sheet, station));
   if (chosen) return chosen.field;
   const byName = fieldsByName(sheet.name, fields);
   if (byName.length === 1) return byName[0];
@@ -134,7 +175,7 @@ function shared(/** @type {Station} */ station, /** @type {Set<string>} */ names
  * @returns {Station | undefined}
  */
 export function stationOfTable(table, fields, stations) {
-  const chosen = stations.find(station => placeName(station) === table.choice);
+  const chosen = stations.find(station => isChosen(table, station));
   if (chosen) return chosen;
   const byName = fieldsByName(table.name, fields);
   let left = narrowed(stations, station => byName.includes(station.field));

@@ -1,12 +1,14 @@
 // The answer in words and mgon, of each kind.
 import { ACCEPTED, OUT_OF_RANGE, TOO_LITTLE_ROOM, isWithoutName } from './answers.js';
-import { APART, mgonOf, signed } from './numbers.js';
+import { isUsed, originalOf, stationOfSheet } from './files.js';
+import { HALF, mgonOf, plain, signed } from './numbers.js';
 import { differencesIn, sizeOf } from './records.js';
 import { text } from './texts.js';
 
 /**
  * @typedef {import('./answers.js').Answer} Answer
  * @typedef {import('./answers.js').Card} Card
+ * @typedef {import('./files.js').Input} Input
  * @typedef {import('./limits.js').Limits} Limits
  */
 
@@ -19,9 +21,14 @@ export function meaningOf(/** @type {Answer} */ { explanation }) {
   return `${meaning.charAt(0).toUpperCase()}${meaning.slice(1)}.`;
 }
 
-/** How far a table is apart that was refused for that, in 0.001 mgon; else no number. */
-export const apartIn = (/** @type {string} */ line) =>
-  Number(line.match(/^refused: compare: Apart (\d+)/)?.[1]);
+/** Whether a line refuses a table for being apart. */
+export const isApart = (/** @type {string} */ line) => line.startsWith('refused: compare: Apart ');
+
+/** How far a table is apart and the limit that it was held to, in mgon, as a line has them. */
+function howFarIn(/** @type {string} */ line) {
+  const [, apart, limit] = line.match(/([\d.]+) mgon, limit ([\d.]+) mgon/) ?? ['', '', ''];
+  return { apart: plain(apart), limit: plain(limit) };
+}
 
 function acceptedHeadline(/** @type {Answer} */ { line, greatest }) {
   if (/greatest residual 0\//.test(line)) return text('acceptedZero');
@@ -31,22 +38,18 @@ function acceptedHeadline(/** @type {Answer} */ { line, greatest }) {
 }
 
 function agreesHeadline(/** @type {string} */ line) {
-  const [, n, within] = line.match(/: (\d+) targets, within (\d+)/) ?? [];
-  return n ? text('agrees', { n, within: mgonOf(Number(within), APART) }) : text('agreesBare');
+  const n = line.match(/: (\d+) targets, within /)?.[1];
+  return n ? text('agrees', { n, ...howFarIn(line) }) : text('agreesBare');
 }
 
 /** The answer in words and mgon. */
-export function headlineOf(/** @type {Answer} */ answer, /** @type {Limits} */ limits) {
+export function headlineOf(/** @type {Answer} */ answer) {
   const { status, line, asked } = answer;
   if (status === OUT_OF_RANGE) return text('outOfRange');
   if (status === TOO_LITTLE_ROOM) return text('noRoom');
   if (status === ACCEPTED)
     return asked === 'compare' ? agreesHeadline(line) : acceptedHeadline(answer);
-  const units = apartIn(line);
-  if (!units) return text('refused');
-  const apart = mgonOf(units, APART);
-  if (limits.within === null) return text('refusedApartByDecimals', { apart });
-  return text('refusedApart', { apart, within: mgonOf(limits.within, APART) });
+  return isApart(line) ? text('refusedApart', howFarIn(line)) : text('refused');
 }
 
 /** So many targets of a table that is apart are named. */
@@ -63,9 +66,9 @@ export function furthestOf(/** @type {string} */ differences) {
 }
 
 /** The answer in words, and what the fault of a refusal is. */
-export const saidOf = (/** @type {Answer} */ answer, /** @type {Limits} */ limits) =>
-  answer.explanation && !apartIn(answer.line)
-    ? `${headlineOf(answer, limits)} ${meaningOf(answer)}` : headlineOf(answer, limits);
+export const saidOf = (/** @type {Answer} */ answer) =>
+  answer.explanation && !isApart(answer.line)
+    ? `${headlineOf(answer)} ${meaningOf(answer)}` : headlineOf(answer);
 
 /**
  * How many sets, targets and directions a station has, in words.
@@ -93,4 +96,76 @@ export function headlineOfCard(/** @type {Card} */ card) {
   if (card.station) return text('readWell', countsOf(card.station.listed));
   if (card.marked) return text(isWithoutName(card.marked) ? 'nothingNamed' : 'nothingRecognized');
   return text('nothingChecked');
+}
+
+/**
+ * What came of the limit of residuals, in words: nothing where an answer of the card says it, or
+ * nothing was held to it yet.
+ */
+export function judgedText(/** @type {Card} */ { judged }, /** @type {Limits} */ limits) {
+  const { isKept, residuals, greatest } = judged ?? {};
+  if (!residuals) return '';
+  if (!greatest) return text('notAdjusted', { why: meaningOf(residuals) });
+  const { set, target, residual } = greatest, limit = mgonOf(limits.residual, HALF);
+  const about = { size: residual.replace('-', ''), set, target, limit };
+  return text(isKept ? 'residualKept' : 'residualAbove', about);
+}
+
+/** Why files of a card are not checked yet. */
+export function waitingText(/** @type {Card} */ { mood, marked, isStopped, waiting }) {
+  const names = waiting.map(file => file.shown).join(', ');
+  if (isStopped) return text('waitingStopped', { names });
+  if (mood === 'bad') return text('waiting', { names });
+  return text(marked && isWithoutName(marked) ? 'waitingForName' : 'waitingForSets', { names });
+}
+
+/** What a file is, in words. */
+export function kindText(/** @type {Input} */ file) {
+  const names = {
+    field: 'kindField', sheet: 'kindSheet', table: 'kindTable', spreadsheet: 'kindSpreadsheet',
+    utf16: 'kindUtf16', empty: 'kindEmpty', unread: 'kindUnread', other: 'kindOther',
+  };
+  return text(names[file.kind], { station: file.kind === 'sheet' ? stationOfSheet(file) : '' });
+}
+
+/** The name of a card: its station, or its file. */
+export const titleOf = (/** @type {Card} */ { station, title }) =>
+  station ? text('station', { name: title }) : title;
+
+/**
+ * All that is said of a card in words: its refusals, or else its answers, and what came of the
+ * limit of residuals where it is not kept.
+ * @param {Card} card
+ * @param {Limits} limits
+ */
+export function saidOfCard(card, limits) {
+  const refused = card.answers.filter(one => one.status !== ACCEPTED);
+  const answers = (refused.length > 0 ? refused : card.answers).map(one => saidOf(one));
+  const said = answers.length > 0 ? answers : [headlineOfCard(card)];
+  if (card.judged?.isKept === false) said.push(judgedText(card, limits));
+  return said.filter(one => one !== '').join(' ');
+}
+
+/**
+ * What came of a file, in words, on each card that speaks of it; what it is where none does.
+ * @param {Input} file
+ * @param {Card[]} cards
+ * @param {Limits} limits
+ * @returns {[string, string][]} each with the mood in which it is said
+ */
+export function saidOfFile(file, cards, limits) {
+  /** @type {[string, string][]} */
+  const said = [];
+  const of = (/** @type {Card} */ card, /** @type {string} */ words) =>
+    text('labelled', { label: titleOf(card), said: words });
+  for (const card of cards) {
+    const { field, answers, mood, waiting } = card;
+    if (card.file === file && !field) said.push([mood, headlineOfCard(card)]);
+    else if (field && originalOf(field) === file && (card.station || !answers[0]?.other))
+      said.push([mood, of(card, saidOfCard(card, limits))]);
+    for (const one of answers.filter(({ other }) => other === file))
+      said.push([one.status === ACCEPTED ? mood : 'bad', of(card, saidOf(one))]);
+    if (waiting.includes(file)) said.push(['open', of(card, waitingText(card))]);
+  }
+  return said.length > 0 ? said : [['open', isUsed(file) ? text('notReached') : kindText(file)]];
 }

@@ -1,4 +1,5 @@
 // The limits that the calls are given, as fields in mgon.
+import { UNSEEN } from './files.js';
 import { APART, FACE, HALF, mgonOf, unitsIn } from './numbers.js';
 import { text } from './texts.js';
 
@@ -24,6 +25,9 @@ export const LIMITS = {
   },
   decimals: { id: 'decimals', label: 'limitDecimals', per: 1, usual: 6, least: 1, most: 8 },
 };
+
+/** A number of mgon with three decimals is so many of its last one. */
+const THOUSAND = 1000;
 
 const NAMES = Object.keys(LIMITS);
 const field = (/** @type {string} */ name) =>
@@ -61,11 +65,22 @@ export function showLimit(/** @type {string} */ name) {
   field(name).value = usual === null ? '' : mgonOf(usual, per);
 }
 
-/** The limits in force, in one line. */
-export function limitsLine(/** @type {Limits} */ limits) {
+/** Whether a residual that a call wrote, in mgon with three decimals, is within the limit. */
+export const isWithin = (/** @type {string} */ residual, /** @type {Limits} */ limits) =>
+  Number(residual.replace(/[-.]/g, '')) * LIMITS.residual.per <= limits.residual * THOUSAND;
+
+/**
+ * Limits in one line: those of 2c and 2i, and as it is said that of residuals and that of tables,
+ * so that no limit is told to which nothing was held.
+ * @param {Limits} limits
+ * @param {{ residual: boolean, within: boolean }} held
+ */
+export function limitsLine(limits, { residual, within }) {
   const mgon = (/** @type {string} */ name) => mgonOf(limits[name] ?? 0, LIMITS[name].per);
-  return text(limits.within === null ? 'inForceByDecimals' : 'inForce',
-    Object.fromEntries(NAMES.map(name => [name, mgon(name)])));
+  const numbers = Object.fromEntries(NAMES.map(name => [name, mgon(name)]));
+  const ofTables = limits.within === null ? 'inForceByDecimals' : 'inForceWithin';
+  const names = [residual ? 'inForce' : 'inForceFaces', ...within ? [ofTables] : []];
+  return names.map(name => text(name, numbers)).join(', ');
 }
 
 /**
@@ -87,5 +102,11 @@ export function commandOf(command, names, limits, operands, more = []) {
   return ['station_check', command, ...words].join(' ');
 }
 
-const quoted = (/** @type {string} */ word) =>
-  /^[\w.,\/+-]+$/.test(word) ? word : `'${word.replaceAll("'", "'\\''")}'`;
+/** A word for a shell: one with signs that are not seen has escapes in their place. */
+function quoted(/** @type {string} */ word) {
+  if (/^[\w.,\/+-]+$/.test(word)) return word;
+  if (word.replace(UNSEEN, '') === word) return `'${word.replaceAll("'", "'\\''")}'`;
+  const letters = Array.from(new TextEncoder().encode(word), byte => String.fromCharCode(byte));
+  const hex = (/** @type {string} */ letter) => letter.charCodeAt(0).toString(16).padStart(2, '0');
+  return `$'${letters.join('').replace(/[^ -~]|['\\]/g, letter => `\\x${hex(letter)}`)}'`;
+}

@@ -1,11 +1,11 @@
 // What the user does: files come in, limits are stated, and each time the cards are made anew.
-import { ACCEPTED, makeCards, resultsOf } from './answers.js';
+import { judge, makeCards, resultsOf } from './answers.js';
 import { showCard } from './cards.js';
 import { button, element } from './elements.js';
-import { kindOf, placeName, stationOfSheet } from './files.js';
-import { headlineOfCard, saidOf } from './headlines.js';
+import { isChosen, isUsed, kindOf, originalOf, placeName, tellApart } from './files.js';
+import { kindText, saidOfCard, titleOf } from './headlines.js';
 import { limitsLine, limitsNow, LIMITS, showLimit, wrongLimit } from './limits.js';
-import { showProtocol } from './protocol.js';
+import { besideOf, showProtocol, showProtocols } from './protocol.js';
 import { LANGUAGES, languageOf, speak, spoken, text } from './texts.js';
 import { Stopped, start, stop } from './work.js';
 
@@ -34,6 +34,15 @@ function say(/** @type {string} */ mood, /** @type {string} */ said) {
   $('verdict').textContent = said;
 }
 
+/** Says what was said last, in the language that is spoken. */
+let sayAgain = () => {};
+
+/** Says something, and again in another language when that is chosen. */
+function tell(/** @type {() => void} */ saying) {
+  sayAgain = saying;
+  saying();
+}
+
 /**
  * The line above the cards: of one answer its headline, of several how many there are of each kind.
  */
@@ -42,12 +51,8 @@ function sayHow() {
   if (cards.length === 0) return say('open', text('needField'));
   // (what the one card says is read out, and not shown twice)
   if (cards.length === 1) {
-    const [card] = cards, { answers, station } = card;
-    const refused = answers.filter(one => one.status !== ACCEPTED);
-    const told = refused.length > 0 ? refused : answers;
-    const said = told.map(one => saidOf(one, limits)).join(' ') || headlineOfCard(card);
-    const label = text('station', { name: card.title });
-    return say(`${card.mood} unseen`, station ? text('labelled', { label, said }) : said);
+    const [card] = cards, said = saidOfCard(card, limits), label = titleOf(card);
+    return say(`${card.mood} unseen`, card.station ? text('labelled', { label, said }) : said);
   }
   const count = (/** @type {string} */ mood) => cards.filter(card => card.mood === mood).length;
   const met = Object.keys(SUMMARIES).filter(mood => count(mood) > 0);
@@ -79,32 +84,23 @@ const SUMMARIES = {
   bad: 'summaryBad', open: 'summaryOpen', read: 'summaryRead', good: 'summaryGood',
 };
 
-/** What an input is, in words. */
-function kindText(/** @type {Input} */ input) {
-  const names = {
-    field: 'kindField', sheet: 'kindSheet', table: 'kindTable', spreadsheet: 'kindSpreadsheet',
-    utf16: 'kindUtf16', empty: 'kindEmpty', unread: 'kindUnread', other: 'kindOther',
-  };
-  return text(names[input.kind], { station: input.kind === 'sheet' ? stationOfSheet(input) : '' });
-}
-
 /** Where a sheet or a table belongs, to be chosen where there are several stations. */
 function showChoice(/** @type {Input} */ input, /** @type {Element} */ parent) {
   const stations = cards.flatMap(card => card.station ?? []);
   if (stations.length < 2 || !['sheet', 'table'].includes(input.kind)) return;
   const choice = /** @type {HTMLSelectElement} */ (element('select', '', parent));
-  choice.setAttribute('aria-label', text('belongsTo', { name: input.name }));
+  choice.setAttribute('aria-label', text('belongsTo', { name: input.shown }));
   element('option', text('byName'), choice, { value: '' });
-  for (const name of stations.map(placeName))
-    element('option', name, choice, { value: name, selected: name === input.choice });
+  stations.forEach((station, nth) => element('option', placeName(station), choice,
+    { value: String(nth), selected: isChosen(input, station) }));
   choice.onchange = () => {
-    input.choice = choice.value;
+    const station = choice.value ? stations[Number(choice.value)] : undefined;
+    input.choice = station && { field: originalOf(station.field), name: station.listed.name };
     checkAll();
   };
 }
 
 function showInputs() {
-  const isUsed = (/** @type {Input} */ input) => ['field', 'sheet', 'table'].includes(input.kind);
   // (what is not used comes first, so that it is seen)
   const shown = [...inputs.filter(input => !isUsed(input)), ...inputs.filter(isUsed)];
   document.body.classList.toggle('has-files', inputs.length > 0);
@@ -112,20 +108,75 @@ function showInputs() {
   $('inputs').textContent = '';
   for (const input of shown) {
     const item = element('li', '', $('inputs'), { className: isUsed(input) ? '' : 'unused' });
-    element('span', input.name, item, { className: 'name' });
+    element('span', input.shown, item, { className: 'name' });
     element('span', kindText(input), item, { className: 'kind' });
     showChoice(input, item);
     const gone = button('×', item, () => {
+      replaced = [];
       inputs = inputs.filter(one => one !== input);
       checkAll();
+      if (inputs.length === 0) choose.focus();
     }, 'button small');
-    gone.setAttribute('aria-label', text('remove', { name: input.name }));
+    gone.setAttribute('aria-label', text('remove', { name: input.shown }));
   }
+  const names = replaced.join(', ');
+  $('replaced').textContent = names && text('replaced', { names });
   $('remove-all').hidden = inputs.length === 0;
 }
 
-/** Shows all that is known, in the language that is spoken. */
+// ---------------------------------------------------------------- the keyboard's place
+
+/** The kinds of parts that are drawn anew, and what the keyboard reaches in them. */
+const PARTS = ['#inputs > li', '#answers > .card'], REACHED = 'button, input, select, summary';
+const RESULT = '.results > :not(summary), .results > :not(summary) *';
+
+/**
+ * Where the keyboard is: in the nth part of a kind, within its results or not, at the nth of what
+ * it reaches there; nowhere once it is turned to something else.
+ * @type {{ kind: string, part: number, isResult: boolean, at: number } | null}
+ */
+let inHand = null;
+for (const turned of ['focusin', 'pointerdown'])
+  document.addEventListener(turned, () => { inHand = null; });
+
+/**
+ * What the keyboard reaches in a part, within its results or outside of them.
+ * @param {Element | undefined} part
+ * @param {boolean} isResult
+ */
+const reachedIn = (part, isResult) =>
+  /** @type {HTMLElement[]} */ ([...part?.querySelectorAll(REACHED) ?? []])
+    .filter(one => one.matches(RESULT) === isResult);
+
+/** Keeps in mind where the keyboard is, before all is drawn anew. */
+function keepFocus() {
+  const here = /** @type {HTMLElement} */ (document.activeElement);
+  for (const kind of PARTS) {
+    const parts = [...document.querySelectorAll(kind)];
+    const part = parts.findIndex(one => one.contains(here));
+    for (const isResult of [true, false]) {
+      const at = reachedIn(parts[part], isResult).indexOf(here);
+      if (at >= 0) inHand = { kind, part, isResult, at };
+    }
+  }
+}
+
+/** Leaves the keyboard where it was, or at the part before, as soon as that is there. */
+function giveFocus() {
+  if (!inHand || document.activeElement !== document.body) return;
+  const { kind, part, isResult, at } = inHand, parts = [...document.querySelectorAll(kind)];
+  reachedIn(parts[part] ?? parts.at(-1), isResult)[at]?.focus({ preventScroll: true });
+}
+
+/** Shows all that is known, and leaves the keyboard where it was. */
 function show() {
+  keepFocus();
+  draw();
+  giveFocus();
+}
+
+/** Shows all that is known, in the language that is spoken. */
+function draw() {
   document.documentElement.lang = spoken();
   /** @type {(selector: string) => NodeListOf<HTMLElement>} */
   const all = selector => document.querySelectorAll(selector);
@@ -135,7 +186,7 @@ function show() {
     part.setAttribute('aria-label', text(part.dataset.label));
   for (const part of all('[data-placeholder]'))
     part.setAttribute('placeholder', text(part.dataset.placeholder));
-  $('in-force').textContent = limitsLine(limits);
+  $('in-force').textContent = limitsLine(limits, { residual: true, within: true });
   showInputs();
   $('answers').textContent = '';
   $('answers').className = cards.length > FEW ? 'many' : '';
@@ -156,8 +207,14 @@ function busy(/** @type {boolean} */ isBusy) {
   $('progress').hidden = !isBusy;
 }
 
+/** Says again how far it is. */
+let progressAgain = () => {};
+
 function told(/** @type {number} */ done, /** @type {number} */ all, /** @type {string} */ name) {
-  $('progress-text').textContent = text('working', { done, all, name });
+  progressAgain = () => {
+    $('progress-text').textContent = text('working', { done, all, name });
+  };
+  progressAgain();
   const bar = /** @type {HTMLProgressElement} */ ($('progress-bar'));
   [bar.max, bar.value] = [all, done - 1];
   // (of a single file it is not known how far it is)
@@ -167,8 +224,8 @@ function told(/** @type {number} */ done, /** @type {number} */ all, /** @type {
 /** Says why the work did not come to its end. */
 function sayWhy(/** @type {unknown} */ error) {
   const why = String(error);
-  say('bad', error instanceof Stopped ? text('stopped')
-    : /CompileError/.test(why) ? text('cannotRun') : text('cannotFinish', { why }));
+  tell(() => say('bad', error instanceof Stopped ? text('stopped')
+    : /CompileError/.test(why) ? text('cannotRun') : text('cannotFinish', { why })));
   $('again').hidden = !(error instanceof Stopped);
 }
 
@@ -192,6 +249,7 @@ async function worked(/** @type {() => Promise<void>} */ work) {
 /** Checks all files that are there, with the limits that are stated. */
 async function checkAll() {
   const mine = ++state;
+  tellApart(inputs);
   if (underWay > 0) stop();
   underWay = 0;
   const wrong = wrongLimit();
@@ -202,15 +260,16 @@ async function checkAll() {
   if (wrong) {
     show();
     busy(false);
-    return say('bad', wrong);
+    return tell(() => say('bad', wrongLimit()));
   }
   limits = limitsNow();
-  show();
-  say('quiet', text('checking'));
+  keepFocus();
+  draw();
+  tell(() => say('quiet', text('checking')));
   const isDone = await worked(() => makeCards(inputs, limits, made, told));
   if (mine !== state) return;
   show();
-  if (isDone) sayHow();
+  if (isDone) tell(sayHow);
 }
 
 /** What the cards ask of the page. */
@@ -219,8 +278,19 @@ const desk = {
   async load(/** @type {Card} */ card) {
     if (card.results) return;
     told(1, 1, card.title);
-    await worked(async () => { card.results = await resultsOf(card, limits); });
+    const { judged } = card;
+    const isDone = await worked(async () => {
+      card.results = await resultsOf(card, limits);
+      await judge(card, limits);
+    });
+    // (what the keyboard was at may be among what is shown next)
+    setTimeout(giveFocus);
+    // (what the residuals say changes the card and what is said of all)
+    if (!isDone || judged || !cards.includes(card)) return;
+    show();
+    if (sayAgain === sayHow) sayHow();
   },
+  beside(/** @type {Card} */ card) { return besideOf(card, inputs, cards, limits); },
   print(/** @type {Card} */ card) {
     only = card;
     window.print();
@@ -230,21 +300,22 @@ const desk = {
     field.station = station;
     await checkAll();
     // (all cards are new, and the one that was worked at may have been far below)
-    const named = cards.find(card => (card.field?.original ?? card.field) === field);
+    const named = cards.find(card => card.field && originalOf(card.field) === field);
     if (named) leadTo(named);
   },
 };
 
 /**
- * The one card that is printed; else all whose results were opened.
+ * The one card that is printed; else all are, and all files.
  * @type {Card | null}
  */
 let only = null;
 
 onbeforeprint = () => {
   $('protocol').textContent = '';
-  for (const card of only ? [only] : cards)
-    if (card.results) showProtocol(card, limits, $('protocol'));
+  if (only) showProtocol(only, limits, $('protocol'), '', desk.beside(only));
+  else if (inputs.length > 0)
+    showProtocols(inputs, cards, limits, $('verdict').textContent, $('protocol'));
 };
 
 // ---------------------------------------------------------------- files
@@ -255,21 +326,33 @@ onbeforeprint = () => {
  * @returns {Promise<Input>}
  */
 async function inputOf(file) {
+  const { name } = file, about = { name, shown: name, digest: '' };
   try {
     const bytes = new Uint8Array(await file.arrayBuffer());
-    return { name: file.name, bytes, kind: kindOf(file.name, bytes), digest: '' };
+    return { ...about, bytes, kind: kindOf(name, bytes) };
   } catch {
-    return { name: file.name, bytes: new Uint8Array(), kind: 'unread', digest: '' };
+    return { ...about, bytes: new Uint8Array(), kind: 'unread' };
   }
 }
 
-/** Adds files to those that are there; one of the same name takes the place of the older. */
+/**
+ * How the files were shown whose place others of the same names took.
+ * @type {string[]}
+ */
+let replaced = [];
+
+/**
+ * Adds files to those that are there; one of the same name takes the place of the older, and it is
+ * said. Those that come together all stay.
+ */
 async function add(/** @type {Iterable<File>} */ given) {
   const files = Array.from(given);
   if (files.length === 0) return;
   busy(true);
   const read = await Promise.all(files.map(inputOf));
-  inputs = [...inputs.filter(one => !read.some(more => more.name === one.name)), ...read];
+  const isGone = (/** @type {Input} */ one) => read.some(more => more.name === one.name);
+  replaced = inputs.filter(isGone).map(one => one.shown);
+  inputs = [...inputs.filter(one => !isGone(one)), ...read];
   await checkAll();
 }
 
@@ -299,7 +382,7 @@ const choose = /** @type {HTMLInputElement} */ ($('choose'));
 choose.onclick = () => { choose.value = ''; };
 choose.onchange = () => add(choose.files);
 $('remove-all').onclick = () => {
-  inputs = [];
+  [inputs, replaced] = [[], []];
   checkAll();
 };
 $('stop').onclick = () => stop();
@@ -315,14 +398,13 @@ for (const [code, name] of Object.entries(LANGUAGES))
 languages.onchange = () => {
   speak(languages.value);
   show();
-  const wrong = wrongLimit();
-  if (wrong) say('bad', wrong);
-  else sayHow();
+  progressAgain();
+  sayAgain();
 };
 
 speak(languageOf(navigator.languages));
 languages.value = spoken();
 limits = limitsNow();
 show();
-say('quiet', text('gettingReady'));
+tell(() => say('quiet', text('gettingReady')));
 worked(start).then(isReady => isReady && checkAll());

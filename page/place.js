@@ -96,8 +96,8 @@ function wordOf(/** @type {string} */ fault) {
 function blockIn(file, block, fault) {
   const { lines, meant } = linesTo(file.bytes, block);
   const shown = around(lines, meant, seen), line = shown.find(one => one.isMeant);
-  const where = line ? text('lineOfFile', { line: line.number, name: file.name, block })
-    : text('endOfFile', { name: file.name });
+  const where = line ? text('lineOfFile', { line: line.number, name: file.shown, block })
+    : text('endOfFile', { name: file.shown });
   const [first, end] = line ? meantIn(line.text, fault) : [0, 0];
   return { where, lines: shown, first, end };
 }
@@ -113,7 +113,7 @@ function rowIn(file, nth, kind = '') {
   const row = rows.filter(({ fields }) => !kind || fields[0] === kind)[nth - 1];
   if (!row) return null;
   const meant = rows.indexOf(row), end = row.end - row.first;
-  const about = { row: meant + 1, name: file.name, kind, nth };
+  const about = { row: meant + 1, name: file.shown, kind, nth };
   const where = text(kind ? 'rowOfKind' : 'rowOfFile', about);
   const lines = around(rows, meant, one => all.slice(one.first, one.end));
   return { where, lines, first: 0, end };

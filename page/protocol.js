@@ -1,9 +1,13 @@
-// The protocol of a station, as an office prints and files it.
-import { ACCEPTED, filesOf } from './answers.js';
+// The protocol of a station, as an office prints and files it, and the page before several.
+import { ACCEPTED, REFUSED, filesOf } from './answers.js';
 import { element, ofProgram } from './elements.js';
-import { stemOf } from './files.js';
-import { countsOf, headlineOfCard, recognizedText, saidOf } from './headlines.js';
+import { isUsed, originalOf, stemOf } from './files.js';
+import {
+  countsOf, headlineOfCard, judgedText, kindText, recognizedText, saidOf, saidOfCard, saidOfFile,
+  titleOf, waitingText,
+} from './headlines.js';
 import { limitsLine } from './limits.js';
+import { showFault } from './refusals.js';
 import { showResults } from './results.js';
 import { spoken, text } from './texts.js';
 
@@ -13,7 +17,10 @@ import { spoken, text } from './texts.js';
  */
 const DATES = { en: 'en-GB', de: 'de', fr: 'fr' };
 
-/** @typedef {import('./answers.js').Card} Card */
+/**
+ * @typedef {import('./answers.js').Card} Card
+ * @typedef {import('./files.js').Input} Input
+ */
 
 /** What the page is made of, as its foot says it. */
 const made = () => document.getElementById('made').dataset;
@@ -24,30 +31,58 @@ function row(/** @type {string} */ label, /** @type {Element} */ parent) {
   return element('dd', '', parent);
 }
 
-/** The files of a card, each with its digest. */
-function showFiles(/** @type {Card} */ card, /** @type {Element} */ parent) {
-  for (const file of filesOf(card)) {
-    const line = element('div', file.name, parent);
-    if (file.digest) ofProgram('code', ` ${text('digest', { digest: file.digest })}`, line);
-  }
+/** The files of a card: those that were judged, and those that wait. */
+const allFilesOf = (/** @type {Card} */ card) => {
+  const files = filesOf(card);
+  return [...files.length > 0 ? files : [card.file], ...card.waiting];
+};
+
+/** A file with its digest, where it was judged. */
+function showFile(/** @type {Input} */ { shown, digest }, /** @type {Element} */ parent) {
+  const line = element('div', shown, parent);
+  if (digest) ofProgram('code', ` ${text('digest', { digest })}`, line);
+}
+
+/** The row that says when the files were checked. */
+function showDate(/** @type {Element} */ parent) {
+  /** @type {Intl.DateTimeFormatOptions} */
+  const now = { dateStyle: 'long', timeStyle: 'short' };
+  row('date', parent).textContent = new Date().toLocaleString(DATES[spoken()], now);
 }
 
 /**
- * What was answered of a card, each with the program's line and the command.
+ * What was answered of a card, each with the program's line and the command; and what came of the
+ * limit of residuals, and of the files that wait.
  * @param {Card} card
  * @param {import('./limits.js').Limits} limits
  * @param {Element} parent
  */
 function showAnswers(card, limits, parent) {
-  if (card.answers.length === 0)
-    element('div', `${headlineOfCard(card)} ${text('notCompared')}`, parent);
-  for (const answer of card.answers) {
-    const mood = answer.status === ACCEPTED ? 'good' : 'bad';
-    const said = text('labelled', { label: answer.other.name, said: saidOf(answer, limits) });
+  const say = (/** @type {string} */ said, /** @type {string} */ mood) =>
     element('div', said, parent, { className: `said ${mood}` });
-    ofProgram('samp', answer.line, element('div', '', parent));
+  if (card.answers.length === 0) {
+    const more = card.station ? ` ${text('notCompared')}` : '';
+    say(`${headlineOfCard(card)}${more}`, card.station ? 'read' : card.mood);
+  }
+  for (const answer of card.answers) {
+    const said = saidOf(answer), label = answer.other?.shown;
+    const mood = answer.status === ACCEPTED ? 'good' : 'bad';
+    say(label ? text('labelled', { label, said }) : said, mood);
+    if (answer.status <= REFUSED) ofProgram('samp', answer.line, element('div', '', parent));
     ofProgram('code', answer.command, element('div', '', parent));
   }
+  const said = judgedText(card, limits);
+  if (said) say(said, card.judged.isKept ? 'read' : 'bad');
+  if (card.waiting.length > 0) say(waitingText(card), 'open');
+}
+
+/** What a refusal speaks of and what it means, below the facts. */
+function showFaults(/** @type {Card} */ card, /** @type {Element} */ parent) {
+  const { answers, marked, station, judged } = card;
+  const residuals = judged?.isKept === false ? judged.residuals : undefined;
+  const refused = [...answers, ...marked ? [marked] : [], ...residuals ? [residuals] : []]
+    .filter(one => one.status === REFUSED);
+  for (const answer of refused) showFault({ ...answer, station }, parent);
 }
 
 /**
@@ -61,60 +96,128 @@ function showMarks({ marked, recognized, title }, parent) {
   ofProgram('code', marked.command, element('div', '', parent));
 }
 
-/** A text of the style, without signs that end it or the style. */
-const inStyle = (/** @type {string} */ said) =>
-  `"${said.replace(/["\\<]/g, sign => `\\${sign.charCodeAt(0).toString(16)} `)}"`;
+/**
+ * A text of the style that says this: each of its signs is an escape of six digits, so that a name
+ * is never a part of the style.
+ */
+function inStyle(/** @type {string} */ said) {
+  const signs = Array.from(said, sign => sign.codePointAt(0).toString(16).padStart(6, '0'));
+  return `"${signs.map(digits => `\\${digits}`).join('')}"`;
+}
 
 /**
  * Has each page of a protocol say what it is of, at its foot, in browsers that write there: others
  * would add a page after the last one.
  * @param {HTMLElement} part
  * @param {string} said
+ * @param {string} page its name, where others are printed too
  */
-function nameItsPages(part, said) {
+function nameItsPages(part, said, page) {
   if (!('CSSMarginRule' in window)) return;
-  const nth = part.parentElement.children.length, page = nth > 1 ? `protocol${nth}` : '';
   element('style', `@page ${page} { @bottom-left { content: ${inStyle(said)} } }`, part);
   if (page) part.style.setProperty('page', page);
 }
 
 /**
- * The protocol of a card whose results are loaded.
+ * What a protocol that stands alone says of what else was handed in: each other card that is
+ * refused or open, and each file that is not used, so that none misses on paper.
+ * @param {Card} card
+ * @param {Input[]} inputs
+ * @param {Card[]} cards
+ * @param {import('./limits.js').Limits} limits
+ */
+export function besideOf(card, inputs, cards, limits) {
+  const others = cards.filter(one => one !== card && ['bad', 'open'].includes(one.mood));
+  const unused = inputs.filter(file => !isUsed(file));
+  return [
+    ...others.map(one => ({ label: titleOf(one), said: saidOfCard(one, limits) })),
+    ...unused.map(file => ({ label: file.shown, said: kindText(file) })),
+  ].map(about => text('labelled', about));
+}
+
+/**
+ * The protocol of a card: of a station with its results, where they are loaded. Those without are
+ * brief where others are printed too, and stand below each other.
  * @param {Card} card
  * @param {import('./limits.js').Limits} limits
  * @param {Element} parent
+ * @param {string} [page] its name, where others are printed too
+ * @param {string[]} [beside] what is said of what else was handed in
  */
-export function showProtocol(card, limits, parent) {
-  const part = element('article', '', parent, { className: 'protocol' }), { listed } = card.station;
-  const title = text('protocol', { name: listed.name });
-  nameItsPages(part, `${title}, ${card.field.name}`);
+export function showProtocol(card, limits, parent, page = '', beside = []) {
+  const { station } = card, isBrief = page !== '' && !card.results;
+  const className = isBrief ? 'protocol brief' : 'protocol';
+  const part = element('article', '', parent, { className });
+  const title = station ? text('protocol', { name: station.listed.name })
+    : text('checkOf', { name: card.title });
+  if (!isBrief) nameItsPages(part, station ? `${title}, ${card.field.shown}` : title, page);
   element('h1', title, part);
   const facts = element('dl', '', part, { className: 'facts' });
-  showFiles(card, row('files', facts));
-  /** @type {Intl.DateTimeFormatOptions} */
-  const now = { dateStyle: 'long', timeStyle: 'short' };
-  row('date', facts).textContent = new Date().toLocaleString(DATES[spoken()], now);
-  row('observed', facts).textContent = text('counts', countsOf(listed));
-  if (card.marked) showMarks(card, row('marks', facts));
-  row('limits', facts).textContent = limitsLine(limits);
+  const files = row('files', facts);
+  for (const file of allFilesOf(card)) showFile(file, files);
+  showDate(facts);
+  if (station) row('observed', facts).textContent = text('counts', countsOf(station.listed));
+  if (station && card.marked) showMarks(card, row('marks', facts));
+  const isCompared = card.answers.some(({ asked, status, line }) =>
+    asked === 'compare' && (status === ACCEPTED || /^refused: compare: /.test(line)));
+  const held = { residual: card.judged !== undefined, within: isCompared };
+  if (card.field) row('limits', facts).textContent = limitsLine(limits, held);
   showAnswers(card, limits, row('answer', facts));
-  showResults(card, part);
+  const others = beside.length > 0 ? row('handedIn', facts) : null;
+  for (const said of beside) element('div', said, others);
+  showFaults(card, part);
+  if (card.results) showResults(card, part);
+  else if (station) element('p', text('notOpened'), part);
+  if (isBrief) return;
   const signs = element('div', '', part, { className: 'signs' });
   for (const label of ['observer', 'sign']) element('p', text(label), signs);
   element('p', text('madeBy', { ...made() }), part, { className: 'quiet foot' });
+}
+
+/** Whether a card speaks of a file. */
+const speaksOf = (/** @type {Card} */ card, /** @type {Input} */ file) =>
+  allFilesOf(card).some(one => originalOf(one) === file);
+
+/**
+ * The protocols of all cards; before them, where there is more than one card, or a file that is on
+ * none, a page that has each file and what came of it.
+ * @param {Input[]} inputs
+ * @param {Card[]} cards
+ * @param {import('./limits.js').Limits} limits
+ * @param {string} verdict what is said of all
+ * @param {Element} parent
+ */
+export function showProtocols(inputs, cards, limits, verdict, parent) {
+  if (cards.length === 1 && inputs.every(file => speaksOf(cards[0], file)))
+    return showProtocol(cards[0], limits, parent);
+  const part = element('article', '', parent, { className: 'protocol' });
+  element('h1', text('contents', { n: inputs.length }), part);
+  const facts = element('dl', '', part, { className: 'facts' });
+  showDate(facts);
+  row('answer', facts).textContent = verdict;
+  const list = element('ul', '', part, { className: 'contents' });
+  for (const file of inputs) {
+    const item = element('li', '', list);
+    showFile(file, item);
+    for (const [mood, said] of saidOfFile(file, cards, limits))
+      element('div', said, item, { className: `said ${mood}` });
+  }
+  element('p', text('madeBy', { ...made() }), part, { className: 'quiet foot' });
+  cards.forEach((card, nth) => showProtocol(card, limits, parent, `protocol${nth}`));
 }
 
 /**
  * The protocol as a file of its own, with the style of the page.
  * @param {Card} card
  * @param {import('./limits.js').Limits} limits
+ * @param {string[]} [beside]
  */
-export function protocolFile(card, limits) {
+export function protocolFile(card, limits, beside) {
   const whole = document.implementation.createHTMLDocument(`${stemOf(card.field)} ${card.title}`);
   whole.documentElement.lang = spoken();
   element('meta', '', whole.head).setAttribute('charset', 'utf-8');
   element('style', document.querySelector('style').textContent, whole.head);
   whole.body.className = 'saved';
-  showProtocol(card, limits, whole.body);
+  showProtocol(card, limits, whole.body, '', beside);
   return `<!doctype html>\n${whole.documentElement.outerHTML}\n`;
 }

@@ -40,7 +40,7 @@ function sectionsOf({ station, results, answers }) {
   const { directions, residuals, report } = results;
   /** @type {Section[]} */
   const sections = answers.filter(one => one.differences).map(({ differences, other }) => ({
-    title: text('differences', { name: other.name }),
+    title: text('differences', { name: other.shown }),
     fill(part) {
       differencesTable(differencesIn(differences), part);
       element('p', text('differencesNote'), part, { className: 'quiet' });

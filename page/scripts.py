@@ -19,7 +19,7 @@ SCRIPTS = {
     "page": [
         "texts.js", "numbers.js", "records.js", "files.js", "work.js", "limits.js", "place.js",
         "answers.js", "elements.js", "tables.js", "picture.js", "headlines.js", "results.js",
-        "protocol.js", "cards.js", "page.js",
+        "refusals.js", "protocol.js", "cards.js", "page.js",
     ],
     "residuals": [
         "texts.js", "numbers.js", "records.js", "elements.js", "tables.js", "picture.js",

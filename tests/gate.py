@@ -1,8 +1,10 @@
 """The gate: `rt ci`, then the tests of the command line. Its last line is 'N passed, M failed'.
 
-It says how long it takes, and each minute how far it is; at its end it names what was skipped.
+It says how long the last run here took, and each minute how far it is; at its end it names what was
+skipped, and keeps its times for the next run.
 """
 
+import json
 import os
 import re
 import shutil
@@ -12,18 +14,21 @@ import tempfile
 import threading
 import time
 from pathlib import Path
-from typing import Iterator
+from typing import Any, Iterator
 
 import command_line
 
 ROOT = Path(__file__).resolve().parent.parent
+sys.path[:0] = [str(ROOT / "tools")]
+import prove  # noqa: E402
 
 # The program as `rt ci` leaves it, and where it is run from.
 LINKED = ROOT / "crates" / "station_program" / "out" / "station_program"
 PROGRAM = ROOT / "build" / "station_check"
 
-# The page, and what makes it.
+# The page, its crate, and what makes it.
 PAGE = ROOT / "build" / "station_check.html"
+PAGE_CRATE = "station_page"
 PAGE_BUILD = ROOT / "page" / "build.py"
 
 # The shared library, what links it, and the static library of which it is made: the page's build leaves that.
@@ -32,9 +37,11 @@ LINK = ROOT / "capi" / "link.sh"
 STATIC = ROOT / "build" / "page" / "lib.a"
 COUNTS = re.compile(r"^(\d+) passed, (\d+) failed$")
 
-# About how many minutes the gate takes on so many processors: on four as an earlier one took, on two
-# twice as many, not measured.
-MINUTES = {4: 150, 2: 300}
+# Where a run that has passed leaves its times: beside build/, which `make clean` takes away. And
+# what the page of tests has of an earlier one.
+TIMES = ROOT / "gate_times.json"
+TESTS_PAGE = ROOT / "docs" / "TESTS.md"
+MEASURED = re.compile(r"\bof the gate took (\d+) minutes on (\d+) processors\b")
 
 # The memory that a check of the largest crate stays within, whose proof and tests may run side by
 # side, and that any other check stays within, in bytes.
@@ -52,6 +59,9 @@ TIME_LIMITS = [
 PROVED = re.compile(r"^rt: (\w+) (?:proved$|is kept: )")
 TESTED = re.compile(r"^rt: (\w+): its tests are proved$")
 TRIED = re.compile(r"^rt: (\w+): trying its must-fail edits \((\d+)\)$")
+REFUSED = re.compile(r"^rt: must-fail \S+: refused, as it must be")
+# A wrong body that shows little of its contract: it takes a name away that a proof file has.
+REFUSED_BY_NAME = re.compile(REFUSED.pattern + r" \(only because a proof file names ")
 NOTE = re.compile(r"^rt: note: ")
 FAILED = re.compile(
     r"^rt: (FAILED: |\w+(: its tests are)? NOT PROVED|.*(NOT REFUSED|BAD EDIT): )"
@@ -106,10 +116,13 @@ class Progress:
         self.start = time.monotonic()
         names = re.findall(r"^(\w+)(?: staticlib)?:", (ROOT / "crates.txt").read_text(), re.MULTILINE)
         self.wrong = {name: len([*(ROOT / "crates" / name).glob("must-fail/*.edit")]) for name in names}
+        self.of_page = prove.below(PAGE_CRATE, prove.libraries(ROOT))
         # The minutes at which each crate was proved, its tests were, and its wrong bodies were begun.
         self.proved: dict[str, float] = {}
         self.tested: dict[str, float] = {}
         self.begun: dict[str, float] = {}
+        # How many wrong bodies were refused, and how many of these only for a name that is gone.
+        self.refused = self.refused_by_name = 0
         self.notes: list[str] = []
         self.failed: list[str] = []
 
@@ -118,6 +131,8 @@ class Progress:
         for said, minutes in [(PROVED, self.proved), (TESTED, self.tested), (TRIED, self.begun)]:
             if found := said.match(line):
                 minutes[found[1]] = self.minutes()
+        self.refused += bool(REFUSED.match(line))
+        self.refused_by_name += bool(REFUSED_BY_NAME.match(line))
         if NOTE.match(line):
             self.notes.append(line.rstrip("\n"))
         if FAILED.match(line):
@@ -129,6 +144,10 @@ class Progress:
     def lacking(self) -> list[str]:
         """The crates that are not yet proved."""
         return [crate for crate in self.wrong if crate not in self.proved]
+
+    def can_begin_page(self) -> bool:
+        """Whether all that the page stands on is proved."""
+        return self.of_page <= self.proved.keys()
 
     def line(self) -> str:
         lacking = self.lacking()
@@ -146,6 +165,27 @@ class Progress:
             begun = f"{self.begun[crate]:.1f} ({wrong})" if crate in self.begun else ""
             yield f"{crate:26}{columns}{begun:>24}"
 
+    def refusals(self) -> str:
+        """How many wrong bodies were refused, and how many for a reason that shows little."""
+        return (
+            f"gate: {self.refused} wrong bodies were refused, {self.refused_by_name} of them only "
+            "because a proof file names what the edit took away: they say little of a contract"
+        )
+
+    def kept(self) -> dict[str, Any]:
+        """The times of a run that ends now."""
+        minutes = {"proved": self.proved, "tests": self.tested, "wrong bodies begun": self.begun}
+        return {
+            "minutes": round(self.minutes(), 1),
+            "processors": processors(),
+            "commit": commit(),
+            "wrong_bodies": sum(self.wrong.values()),
+            "crates": {
+                crate: {what: round(at[crate], 1) for what, at in minutes.items() if crate in at}
+                for crate in self.wrong
+            },
+        }
+
     def show(self, has_ended: threading.Event) -> None:
         """Says how far it is until it has ended."""
         while not has_ended.wait(SAY):
@@ -153,10 +193,10 @@ class Progress:
 
 
 class Page:
-    """The page, made beside the wrong bodies once `rt ci` has proved every crate.
+    """The page, made beside the other proofs once `rt ci` has proved the crates that it stands on.
 
     By then the libraries lie there as they were proved; after its end `rt ci` gives the crates back
-    what they had before, and then they would be proved once more.
+    what they had before, and then they would be proved once more. Only the exports are proved again.
     """
 
     def __init__(self, room: str) -> None:
@@ -190,7 +230,7 @@ def library_failure() -> list[str]:
 
 def proofs_passed_and_failed(progress: Progress, page: Page, room: str) -> tuple[int, int]:
     """Runs `rt ci`, shows what it prints, and answers its counts; a run with no counts is one
-    failure. The page is begun where all is proved."""
+    failure. The page is begun where all that it stands on is proved."""
     command = [os.environ.get("RT", "rt"), "ci"]
     counts, has_ended = None, threading.Event()
     clock = threading.Thread(target=progress.show, args=(has_ended,), daemon=True)
@@ -207,7 +247,7 @@ def proofs_passed_and_failed(progress: Progress, page: Page, room: str) -> tuple
         for line in gate.stdout:
             print(line, end="", flush=True)
             progress.hear(line)
-            if not progress.lacking():
+            if progress.can_begin_page():
                 page.begin()
             if found := COUNTS.match(line):
                 counts = int(found[1]), int(found[2])
@@ -219,10 +259,34 @@ def proofs_passed_and_failed(progress: Progress, page: Page, room: str) -> tuple
     return passed, failed
 
 
+def commit() -> str:
+    """The commit that is tested, and whether files differ from it."""
+    words = ["git", "-C", str(ROOT)]
+    found = [
+        subprocess.run([*words, *more], capture_output=True, text=True).stdout.strip()
+        for more in (["rev-parse", "--short", "HEAD"], ["status", "--porcelain"])
+    ]
+    return f"{found[0] or 'unknown'}{' with changes' if found[1] else ''}"
+
+
+def last_run() -> str:
+    """How long the last run here took, or else the one that the page of tests has."""
+    try:
+        last = json.loads(TIMES.read_text())
+        return (
+            f"the last run here took {last['minutes']:.0f} min on {last['processors']} processors, "
+            f"of commit {last['commit']} with {last['wrong_bodies']} wrong bodies"
+        )
+    except (OSError, ValueError, KeyError, TypeError):
+        measured = MEASURED.search(TESTS_PAGE.read_text())
+        assert measured, f"{TESTS_PAGE} has no time"
+        took = f"{measured[1]} min on {measured[2]} processors"
+        return f"no run here has passed yet; docs/TESTS.md has measured {took} on another machine"
+
+
 def begin(progress: Progress) -> None:
-    """Says what the gate does, and how long it takes."""
-    times = " and ".join(f"{minutes} minutes on {n}" for n, minutes in MINUTES.items())
-    print(f"gate: it takes about {times} processors; here it has {processors()}")
+    """Says what the gate does, and how long it took before."""
+    print(f"gate: {last_run()}; now there are {processors()}")
     crates, wrong = len(progress.wrong), sum(progress.wrong.values())
     print(f"gate: it proves {crates} crates and their tests from nothing,")
     print(f"gate: tries {wrong} wrong bodies, and runs the program and the tests", flush=True)
@@ -254,6 +318,7 @@ def run_all() -> tuple[int, int, list[str]]:
         begin(progress)
         passed, failed = proofs_passed_and_failed(progress, page, room)
         print(f"gate: rt ci took {progress.minutes():.0f} min", *progress.times(), sep="\n")
+        print(progress.refusals(), flush=True)
         failures = [*progress.failed, *page.failure()]
         # (the page's build is over here)
         failures += [] if failures else library_failure()
@@ -262,6 +327,10 @@ def run_all() -> tuple[int, int, list[str]]:
         return passed, max(failed, 1), [*loudly(skipped), *failures]
     take_program()
     counts = command_line.run()
+    if counts.failed == 0:
+        kept = progress.kept()
+        TIMES.write_text(json.dumps(kept, indent=1) + "\n")
+        print(f"gate: the whole took {kept['minutes']:.0f} min; {TIMES.name} keeps the times")
     return passed + counts.passed, counts.failed, loudly(progress.notes + counts.skipped)
 
 

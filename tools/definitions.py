@@ -23,16 +23,29 @@ AGREEMENT = ("station_compare", "Agreeing")
 
 # The promises of what is printed, each after those whose files it shares.
 PRINTED = {
-    "differences": ("station_differences", "Stating"),
-    "residuals": ("station_residuals", "Stating"),
-    "report": ("station_report", "Stating"),
-    "report --table": ("table_report", "Stating"),
-    "report --csv": ("report_rows", "Stating"),
+    "What `directions` prints": ("station_compare", "Directions"),
+    "What `list` prints": ("station_check", "Listing"),
+    "What `list --csv` prints": ("list_rows", "Listing"),
+    "What `means` prints": ("station_check", "Means"),
+    "What `words` prints": ("station_check", "WordTexts"),
+    "What `mark` prints": ("set_marks", "Markings"),
+    "What the notes of `mark` say": ("station_mark", "Notes"),
+    "What `differences` prints": ("station_differences", "Stating"),
+    "What `residuals` prints": ("station_residuals", "Stating"),
+    "What `report` prints": ("station_report", "Stating"),
+    "What `report --table` prints": ("table_report", "Stating"),
+    "What `report --csv` prints": ("report_rows", "Stating"),
 }
 
 USE = re.compile(r"^use Rattle\.(\w+)\.specs\.(\w+)(?:\.|$| as)", re.MULTILINE)
 DEFINITION = re.compile(r"^(?:abbrev|unfoldable) pub ([^\s:]+)|^pub (?:record|data) ([^\s:]+)")
 MODULE = re.compile(r"^pub mod (\w+)", re.MULTILINE)
+
+# What definitions take of the code: constants, or a type; and the law of a constant, in its crate.
+OF_CODE = re.compile(r"^use Rattle\.(\w+)\.specs\.declared\.([\w.]+)\.(\w+)\.\{([^}]*)\}", re.MULTILINE)
+CONSTANTS, CASES = "TheConstants", "TheVariants"
+LAW = re.compile(r"^pub fn (\w+)\(\)$|ensures \w+ \{ (\w+) ≡ (?:pos )?([\d_]+) \}", re.MULTILINE)
+COMMENT_OF = r"((?:^ *///[^\n]*\n)+)(?: *#\[[^\n]*\n)*^ *pub(?:\(crate\))? const {}:"
 SOURCE = re.compile(r" ?\((?:profile|textbook|GSI manual)[^)]*\)")
 
 INTRODUCTION = """\
@@ -56,7 +69,7 @@ A source may *tell* contracts which bytes it still gives, and whether it then fa
 
 Every source has *histories*: by number, which bytes it may have given since it was made. `Adds` says that they have grown by some bytes, and the contract of `read` says that each read adds to all of them what it gave. That there are no other bytes in them is not said. So `HasGiven` says of a reader, before and after some reads, that these were the bytes: its histories have grown by them, and whatever it may give now, it might then have given these bytes and after them that. The contract of `check_bytes` names bytes of the field file and of the sheet that their readers have given so, and keeps the promise of these bytes and of whatever may be left in the readers after them. Where it accepts, both readers have ended, so nothing is left and the bytes are all; where it answers a failed read, that reader has broken off; and of `check_sources` no read failed at any other answer.
 
-`check_bytes` is one function for every source. It can't tell which histories a source keeps, nor whether it tells its bytes, so what is proved of it holds of a reader that keeps each byte as of a file, for which the standard library's contract says nothing of what was read. The field file's reader is taken in and dropped: `UntilDropped` says that there is a state of the reader after it was taken in of which the promise is kept; `check_sources` gives the reader back, and so says it of the very state. What `UntilDropped` leaves open is a read after that state, which no answer tells of, and so out of memory in the place of a failed read.
+`check_bytes` is one function for every source. It can't tell which histories a source keeps, nor whether it tells its bytes, so what is proved of it holds of a reader that keeps each byte as of a file, for which the standard library's contract says nothing of what was read. Of such a reader the law is [`check_kept`](../crates/station_check/src/kept.rt): an acceptance is of exactly the bytes that `Keeping` of [`byte_ends`](../crates/byte_ends/README.md) kept, whatever reader is under it. That rests on the code being generic: a function over the type of a file could forget what it read and still meet the words of the contract, so only `byte_ends`, which makes sources of std's readers, and the program's edge may name those types, which a test sees to. The field file's reader is taken in and dropped: `UntilDropped` says that there is a state of the reader after it was taken in of which the promise is kept; `check_sources` gives the reader back, and so says it of the very state. What `UntilDropped` leaves open is a read after that state, which no answer tells of, and so out of memory in the place of a failed read.
 
 A source over a source can keep a history of its own: `Digesting` of [`byte_digests`](../crates/byte_digests/README.md) feeds what it gives to SHA-256, so that its first history is what a digest stands for.
 """
@@ -167,24 +180,96 @@ def size_of(specs: list[Spec]) -> str:
     return f"{len(specs)} files below, {sum(spec.lines() for spec in specs):,} lines with their comments"
 
 
+class Constant(NamedTuple):
+    """A constant of the code that definitions name."""
+
+    crate: str
+    name: str
+
+    def law(self) -> tuple[str, str]:
+        """The law that pins it, and in which digits."""
+        law = ""
+        for begun, name, digits in LAW.findall((self.sources() / "laws.rt").read_text()):
+            law = begun or law
+            if name == self.name:
+                return law, f"{int(digits):,}"
+        raise LookupError(f"no law of {self.crate} says what {self.name} is")
+
+    def meaning(self) -> str:
+        """The first sentence of its comment."""
+        for path in sorted(self.sources().glob("**/*.rt")):
+            comment = re.compile(COMMENT_OF.format(self.name), re.MULTILINE)
+            if found := comment.search(path.read_text()):
+                text = " ".join(line.strip().removeprefix("///").strip() for line in found[1].splitlines())
+                return text.split(". ")[0].rstrip(".")
+        raise LookupError(f"{self.name} of {self.crate} has no comment")
+
+    def sources(self) -> Path:
+        return ROOT / "crates" / self.crate / "src"
+
+
+def of_code(specs: list[Spec]) -> tuple[list[Constant], dict[str, list[str]]]:
+    """The constants that definitions take of the code, and the types, by crate."""
+    constants: dict[Constant, None] = {}
+    types: dict[str, dict[str, None]] = {}
+    for spec in specs:
+        for crate, _, kind, names in OF_CODE.findall(spec.text()):
+            for name in names.split(","):
+                if kind == CONSTANTS:
+                    constants[Constant(crate, name.split(" as ")[0].strip())] = None
+                elif kind != CASES:
+                    types.setdefault(crate, {})[kind] = None
+    return list(constants), {crate: list(names) for crate, names in types.items()}
+
+
 def belief(specs: list[Spec]) -> Iterator[str]:
     yield "## What you have to believe\n"
     yield (
         f"An acceptance means what {Spec(*ACCEPTANCE).link} says: one page, in the order of the promise. "
-        f"It rests on the {size_of(specs)}, "
-        "and on no others; each rests on those before it. That the program keeps the promise is proved, "
+        f"It rests on the {size_of(specs)}, each of which rests on those before it, on the "
+        "[numbers, types and rules of CSV](#numbers-types-and-csv) after them, and on nothing else. "
+        "That the program keeps the promise is proved, "
         "and needs no reading. So whoever believes these definitions, and what "
         "[the first page](../README.md#what-is-trusted) says is trusted, may believe an acceptance.\n"
     )
     yield from in_words(specs, specs)
 
 
+def belief_of_code(specs: list[Spec]) -> Iterator[str]:
+    """The constants, the types and the rules of CSV that definitions take from elsewhere."""
+    constants, types = of_code(specs)
+    yield "### Numbers, types and CSV\n"
+    yield (
+        f"The definitions name {len(constants)} constants of the code. A law pins each in digits, "
+        "so that no other number is proved:\n"
+    )
+    yield "| Constant | Is | Law |"
+    yield "|---|---|---|"
+    for constant in constants:
+        law, digits = constant.law()
+        path = f"../crates/{constant.crate}/src/laws.rt"
+        yield f"| `{constant.name}`: {constant.meaning()} | {digits} | [`{law}` of `{constant.crate}`]({path}) |"
+    listed_types = "; ".join(
+        f"{listed([f'`{name}`' for name in names])} of `{crate}`" for crate, names in types.items()
+    )
+    yield (
+        "\nThey speak of values of these types of the code, each a few named fields or cases with a "
+        f"comment: {listed_types}.\n"
+    )
+    yield (
+        "What the rows of a CSV file are, is said by `records`, `strip_bom` and `default_config` of the "
+        "library `csv`, which is trusted with the toolchain; [the formats](FORMATS.md#a-sheet) have its rules "
+        "in words.\n"
+    )
+
+
 def belief_of_contract(specs: list[Spec]) -> Iterator[str]:
     yield "### Of which bytes it is said\n"
     yield (
         f"The contract of `check_bytes`, by which a caller has that page, is {Spec(*CONTRACT[-1]).link}. "
-        "An acceptance rests on its fields `gsi_bytes`, `sheet_bytes`, `promise`, `gsi_reader` and "
-        f"`sheet_reader`, and so on what these {len(specs)} files say of an acceptance besides:\n"
+        "An acceptance rests on its fields `gsi_reads` and `sheet_reads`, which say that the readers gave "
+        "the bytes `gsi_bytes` and `sheet_bytes`, and on `promise`, `gsi_reader` and `sheet_reader`; "
+        f"and so on what these {len(specs)} files say of an acceptance besides:\n"
     )
     yield from [*(spec.about() for spec in specs), ""]
 
@@ -209,10 +294,11 @@ def belief_of_printed(known: list[Spec]) -> Iterator[str]:
         "above and on those that the line names, and on no others.\n"
     )
     known = list(known)
-    for command, root in PRINTED.items():
-        *cited, promise = [spec for spec in closure(Spec(*root)) if spec not in known]
+    for what, root in PRINTED.items():
+        promise = Spec(*root)
+        cited = [spec for spec in closure(promise) if spec not in [*known, promise]]
         lines = sum(spec.lines() for spec in [*cited, promise])
-        yield f"- What `{command}` prints: {named([promise, *cited])}; {lines} lines."
+        yield f"- {what}: {named([promise, *cited])}; {lines} lines."
         known += [*cited, promise]
     yield ""
 
@@ -251,7 +337,7 @@ def in_words(specs: list[Spec], whole: list[Spec]) -> Iterator[str]:
 OTHERS = """\
 ## The other definitions
 
-What refusals, lists and texts are, and how the code keeps things: no acceptance, agreement, difference, residual or report rests on any of it. Each crate has its definitions in `specs/`; `specs/Lib.antt` lists the files in the order in which a reader needs them, the public ones first.
+What refusals are, and how the code keeps things: nothing above rests on any of it. Each crate has its definitions in `specs/`; `specs/Lib.antt` lists the files in the order in which a reader needs them, the public ones first.
 """
 
 
@@ -261,6 +347,7 @@ def page() -> str:
     known = [*accepted, *contract]
     believed = [
         *belief(accepted),
+        *belief_of_code([*accepted, *contract]),
         *belief_of_contract(contract),
         *belief_beside("an agreement", "That a table of directions agrees", agreement, known),
         HOW_NEAR,

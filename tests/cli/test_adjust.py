@@ -187,6 +187,37 @@ class AdjustTest(ProgramTest):
             self.assertEqual(0, status)
             self.assertTrue(said.startswith(f"accepted {name}: ".encode()))
 
+    def test_no_file_that_is_there_is_written_over(self):
+        """Nor what a link leads to; the sheets of other stations are written."""
+        stations = [STATION.replace(b"00S1", b"00S%d" % n) for n in (1, 2, 3)]
+        gsi, start = self.folder / "three.gsi", self.folder / "three"
+        gsi.write_bytes(b"".join(stations))
+        paths = [self.folder / f"three.S{n}.csv" for n in (1, 2, 3)]
+        paths[0].write_bytes(b"of the office")
+        paths[1].symlink_to("elsewhere")
+        for elsewhere in (None, b"of another"):
+            if elsewhere is not None:
+                (self.folder / "elsewhere").write_bytes(elsewhere)
+                paths[2].unlink()
+            status, printed, said = self.run_adjust("--all", start, stdin=answer_of(["list", gsi])[1])
+            there = [f"adjust.py: {path} is there already: it stays as it is" for path in paths[:2]]
+            self.assertEqual((1, b"", there), (status, printed, said.splitlines()))
+            self.assertEqual(b"of the office", paths[0].read_bytes())
+            self.assertTrue(paths[1].is_symlink())
+            self.assertEqual(elsewhere is not None, (self.folder / "elsewhere").exists())
+            self.assertEqual(0, answer_of(["check", gsi, paths[2]])[0])
+        self.assertEqual(b"of another", (self.folder / "elsewhere").read_bytes())
+
+    def test_names_control_no_terminal(self):
+        """Signs in them that would are shown as escapes."""
+        start = self.folder / "a\x1b[8m\nb"
+        listed = answer_of(["list", EXAMPLE])[1]
+        self.assertEqual(0, self.run_adjust("--all", start, stdin=listed)[0])
+        status, _, said = self.run_adjust("--all", start, stdin=listed)
+        self.assertEqual(1, status)
+        self.assertTrue(said.endswith("a\\x1b[8m\\x0ab.S1.csv is there already: it stays as it is\n"), said)
+        self.assertIn("a\\x1b[8m\\x0ab: No such file", self.run_adjust(start)[2])
+
     def test_a_station_that_cannot_be_written_leaves_the_others(self):
         sets = {1: [("A", 0, HALF_CIRCLE)], 2: [("B", 0, HALF_CIRCLE)]}
         apart = field_file(sets).replace(b"00S1", b"00S2")

@@ -23,12 +23,17 @@ from worked import AGREES, STATION, TABLE, edited, field_file, refused, widened
 STATIONS = 400 if SWEEP else 30
 
 
-def agrees(within, targets=2, station=b"S1"):
-    return b"agrees %s: %d targets, within %d\n" % (station, targets, within)
+def how_far(by, limit):
+    """How far a table is apart and its limit, in units of 0.001 mgon."""
+    return "{}.{:03} mgon, limit {}.{:03} mgon".format(*divmod(by, 1000), *divmod(limit, 1000))
 
 
-def apart(by):
-    return refused(f"compare: Apart {by}")
+def agrees(within, limit, targets=2, station="S1"):
+    return f"agrees {station}: {targets} targets, within {how_far(within, limit)}\n".encode()
+
+
+def apart(by, limit):
+    return refused(f"compare: Apart {how_far(by, limit)}")
 
 
 def of_b(direction):
@@ -41,90 +46,92 @@ P7_TABLE = (ROOT / "examples" / "station_p7_directions.csv").read_bytes()
 
 ROTATED = b"A,100.0001\nB,150.0001\n"
 
+AGREES_WITHIN_0 = agrees(0, 0)
+
 # Each is a table for the example, what `--within` says or none, and the line of its verdict.
 TABLES = [
     ("as it is printed", TABLE, None, AGREES),
-    ("as few bytes as may be", of_b(b"50.00003"), "0", AGREES),
-    ("the other order", b"B,50.00003\nA,0\n", "0", AGREES),
-    ("all rotated by 100 gon", b"A,100\nB,150.00003\n", "0", AGREES),
-    ("a minus", b"A,-0.00001\nB,50.00002\n", "0", AGREES),
-    ("just below a circle", b"A,399.99999\nB,50.00002\n", "0", AGREES),
-    ("just below a circle beside 0", b"A,399.99999\nB,50.00003\n", "5", agrees(5)),
-    ("and within less", b"A,399.99999\nB,50.00003\n", "4", apart(5)),
-    ("half the spread is 15", ROTATED, "10", apart(15)),
-    ("and within 14", ROTATED, "14", apart(15)),
-    ("and within 15", ROTATED, "15", agrees(15)),
-    ("and within 16", ROTATED, "16", agrees(15)),
-    ("and within 0.014 mgon", ROTATED, "0.014mgon", apart(15)),
-    ("and within 0.015 mgon", ROTATED, ".015mgon", agrees(15)),
-    ("half a unit", of_b(b"50.000031"), "1", agrees(1)),
-    ("half the ninth decimal", of_b(b"50.000030001"), "1", agrees(1)),
-    ("within 0", of_b(b"50.000030001"), "0", apart(1)),
-    ("half the ninth decimal above 10", of_b(b"50.000050001"), None, apart(11)),
-    ("a first direction as Python prints it", b"A,0.0\nB,50.00005\n", None, agrees(10)),
-    ("its decimal is not the finest", b"A,0.0\nB,50.00006\n", None, apart(15)),
-    ("one decimal that is not 0 once let it agree", b"A,0.1\nB,50.10006\n", None, apart(15)),
-    ("the largest limit", of_b(b"48.00003"), "1000000", agrees(1_000_000)),
-    ("above it", of_b(b"47.999999999"), "1000000", apart(1_000_016)),
-    ("half a circle", of_b(b"250.00003"), "1000000", apart(100_000_000)),
+    ("as few bytes as may be", of_b(b"50.00003"), "0", AGREES_WITHIN_0),
+    ("the other order", b"B,50.00003\nA,0\n", "0", AGREES_WITHIN_0),
+    ("all rotated by 100 gon", b"A,100\nB,150.00003\n", "0", AGREES_WITHIN_0),
+    ("a minus", b"A,-0.00001\nB,50.00002\n", "0", AGREES_WITHIN_0),
+    ("just below a circle", b"A,399.99999\nB,50.00002\n", "0", AGREES_WITHIN_0),
+    ("just below a circle beside 0", b"A,399.99999\nB,50.00003\n", "5", agrees(5, 5)),
+    ("and within less", b"A,399.99999\nB,50.00003\n", "4", apart(5, 4)),
+    ("half the spread is 15", ROTATED, "10", apart(15, 10)),
+    ("and within 14", ROTATED, "14", apart(15, 14)),
+    ("and within 15", ROTATED, "15", agrees(15, 15)),
+    ("and within 16", ROTATED, "16", agrees(15, 16)),
+    ("and within 0.014 mgon", ROTATED, "0.014mgon", apart(15, 14)),
+    ("and within 0.015 mgon", ROTATED, ".015mgon", agrees(15, 15)),
+    ("half a unit", of_b(b"50.000031"), "1", agrees(1, 1)),
+    ("half the ninth decimal", of_b(b"50.000030001"), "1", agrees(1, 1)),
+    ("within 0", of_b(b"50.000030001"), "0", apart(1, 0)),
+    ("half the ninth decimal above 10", of_b(b"50.000050001"), None, apart(11, 10)),
+    ("a first direction as Python prints it", b"A,0.0\nB,50.00005\n", None, agrees(10, 10)),
+    ("its decimal is not the finest", b"A,0.0\nB,50.00006\n", None, apart(15, 10)),
+    ("one decimal that is not 0 once let it agree", b"A,0.1\nB,50.10006\n", None, apart(15, 10)),
+    ("the largest limit", of_b(b"48.00003"), "1000000", agrees(1_000_000, 1_000_000)),
+    ("above it", of_b(b"47.999999999"), "1000000", apart(1_000_016, 1_000_000)),
+    ("half a circle", of_b(b"250.00003"), "1000000", apart(100_000_000, 1_000_000)),
     ("lines ended by CR LF", edited(TABLE, (b"\n", b"\r\n")), None, AGREES),
     ("no last line feed", TABLE[:-1], None, AGREES),
     ("lines without a byte", b"\n\n" + edited(TABLE, (b"B", b"\r\nB")), None, AGREES),
     ("a byte order mark", b"\xef\xbb\xbf" + TABLE, None, AGREES),
     ("quotes", b'"A","0"\n"B",50.00003\n', None, AGREES),
     ("titles", b"Name,Direction\n" + TABLE, None, AGREES),
-    ("titles of semicolons", b"Punkt;Richtung, gon\nA;0,0\nB;50,00003\n", "0", AGREES),
-    ("titles of blanks", b"Directions of S1\nA 0\nB 50.00003\n", "0", AGREES),
-    ("titles as long as may be", b"x" * 1_048_500 + b",y\nA,0\nB,50.00003\n", "0", AGREES),
-    ("semicolons", b"A;0\nB;50.00003\n", "0", AGREES),
-    ("tabs", b"A\t0\nB\t50.00003\n", "0", AGREES),
-    ("blanks", b"  A     0.00000\n  B    50.00003\n", "0", AGREES),
-    ("decimal commas", b"A;0,00000\nB;50,00003\n", "0", AGREES),
-    ("decimal commas in quotes", b'A,"0,00000"\nB,"50,00003"\n', "0", AGREES),
-    ("decimal commas after blanks", b"A 0,00000\nB 50,00003\n", "0", AGREES),
-    ("blanks around fields", b" A , 0 \nB\t,\t50.00003\t\n", "0", AGREES),
-    ("blank fields at the end", b"A,0,\nB,50.00003, ,\n", "0", AGREES),
+    ("titles of semicolons", b"Punkt;Richtung, gon\nA;0,0\nB;50,00003\n", "0", AGREES_WITHIN_0),
+    ("titles of blanks", b"Directions of S1\nA 0\nB 50.00003\n", "0", AGREES_WITHIN_0),
+    ("titles as long as may be", b"x" * 1_048_500 + b",y\nA,0\nB,50.00003\n", "0", AGREES_WITHIN_0),
+    ("semicolons", b"A;0\nB;50.00003\n", "0", AGREES_WITHIN_0),
+    ("tabs", b"A\t0\nB\t50.00003\n", "0", AGREES_WITHIN_0),
+    ("blanks", b"  A     0.00000\n  B    50.00003\n", "0", AGREES_WITHIN_0),
+    ("decimal commas", b"A;0,00000\nB;50,00003\n", "0", AGREES_WITHIN_0),
+    ("decimal commas in quotes", b'A,"0,00000"\nB,"50,00003"\n', "0", AGREES_WITHIN_0),
+    ("decimal commas after blanks", b"A 0,00000\nB 50,00003\n", "0", AGREES_WITHIN_0),
+    ("blanks around fields", b" A , 0 \nB\t,\t50.00003\t\n", "0", AGREES_WITHIN_0),
+    ("blank fields at the end", b"A,0,\nB,50.00003, ,\n", "0", AGREES_WITHIN_0),
     *(
-        (f"B as {text!r}", of_b(text), "0", AGREES)
+        (f"B as {text!r}", of_b(text), "0", AGREES_WITHIN_0)
         for text in [b"+50.00003", b"50.0000300000", b"050.00003", b" 50.00003 "]
     ),
-    ("no digit before the point", b"A,.0\nB,50.00003\n", "0", AGREES),
-    ("no digit after the point", b"A,0.\nB,50.00003\n", "0", AGREES),
-    ("a full circle", b"A,400.0000\nB,50.00003\n", "0", AGREES),
-    ("a full circle back", b"A,-400\nB,50.00003\n", "0", AGREES),
-    ("more decimals than Python reads", of_b(b"50.00003" + b"0" * 5_000), "0", AGREES),
+    ("no digit before the point", b"A,.0\nB,50.00003\n", "0", AGREES_WITHIN_0),
+    ("no digit after the point", b"A,0.\nB,50.00003\n", "0", AGREES_WITHIN_0),
+    ("a full circle", b"A,400.0000\nB,50.00003\n", "0", AGREES_WITHIN_0),
+    ("a full circle back", b"A,-400\nB,50.00003\n", "0", AGREES_WITHIN_0),
+    ("more decimals than Python reads", of_b(b"50.00003" + b"0" * 5_000), "0", AGREES_WITHIN_0),
     ("as many bytes as may be", TABLE + b"\n" * (model.LONGEST_TABLE - len(TABLE)), None, AGREES),
 ]
 
 # Each is a table, and the line of its verdict where no limit is stated: its finest row tells it, and
 # it is half a unit of the last decimal and 5, but 10 at least.
 USUAL = [
-    ("five decimals", of_b(b"50.00001"), agrees(10)),
-    ("and more", of_b(b"50.000009"), apart(11)),
-    ("five decimals of each", b"A,100.00010\nB,150.00010\n", apart(15)),
-    ("four decimals", ROTATED, agrees(15)),
-    ("four decimals and further", b"A,100.0001\nB,150.0000\n", apart(65)),
-    ("three decimals", b"A,0.000\nB,50.001\n", agrees(485)),
-    ("and further", b"A,0.000\nB,49.999\n", apart(515)),
-    ("two decimals", b"A,0.00\nB,50.01\n", agrees(4_985)),
-    ("and further", b"A,0.00\nB,49.99\n", apart(5_015)),
-    ("one decimal", b"A,0.1\nB,50.2\n", agrees(49_985)),
-    ("and further", b"A,0.1\nB,50.0\n", apart(50_015)),
-    ("four decimals beside six", b"A,0.0001\nB,50.000232\n", apart(51)),
-    ("five decimals beside four", b"A,0.00001\nB,50.0001\n", apart(30)),
-    ("three decimals beside four", b"A,0.0001\nB,50.001\n", apart(435)),
-    ("whole gon", b"A,0\nB,50\n", apart(15)),
-    ("whole gon with a point", b"A,0.\nB,50.\n", apart(15)),
-    ("a whole gon beside four decimals", of_b(b"50.0001"), agrees(35)),
-    ("and further", of_b(b"49.9999"), apart(65)),
-    ("decimals of 0 tell it", b"A,0.00000\nB,50.0001\n", apart(35)),
-    ("and with a minus", b"A,-0.0000\nB,50\n", agrees(15)),
-    ("and of a full circle", b"A,400.00000\nB,50.0001\n", apart(35)),
-    ("zeros are decimals", of_b(b"50.0000"), agrees(15)),
-    ("as many zeros as may be", of_b(b"50." + b"0" * 5_000), apart(15)),
-    ("a decimal comma", b"A;0,0000\nB;50,0000\n", agrees(15)),
-    ("a sign, blanks and titles", b"Name, 1.0 gon\n A, +0.0000\n B, -350.0000\n", agrees(15)),
-    ("titles tell nothing", b"Name,+1.000000 gon\nA,0.0000\nB,50.0000\n", agrees(15)),
+    ("five decimals", of_b(b"50.00001"), agrees(10, 10)),
+    ("and more", of_b(b"50.000009"), apart(11, 10)),
+    ("five decimals of each", b"A,100.00010\nB,150.00010\n", apart(15, 10)),
+    ("four decimals", ROTATED, agrees(15, 55)),
+    ("four decimals and further", b"A,100.0001\nB,150.0000\n", apart(65, 55)),
+    ("three decimals", b"A,0.000\nB,50.001\n", agrees(485, 505)),
+    ("and further", b"A,0.000\nB,49.999\n", apart(515, 505)),
+    ("two decimals", b"A,0.00\nB,50.01\n", agrees(4_985, 5_005)),
+    ("and further", b"A,0.00\nB,49.99\n", apart(5_015, 5_005)),
+    ("one decimal", b"A,0.1\nB,50.2\n", agrees(49_985, 50_005)),
+    ("and further", b"A,0.1\nB,50.0\n", apart(50_015, 50_005)),
+    ("four decimals beside six", b"A,0.0001\nB,50.000232\n", apart(51, 10)),
+    ("five decimals beside four", b"A,0.00001\nB,50.0001\n", apart(30, 10)),
+    ("three decimals beside four", b"A,0.0001\nB,50.001\n", apart(435, 55)),
+    ("whole gon", b"A,0\nB,50\n", apart(15, 10)),
+    ("whole gon with a point", b"A,0.\nB,50.\n", apart(15, 10)),
+    ("a whole gon beside four decimals", of_b(b"50.0001"), agrees(35, 55)),
+    ("and further", of_b(b"49.9999"), apart(65, 55)),
+    ("decimals of 0 tell it", b"A,0.00000\nB,50.0001\n", apart(35, 10)),
+    ("and with a minus", b"A,-0.0000\nB,50\n", agrees(15, 55)),
+    ("and of a full circle", b"A,400.00000\nB,50.0001\n", apart(35, 10)),
+    ("zeros are decimals", of_b(b"50.0000"), agrees(15, 55)),
+    ("as many zeros as may be", of_b(b"50." + b"0" * 5_000), apart(15, 10)),
+    ("a decimal comma", b"A;0,0000\nB;50,0000\n", agrees(15, 55)),
+    ("a sign, blanks and titles", b"Name, 1.0 gon\n A, +0.0000\n B, -350.0000\n", agrees(15, 55)),
+    ("titles tell nothing", b"Name,+1.000000 gon\nA,0.0000\nB,50.0000\n", agrees(15, 55)),
 ]
 
 
@@ -149,23 +156,23 @@ SIX_DECIMALS = p7(
 # Tables of which the row with the fewest decimals once set the limit: each named for the answer of
 # then. The first are of S1, those of P7 are worked from the fractions of its sheet.
 OF_S1_ONCE = [
-    ("9.97 mgon off once agreed within 4985", b"A,0.00\nB,50.01000\n", apart(4_985)),
-    ("0.97 mgon off once agreed within 485", b"A,0.000\nB,50.00100\n", apart(485)),
-    ("0.10 mgon off once agreed within 51", b"A,0.0000\nB,50.000132\n", apart(51)),
-    ("0.07 mgon off once agreed within 35", b"A,0.0000000\nB,50.0001\n", apart(35)),
+    ("9.97 mgon off once agreed within 4985", b"A,0.00\nB,50.01000\n", apart(4_985, 10)),
+    ("0.97 mgon off once agreed within 485", b"A,0.000\nB,50.00100\n", apart(485, 10)),
+    ("0.10 mgon off once agreed within 51", b"A,0.0000\nB,50.000132\n", apart(51, 10)),
+    ("0.07 mgon off once agreed within 35", b"A,0.0000000\nB,50.0001\n", apart(35, 10)),
 ]
 OF_P7_ONCE = [
-    ("right and without zeros, as once, but within 50,001", TURNED_RIGHT, agrees(4, 6, b"P7")),
-    ("40 mgon off once agreed within 20000", TURNED_WRONG, apart(20_000)),
-    ("21 and 10 mgon off once agreed within 15668", p7(P3="64.5", CHURCH="278.87059"), apart(15_668)),
-    ("4.5 mgon off once agreed within 2272", p7(MAST="139.4"), apart(2_272)),
-    ("8 mgon off beside 0.00 once agreed within 4000", SIX_DECIMALS, apart(4_000)),
+    ("right and without zeros, as once, but within 50,001", TURNED_RIGHT, agrees(4, 10, 6, "P7")),
+    ("40 mgon off once agreed within 20000", TURNED_WRONG, apart(20_000, 10)),
+    ("21 and 10 mgon off once agreed within 15668", p7(P3="64.5", CHURCH="278.87059"), apart(15_668, 10)),
+    ("4.5 mgon off once agreed within 2272", p7(MAST="139.4"), apart(2_272, 10)),
+    ("8 mgon off beside 0.00 once agreed within 4000", SIX_DECIMALS, apart(4_000, 10)),
 ]
 IN_DEGREES_ONCE = [
-    ("0.29 seconds off once agreed within 46", b"A,0-00-00\nB,45-00-00.39\n", apart(46)),
-    ("the same by signs", "A,0°00'00\"\nB,45°00'00.39\"\n".encode(), apart(46)),
-    ("and with its decimals, as once", b"A,0-00-00.00\nB,45-00-00.39\n", apart(46)),
-    ("whole seconds", b"A,0-00-00\nB,45-00-00\n", agrees(15)),
+    ("0.29 seconds off once agreed within 46", b"A,0-00-00\nB,45-00-00.39\n", apart(46, 10)),
+    ("the same by signs", "A,0°00'00\"\nB,45°00'00.39\"\n".encode(), apart(46, 10)),
+    ("and with its decimals, as once", b"A,0-00-00.00\nB,45-00-00.39\n", apart(46, 10)),
+    ("whole seconds", b"A,0-00-00\nB,45-00-00\n", agrees(15, 160)),
 ]
 
 
@@ -177,58 +184,58 @@ def s1_of(b):
 # A station, a table of it with four decimals or fewer, and the line: an instrument's own results may
 # be half a step and 5 units off, and the program's own tables are taken back.
 ROOM = [
-    ("55 of four decimals once were apart", 5_000_001, b"A,0.0000\nB,49.9999\n", agrees(55)),
-    ("60 are", 5_000_002, b"A,0.0000\nB,49.9999\n", apart(60)),
-    ("505 of three decimals once were apart", 5_000_001, b"A,0.000\nB,49.999\n", agrees(505)),
-    ("510 are", 5_000_002, b"A,0.000\nB,49.999\n", apart(510)),
-    ("its own table once was 1500 apart", 20_000_300, b"A,0.0\nB,200.0\n", agrees(1_500)),
-    ("its own table of zeros alone", 300, b"A,0.0\nB,0.0\n", agrees(1_500)),
+    ("55 of four decimals once were apart", 5_000_001, b"A,0.0000\nB,49.9999\n", agrees(55, 55)),
+    ("60 are", 5_000_002, b"A,0.0000\nB,49.9999\n", apart(60, 55)),
+    ("505 of three decimals once were apart", 5_000_001, b"A,0.000\nB,49.999\n", agrees(505, 505)),
+    ("510 are", 5_000_002, b"A,0.000\nB,49.999\n", apart(510, 505)),
+    ("its own table once was 1500 apart", 20_000_300, b"A,0.0\nB,200.0\n", agrees(1_500, 50_005)),
+    ("its own table of zeros alone", 300, b"A,0.0\nB,0.0\n", agrees(1_500, 50_005)),
 ]
 
 # Tables of P7 as programs really printed them (numpy 1.24, Octave 7.3, LibreOffice 7.4, mawk 1.3), of
 # directions with eight decimals; how far each is apart from the exact ones, of which its sheet has the
-# fractions; and whether its rows are rounded alike, so that no limit need be stated.
+# fractions; and the limit, where none is stated.
 PRINTED = [
     (
         "numpy's savetxt, with a header",
         b"# target,direction\nTOWER,0.000000\nP3,64.521338\nMAST,139.404538\n"
         b"P8,212.757195\nCHURCH,278.860592\nP12,345.209189\n",
         1,
-        True,
+        10,
     ),
     (
         "Octave's printf, in columns, of angles just below a full circle",
         b"TOWER       400.0000\nP3           64.5213\nMAST        139.4045\n"
         b"P8          212.7572\nCHURCH      278.8606\nP12         345.2092\n",
         25,
-        True,
+        55,
     ),
     (
         "LibreOffice in German, converted with no option",
         b'Ziel,Richtung\nTOWER,0\nP3,"64,5213375"\nMAST,"139,40453814"\n'
         b'P8,"212,757195"\nCHURCH,"278,86059171"\nP12,"345,20918875"\n',
         1,
-        True,
+        10,
     ),
     (
         "LibreOffice in German, saved with semicolons as it shows four decimals",
         b"Ziel;Richtung (gon)\nTOWER;0,0000\nP3;64,5213\nMAST;139,4045\n"
         b"P8;212,7572\nCHURCH;278,8606\nP12;345,2092\n",
         25,
-        True,
+        55,
     ),
     (
         "LibreOffice in English, saved with tabs as it shows five decimals",
         b"Target\tDirection\nTOWER\t0.00000\nP3\t64.52134\nMAST\t139.40454\n"
         b"P8\t212.75720\nCHURCH\t278.86059\nP12\t345.20919\n",
         4,
-        True,
+        10,
     ),
     (
         "awk's print, which shows six digits: its table once agreed within 329",
         b"TOWER 0\nP3 64.5213\nMAST 139.405\nP8 212.757\nCHURCH 278.861\nP12 345.209\n",
         329,
-        False,
+        55,
     ),
 ]
 
@@ -301,16 +308,16 @@ IN_UTF_16 = [
 # Each is a table in degrees, and the line of its verdict within 0.000001 gon: 50.00003 gon are
 # 45.000027 degrees, or 0.0972 seconds beside 45 degrees.
 IN_DEGREES = [
-    ("hyphens", b"A,0-00-00\nB,45-00-00.0972\n", agrees(0)),
-    ("a tenth of a second", b"A,0-00-00.0\nB,45-00-00.1\n", agrees(1)),
-    ("zeros and a sign", b"A,+000-00-00\nB,+045-00-00.0972000\n", agrees(0)),
-    ("the other way round", b"A,-0-00-00\nB,-314-59-59.9028\n", agrees(0)),
-    ("a full circle", b"A,360-00-00\nB,-315.0000\n", apart(15)),
-    ("signs", "A,0°00'00\"\nB,45°00'00.0972\"\n".encode(), agrees(0)),
-    ("signs in quotes", 'A,"0°00\'00"""\nB,"45°00\'00,0972"""\n'.encode(), agrees(0)),
-    ("signs and semicolons", "A;0°00'00\"\nB;45°00'00,0972\"\n".encode(), agrees(0)),
-    ("decimals", b"A 0\nB 45.000027\n", agrees(0)),
-    ("hyphens beside decimals", b"A,0-00-00\r\nB,45.000027\r\n", agrees(0)),
+    ("hyphens", b"A,0-00-00\nB,45-00-00.0972\n", agrees(0, 1)),
+    ("a tenth of a second", b"A,0-00-00.0\nB,45-00-00.1\n", agrees(1, 1)),
+    ("zeros and a sign", b"A,+000-00-00\nB,+045-00-00.0972000\n", agrees(0, 1)),
+    ("the other way round", b"A,-0-00-00\nB,-314-59-59.9028\n", agrees(0, 1)),
+    ("a full circle", b"A,360-00-00\nB,-315.0000\n", apart(15, 1)),
+    ("signs", "A,0°00'00\"\nB,45°00'00.0972\"\n".encode(), agrees(0, 1)),
+    ("signs in quotes", 'A,"0°00\'00"""\nB,"45°00\'00,0972"""\n'.encode(), agrees(0, 1)),
+    ("signs and semicolons", "A;0°00'00\"\nB;45°00'00,0972\"\n".encode(), agrees(0, 1)),
+    ("decimals", b"A 0\nB 45.000027\n", agrees(0, 1)),
+    ("hyphens beside decimals", b"A,0-00-00\r\nB,45.000027\r\n", agrees(0, 1)),
     ("degrees that are above 360", of_b(b"360-00-00.0001"), refused("table row 2: Range")),
     *(
         (f"B as {text!r}", of_b(text.encode()), refused("table row 2: Number"))
@@ -337,7 +344,7 @@ FILES = [
     ("two parts and a fault", TWO_PARTS, "S1", b"A,0\n", refused("table: Missing 2")),
     ("half a circle", three_sets(20_000_000), "S1", TABLE, refused("adjust: Residual 5")),
     ("above 2,000 half units", three_sets(3_001), "S1", TABLE, refused("adjust: Residual 5")),
-    ("the largest residuals", three_sets(3_000), "S1", of_b(b"0.010001"), agrees(1)),
+    ("the largest residuals", three_sets(3_000), "S1", of_b(b"0.010001"), agrees(1, 10)),
 ]
 
 # What may not follow `--within`, and what is said of it.
@@ -373,12 +380,14 @@ class CompareTest(ProgramTest):
             self.check([judged(name, STATION, table, line, "--degrees")])
 
     def test_tables_are_read_as_programs_print_them(self):
-        for name, table, within, rounds_alike in PRINTED:
-            line, why = agrees(within, 6, b"P7"), apart(within)
-            usual = line if rounds_alike else why
-            self.check([judged(name, P7, table, usual, station="P7")])
-            self.check([judged(name, P7, table, line, "--within", str(within), station="P7")])
-            self.check([judged(name, P7, table, why, "--within", str(within - 1), station="P7")])
+        for name, table, within, usual in PRINTED:
+            for limit, options in [
+                (usual, []),
+                (within, ["--within", str(within)]),
+                (within - 1, ["--within", str(within - 1)]),
+            ]:
+                line = apart(within, limit) if limit < within else agrees(within, limit, 6, "P7")
+                self.check([judged(name, P7, table, line, *options, station="P7")])
 
     def test_the_field_file_is_judged_before_the_table_and_both_before_they_are_compared(self):
         for name, file, station, table, line in FILES:
@@ -428,7 +437,7 @@ class CompareTest(ProgramTest):
         rows = [b"%d,%d.%02d%04d\n" % (t, *divmod(t - 1, 100), 40) for t in range(1, 100)]
         table = b"".join([b"100,0.99\n", *reversed(rows)])
         file, options = field_file(sets), ["--within", "20"]
-        self.check([judged("the largest", file, table, agrees(20, 100), *options)])
+        self.check([judged("the largest", file, table, agrees(20, 20, 100), *options)])
 
 
 class ComparedTest(AgainstModel):

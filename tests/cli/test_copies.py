@@ -1,16 +1,22 @@
 """examples/prepare.py: copies of a field file with blocks left out, renamed or put in, and the
 command that shows that nothing else was changed."""
 
+import itertools
 import re
 import subprocess
 import sys
 import unittest
+from typing import NamedTuple
 
 from pages import environment_of, tools
 from program import ROOT, ProgramTest, answer_of
 from worked import STATION, edited
 
 EXAMPLES = ROOT / "examples"
+
+sys.path.insert(0, str(EXAMPLES))
+import prepare  # noqa: E402
+
 P7 = (EXAMPLES / "station_p7.gsi").read_bytes()
 
 TIME = 60
@@ -47,6 +53,78 @@ def sights_of(text):
         read = lines_of((sight.upper(), face, 1_000 * ord(sight.upper()) + (face - 1) * 20_000_000))
         lines += b"110001+000000P7 88..10+00001543\r\n" if sight == "|" else read
     return lines
+
+
+def pairs_of(targets):
+    """Sights that read target by target."""
+    return "".join(target + target.lower() for target in targets)
+
+
+def turning(targets):
+    """The same, where the face is not changed from one target to the next."""
+    return "".join(pairs_of(one)[:: (-1) ** nth] for nth, one in enumerate(targets))
+
+
+# Each way in which a set is read.
+WAYS = {
+    "there and back": lambda targets: targets + targets[::-1].lower(),
+    "twice from the first": lambda targets: targets + targets.lower(),
+    "target by target": pairs_of,
+    "target by target, turning": turning,
+}
+
+
+def sights_before(targets):
+    """Sights before the sets, three at most: to their targets and to another, X, in one face or in
+    both."""
+    for one in [*targets, "X"]:
+        yield from (one, one + one.lower(), one.lower() + one)
+        for other in [*targets, "X"]:
+            pair = other + other.lower()
+            yield from (one + other, one + pair, pair + one, one + other + one)
+
+
+def clean_jobs():
+    """Jobs of whole sets: of each what stands before, its sets, and the targets and the way of one.
+    In one of more sets the second target may be missing."""
+    ways = itertools.product([("AB", 3), ("ABC", 2), ("ABC", 1), ("ABCD", 2)], WAYS.values())
+    for (targets, count), way in ways:
+        for before in ["", *sights_before(targets)]:
+            yield before, way(targets) * count, way(targets)
+            for gap in range(count) if count > 1 and len(targets) > 2 else ():
+                sets = [way(targets) for _ in range(count)]
+                sets[gap] = way(targets[0] + targets[2:])
+                yield before, "".join(sets), way(targets)
+
+
+class Sight(NamedTuple):
+    """A block that is a reading, as `sights_of` writes it."""
+
+    number: int
+    letter: str
+
+    def target(self):
+        return self.letter.upper()
+
+    def face(self):
+        return 1 if self.letter.isupper() else 2
+
+    def is_reading(self):
+        return True
+
+    def sets_up(self):
+        return False
+
+    def code(self):
+        return None
+
+
+def found_by(rule, sights):
+    """The blocks that a rule leaves out of a job of these sights; none where it refuses."""
+    try:
+        return [sight.number for sight in rule([*itertools.starmap(Sight, enumerate(sights, 1))])]
+    except prepare.Refused:
+        return []
 
 
 class PrepareTest(ProgramTest):
@@ -148,7 +226,6 @@ class PrepareTest(ProgramTest):
             ("ABCAacbaacbaABCA", "...x...x...x...x"),  # faces alternate
             ("AaBbCcAaAaBbCcAa", "......xx......xx"),  # target by target
             ("AaAaBbCcAa", "........xx"),
-            ("AaBbAa", "....xx"),
             ("ABCcba|BAbab", "...........x"),
             ("ABCcbaABCcbaAa", "............xx"),  # a pair after sets that were read by faces
             ("XABCabcABCabcAa", ".............xx"),
@@ -161,6 +238,11 @@ class PrepareTest(ProgramTest):
         for sights in of_none:
             status, _, said = self.prepared(sights_of(sights), "--closing")
             self.assertEqual((1, "prepare.py: no set has a closing sight\n"), (status, said))
+        # An orientation in both faces to the last target, and then whole sets.
+        for sights in ("CcAaBbCcAaBbCc", "AaBbAa"):
+            status, _, answer = self.prepared(sights_of(sights), "--closing")
+            said = "prepare.py: all sets are whole, and no sight closes one, if the first begins at block 3: "
+            self.assertEqual((1, said), (status, answer[: len(said)]))
 
     def test_a_last_set_that_was_broken_off_is_found_in_a_job_without_codes(self):
         """Capitals are sights in face I and small letters in face II; | sets the instrument up."""
@@ -170,10 +252,10 @@ class PrepareTest(ProgramTest):
             ("ABCabcABCab", "......xxxxx"),
             ("ABCcbacbaABCABCc", "............xxxx"),  # faces alternate
             ("abcCBAabc", "......xxx"),  # sets begin in face II
-            ("AaBbCcAaBbCcAaB", "............xxx"),
-            ("AaBbCcAaBb", "......xxxx"),  # each face is there, and the last target is not
-            ("ABCcbaABba|ABbaAB", "...............xx"),  # a gap; the second station is broken off
-            ("ABCcbaAB|ABbaAB", "......xx.....xx"),
+            ("XYAaBbCcAaBbCcAaB", "..............xxx"),
+            ("XYAaBbCcAaBb", "........xxxx"),  # each face is there, and the last target is not
+            ("ABCcbaABba|ABCcbaAB", ".................xx"),  # a gap; the second station is broken off
+            ("ABCcbaAB|ABCcbaAB", "......xx.......xx"),
             ("AABCcbaABC", ".......xxx"),  # an orientation sight comes first
             ("CcABCcbaABC", "........xxx"),
             ("ABCcbaABXY", "......xx.."),  # detail points stay
@@ -192,6 +274,37 @@ class PrepareTest(ProgramTest):
             self.assertEqual((1, none), (status, said), sights)
         said = "prepare.py: the file has codes: leave the set out by --set\n"
         self.assertEqual((1, "", said), self.prepared(P7, "--broken-off"))
+        # An orientation in both faces to the last target, and then whole sets.
+        whole = self.prepared(sights_of("CcAaBbCcAaBbCc"), "--broken-off")
+        self.assertEqual((1, "", none), whole)
+        # The first sights may be those of a set or an orientation before it.
+        for sights, either in [
+            ("AaBbCcAaBbCcAaB", "block 15 or blocks 13-15"),
+            ("AaBbCcAaBb", "blocks 7-10 or blocks 9-10"),
+            ("ABbaAB", "block 6 or blocks 5-6"),
+        ]:
+            said = f"prepare.py: the last set that was broken off may have {either}: leave out by"
+            status, _, answer = self.prepared(sights_of(sights), "--broken-off")
+            self.assertEqual((1, said), (status, answer[: len(said)]))
+
+    def test_no_reading_of_a_whole_set_is_left_out_by_a_rule(self):
+        """Whatever stands before the sets, and whether detail points follow them or not."""
+        for before, sets, _ in clean_jobs():
+            for sights in (before + sets, before + sets + "UV"):
+                for rule in (prepare.broken_off, prepare.closing_sights):
+                    self.assertEqual([], found_by(rule, sights), (rule, sights))
+
+    def test_of_a_set_that_was_broken_off_all_is_left_out_or_nothing(self):
+        """Whatever stands before the sets, and wherever the last set ends."""
+        counts = dict.fromkeys((True, False), 0)
+        for before, sets, one in clean_jobs():
+            whole = before + sets
+            for end in range(1, len(one)):
+                found = found_by(prepare.broken_off, whole + one[:end])
+                numbers = list(range(len(whole) + 1, len(whole) + end + 1))
+                self.assertIn(found, ([], numbers), whole + one[:end])
+                counts[bool(found)] += 1
+        self.assertGreater(counts[True], 3 * counts[False], counts)
 
     def changed(self, field, args, expected):
         """Compares the copy, and looks at the log: each line as it was and as it is."""
@@ -335,6 +448,16 @@ class PrepareTest(ProgramTest):
         for number in (2, 4, 5):
             log += b"block %d:\n< %s" % (number, lines[number - 1])
         self.assertEqual(log, self.log)
+
+    def test_signs_of_a_name_that_control_a_terminal_are_shown_as_escapes(self):
+        """In the log, in what is printed and in errors; the printed command runs all the same."""
+        self.copy = self.folder / "a\x1b[8m\n'b"
+        self.assertEqual(0, self.prepared(P7, "--blocks", "2")[0])
+        self.assertIn(r" field.gsi $'a\x1b[8m\x0a\x27b' | ", self.shows)
+        self.assertTrue(self.log.startswith(rb"a\x1b[8m\x0a\x27b is field.gsi without: "), self.log)
+        self.check_changes_are_shown()
+        status, _, said = self.copied(P7, "--why=a reason", "--blocks", "2")
+        self.assertEqual((1, "prepare.py: a\\x1b[8m\\x0a\\x27b.log is there already\n"), (status, said))
 
     def test_a_copy_is_a_new_file(self):
         self.field.write_bytes(P7)

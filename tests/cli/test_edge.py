@@ -4,6 +4,7 @@ otherwise."""
 
 import hashlib
 import itertools
+import os
 import random
 import shutil
 import subprocess
@@ -45,7 +46,7 @@ TABLE_OFF = edited(TABLE, (b"50.000030", b"50.000060"))
 # the two tables is 2 gon off or more.
 DEGREES_OFF = edited(TABLE_OFF, (b"50.000060", b"45.000054"))
 
-WITHIN_15 = b"agrees S1: 2 targets, within 15\n"
+WITHIN_15 = b"agrees S1: 2 targets, within 0.015 mgon, limit 0.015 mgon\n"
 
 DIFFERENCES_15 = b"""\
 target,stated,least squares,difference,from the median
@@ -77,7 +78,9 @@ LIMITS = [
 
 RESIDUAL = Option("--residual", "1", "0", refusal("kernel: Residual 1"), ("0.0050mgon", "0.mgon"))
 
-WITHIN = Option("--within", "15", "14", refusal("compare: Apart 15"), ("0.015mgon", "00.014mgon"))
+APART_15 = refusal("compare: Apart 0.015 mgon, limit 0.014 mgon")
+
+WITHIN = Option("--within", "15", "14", APART_15, ("0.015mgon", "00.014mgon"))
 
 DECIMALS = Option("--decimals", "6", "4", (0, b"A,0.0000\nB,50.0000\n", b""))
 
@@ -141,6 +144,37 @@ NAMES = [
     "%s", "{}", "@a", "#a", "a=b", "a:b", "a,b", "a;b", "...", ".a", "check", "S1", "station_check", "é", "日本", "\x7f",
     "a" * 100, "a" * 199, "a" * 201, "a" * 255,
 ]  # fmt: skip
+
+
+# So many names of files are drawn, of up to so many bytes.
+DRAWN, LONGEST_NAME = 2_000 if SWEEP else 100, 255
+
+
+# The letters of such names, by their numbers: those of one byte of UTF-8 but 0, of two, three and four.
+LETTERS = [range(1, 0x80), range(0x80, 0x800), range(0x4E00, 0xA000), range(0x1F300, 0x1F600)]
+
+
+def drawn_name(draw):
+    """A name of a file: of any letters, or of plain ones with an ending."""
+    if draw.random() < 0.5:
+        most = draw.choice([12, LONGEST_NAME])
+        name = "".join(chr(draw.choice(draw.choice(LETTERS))) for _ in range(draw.randint(1, most)))
+        name = name.replace("/", "")
+        while len(name.encode()) > LONGEST_NAME:
+            name = name[:-1]
+        return name.encode() if name.strip(".") else b"a"
+    letters = b"abcdefghijklmnopqrstuvwxyzABCDEFGHIJKLMNOPQRSTUVWXYZ0123456789_-~"
+    stem, ending = (bytes(draw.choices(letters, k=draw.randint(1, most))) for most in (20, 9))
+    return stem + b"." + ending
+
+
+def like(name):
+    """Names that one might open in the place of this one: with a byte more or less, in capitals, without
+    its ending or with another."""
+    stem, _, ending = name.rpartition(b".")
+    near = {name[:-1], name[1:], name + b" ", name + b".gsi", b"." + name, name.upper(), name.lower()}
+    near |= {stem, stem + b".gsi", stem + b".bak", ending, name.rstrip(), name.lstrip(b"-")}
+    return {one for one in near - {name, b"", b".", b".."} if len(one) <= LONGEST_NAME}
 
 
 def orders(words, options):
@@ -331,7 +365,7 @@ class EdgeTest(ProgramTest):
         table.write_bytes(TABLE_OFF)
         far = b"A,0.000000000,0.000000,-2777.796\nB,55.555622222,50.000030,2777.796\n"
         for command, answer in [
-            ("compare", refusal("compare: Apart 2777797")),
+            ("compare", refusal("compare: Apart 2777.797 mgon, limit 0.010 mgon")),
             ("differences", (0, DIFFERENCES_15.splitlines(keepends=True)[0] + far, b"")),
         ]:
             self.assertEqual(answer, answer_by_model(command, {"--degrees": None}, table))
@@ -502,6 +536,32 @@ class EdgeTest(ProgramTest):
                         status, stdout, stderr = answer
                         stderr = stderr.replace(b"{}", path.encode())
                         self.assertEqual((status, stdout, stderr), answer_of(["list", path]))
+
+    def test_the_file_of_a_drawn_name_is_read_and_no_other(self):
+        """As a field file and as a sheet."""
+        draw = random.Random(40)
+        for _ in range(DRAWN):
+            name = drawn_name(draw)
+            folder = bytes(self.empty_folder()) + b"/"
+            for other in like(name):
+                with open(folder + other, "wb") as file:
+                    file.write(b"x")
+            with self.subTest(name=name):
+                for content, words, expected in [
+                    (STATION, ["list", "--", name], (0, LIST, b"")),
+                    (SHEET, ["check", "--", EXAMPLE, name], (0, ACCEPTED, b"")),
+                    (b"y", ["list", "--", name], refusal("block 1: Word 1")),
+                ]:
+                    with open(folder + name, "wb") as file:
+                        file.write(content)
+                    self.assertEqual(expected, answer_of(words, cwd=folder))
+                # What is not there is not found under another name.
+                os.remove(folder + name)
+                for other in like(name):
+                    with open(folder + other, "wb") as file:
+                        file.write(STATION)
+                status, stdout, stderr = answer_of(["list", "--", name], cwd=folder)
+                self.assertEqual((2, b"", b"cannot open "), (status, stdout, stderr[:12]))
 
     def test_the_field_file_is_the_first_path_whatever_its_name(self):
         for first, second in itertools.product([f"a{ending}" for ending in ENDINGS], [f"b{e}" for e in ENDINGS]):

@@ -13,6 +13,8 @@ sys.path.insert(0, str(ROOT / "tools"))
 import faults  # noqa: E402
 import run  # noqa: E402
 
+APART_15 = "Apart 0.015 mgon, limit 0.010 mgon"
+
 NO_MEMORY = b"refused: out of memory\n"
 
 WRITE_FAILED = b"refused: write failed\n"
@@ -82,7 +84,7 @@ class ExplainTest(ProgramTest):
         """The name of the fault in the line of a refusal, found in another way than the program's."""
         reason = line.removeprefix("refused: ")
         reason = re.sub(PLACE, "", reason)
-        return re.sub(r" \d+$", "", reason)
+        return re.sub(r" (\d+|[0-9n.]+ mgon, limit [0-9n.]+ mgon)$", "", reason)
 
     def test_each_kind_of_refusal_is_explained(self):
         others = ["cannot open", "write failed", "out of memory"]
@@ -139,7 +141,7 @@ class ExplainTest(ProgramTest):
             ("Residual", ["kernel: Residual 1", "refused: adjust: Residual 1"]),
             ("OneSet", ["mark: OneSet", "refused: block 4: mark: OneSet"]),
             ("TooManySets", ["refused: block 164: mark: TooManySets"]),
-            ("Apart", ["Apart 15", "compare: Apart 15", "refused: compare: Apart 15"]),
+            ("Apart", ["Apart 15", f"compare: {APART_15}", f"refused: compare: {APART_15}"]),
             ("out of memory", ["refused: out of memory"]),
             ("cannot open", ["Cannot open"]),
         ]:

@@ -11,6 +11,7 @@ from functools import lru_cache
 import model
 import preload
 import test_generated
+import test_mark
 from against_model import FIELD, SHEET, TABLE, sample
 from program import PROGRAM, SWEEP, ProgramTest, answer_to, side_by_side
 from worked import JOB
@@ -293,6 +294,19 @@ class FailingEndsTest(ProgramTest):
             for room in range(len(text))
         )
         self.check_all(runs)
+
+    def test_a_long_text_of_which_one_write_fails(self):
+        """One write is tried once, however much it is to take: `mark` writes 16 MB at a time. Nothing
+        that would be taken after it is written."""
+        sets = b"".join(test_mark.set_of("AB") for _ in range(40))
+        self.job.write_bytes(sets + b"\n" * (model.LONGEST_FILE - len(sets)))
+        status, whole, _ = self.answer("mark")
+        self.assertEqual((0, True), (status, len(whole) > model.LONGEST_FILE))
+        places = [0, 1, 4_096, 32_768, 70_001, 1_000_000, 16_000_000, len(whole) - 1]
+        self.check_all(
+            ("mark", {"WRITE_ROOM": room, "WRITE_STOPS": 1}, (1, whole[:room], REFUSED_WRITE))
+            for room in places
+        )
 
     def test_an_output_with_just_enough_room(self):
         self.check_all(

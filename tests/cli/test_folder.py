@@ -1,6 +1,7 @@
 """examples/check_folder.py: a folder of many field files and sheets, and folders that lack some."""
 
 import os
+import shutil
 import subprocess
 import sys
 import unittest
@@ -18,6 +19,7 @@ from worked import (
     STATION,
     edited,
     field_file,
+    widened,
 )
 
 SCRIPT = ROOT / "examples" / "check_folder.py"
@@ -53,7 +55,8 @@ WRONG = edited(SHEET, (b"set,1,,-20,", b"set,1,,-21,"))
 TABLE = b"A,0.000000\nB,50.000030\n"
 ROUNDED = b"A,0.0000\nB,50.0000\n"
 OFF = b"A,0\nB,50.00005\n"
-AGREES = "agrees S1: 2 targets, within {}"
+AGREES = "agrees S1: 2 targets, within 0.{:03} mgon, limit 0.{:03} mgon"
+APART = "refused: compare: Apart 0.{:03} mgon, limit 0.{:03} mgon"
 
 # The same directions in degrees, in each form; the last two are right to a tenth of a second.
 IN_DEGREES = [
@@ -199,15 +202,15 @@ class FolderTest(ProgramTest):
             for end in (".csv", ".CSV"):
                 with self.subTest(name + end):
                     files = {"job.gsi": STATION, name + end: TABLE}
-                    lines = [f"{name}: {AGREES.format(0)}"]
+                    lines = [f"{name}: {AGREES.format(0, 10)}"]
                     lines.append(SUMMARY.format(1, 1, 0, 0, 0) + TABLES.format(1, 0, 0))
                     self.assertEqual((0, lines), self.answers(files))
                     kept = self.folder / "files" / f"{name}.answer"
-                    self.assertEqual(f"{AGREES.format(0)}\n", kept.read_text())
+                    self.assertEqual(f"{AGREES.format(0, 10)}\n", kept.read_text())
 
     def test_a_table_that_is_refused_leaves_its_station_to_be_done(self):
         files = {"job.gsi": STATION, "job.directions.csv": OFF}
-        lines = ["job.directions: refused: compare: Apart 10", f"job: {MISSING.format('S1')}"]
+        lines = [f"job.directions: {APART.format(10, 9)}", f"job: {MISSING.format('S1')}"]
         lines.append(SUMMARY.format(0, 1, 0, 0, 0) + TABLES.format(0, 1, 0))
         self.assertEqual((1, lines), self.answers(files, "--within=9"))
         # An accepted sheet makes it done, and the refusal still shows.
@@ -217,7 +220,7 @@ class FolderTest(ProgramTest):
 
     def test_options_of_compare_are_those_of_tables(self):
         files = {"job.gsi": STATION, "job.csv": SHEET, "job.directions.csv": ROUNDED}
-        for within, answer in [(14, "refused: compare: Apart 15"), (15, AGREES.format(15))]:
+        for within, answer in [(14, APART.format(15, 14)), (15, AGREES.format(15, 15))]:
             status, lines = self.answers(files, f"--within={within}", "--residual=2000")
             self.assertEqual((within == 14, f"job.directions: {answer}"), (status == 1, lines[1]))
         status, lines = self.answers(files, "--two-c=9")
@@ -229,7 +232,7 @@ class FolderTest(ProgramTest):
         status, lines = self.answers(files)
         summary = SUMMARY.format(1, 1, 1, 0, 0) + TABLES.format(2, 0, 0)
         self.assertEqual((0, summary), (status, lines[-1]))
-        self.assertIn("three.S2.directions: agrees S2: 2 targets, within 0", lines)
+        self.assertIn("three.S2.directions: agrees S2: 2 targets, within 0.000 mgon, limit 0.010 mgon", lines)
 
     def test_a_table_that_belongs_to_nothing_is_no_mistake(self):
         files = {"job.gsi": STATION, "job.csv": SHEET, "three.gsi": THREE}
@@ -278,15 +281,15 @@ class FolderTest(ProgramTest):
             with self.subTest(titles):
                 table = titles + b"\n" + TABLE
                 status, lines = self.answers({"job.gsi": STATION, "job.csv": table})
-                self.assertEqual((0, f"job: {AGREES.format(0)}"), (status, lines[0]))
+                self.assertEqual((0, f"job: {AGREES.format(0, 10)}"), (status, lines[0]))
 
     def test_tables_in_degrees(self):
-        for name, table, within in zip(
-            ["job.directions.csv", "job.csv", "job.S1.csv"], IN_DEGREES, [0, 1, 1]
+        for name, table, within, limit in zip(
+            ["job.directions.csv", "job.csv", "job.S1.csv"], IN_DEGREES, [0, 1, 1], [10, 17, 17]
         ):
             with self.subTest(table=table):
                 files = {"job.gsi": STATION, name: table}
-                said = f"{name[:-4]}: {AGREES.format(within)}"
+                said = f"{name[:-4]}: {AGREES.format(within, limit)}"
                 lines = [said, SUMMARY.format(1, 1, 0, 0, 0) + TABLES.format(1, 0, 0)]
                 self.assertEqual((0, lines), self.answers(files, "--degrees"))
                 status, lines = self.answers(files)
@@ -295,7 +298,7 @@ class FolderTest(ProgramTest):
         # Sheets and the limits are what they were.
         files = {"job.gsi": STATION, "job.csv": SHEET, "job.directions.csv": IN_DEGREES[1]}
         status, lines = self.answers(files, "--degrees", "--within=0", "--residual=1")
-        said = [f"job: {ACCEPTED_S1}", "job.directions: refused: compare: Apart 1"]
+        said = [f"job: {ACCEPTED_S1}", f"job.directions: {APART.format(1, 0)}"]
         self.assertEqual((1, said), (status, lines[:2]))
 
     def test_a_job_without_codes_is_not_done_and_the_note_of_list_is_printed(self):
@@ -353,7 +356,79 @@ class FolderTest(ProgramTest):
         others = {".job.gsi": STATION, "old.answer": ACCEPTED, "notes.txt": b""}
         status, lines = self.answers({**files, **others})
         self.assertEqual((0, SUMMARY.format(2, 2, 2, 0, 0)), (status, lines[-1]))
-        self.assertFalse((self.folder / "files" / "old.answer").exists())
+        self.assertIn("old.answer: an answer of before; no sheet or table has its name", lines)
+
+    def test_nothing_is_removed_or_written_over_but_answers(self):
+        """Files that are called as answers are, and hold none, stay as they are; so do links."""
+        files = {"job.gsi": STATION, "job.csv": SHEET, "other.gsi": STATION, "other.csv": SHEET}
+        mine = {"client.answer": b"our answer to the client\n", "job.answer": b"mine\n"}
+        folder = self.folder / "files"
+        self.answers(files)
+        for name, content in mine.items():
+            (folder / name).write_bytes(content)
+        (folder / "other.answer").unlink()
+        (folder / "other.answer").symlink_to("notes.txt")
+        (folder / "notes.txt").write_bytes(ACCEPTED)
+        status, lines, said = self.run_script()
+        self.assertEqual((1, ""), (status, said))
+        for name in ("job", "other"):
+            in_the_way = f"{name}: {name}.answer is in the way: it is no answer of station_check"
+            self.assertIn(in_the_way, lines)
+        self.assertEqual(SUMMARY.format(0, 2, 0, 0, 2), lines[-1])
+        for name, content in {**mine, "notes.txt": ACCEPTED}.items():
+            self.assertEqual(content, (folder / name).read_bytes())
+        self.assertTrue((folder / "other.answer").is_symlink())
+        self.assertFalse([line for line in lines if line.startswith("client")])
+        # An answer of before, and one that was begun, give way to the new one.
+        for before in (ACCEPTED, b"", b"refused: no station\n"):
+            (folder / "job.answer").write_bytes(before)
+            self.assertIn(f"job: {ACCEPTED_S1}", self.run_script()[1])
+            self.assertEqual(ACCEPTED, (folder / "job.answer").read_bytes())
+
+    def test_names_control_no_terminal(self):
+        """Signs in them that would are shown as escapes, in each line that is printed."""
+        name = "job\n1 of 1 field files done; \x1b[8m\\"
+        shown = r"job\x0a1 of 1 field files done; \x1b[8m\x5c"
+        status, lines = self.answers({f"{name}.gsi": STATION, f"{name}.csv": WRONG})
+        self.assertEqual(1, status)
+        self.assertEqual([f"{shown}: refused: kernel: TargetSum 1", f"{shown}: {MISSING.format('S1')}"], lines[:2])
+        status, lines = self.answers({f"{name}.S1.directions.csv": TABLE, f"{name}.answer": ACCEPTED})
+        self.assertEqual([True] * 2, [line.startswith(shown) for line in lines[:-1]])
+        status, lines, said = self.run_script(folder=self.folder / name)
+        self.assertEqual((2, [], 1), (status, lines, said.count("\n")))
+        self.assertIn(shown, said)
+        # Bytes that are no letters too.
+        (self.folder / "files").mkdir(exist_ok=True)
+        self.answers({})
+        with open(os.path.join(os.fsencode(self.folder / "files"), b"\x9b8m.gsi"), "wb") as file:
+            file.write(STATION)
+        line = self.run_script()[1][0]
+        self.assertTrue(line.startswith(r"\x9b8m: "), line)
+
+    def test_what_is_no_file_holds_nothing_up(self):
+        """A pipe that nobody writes to, a folder, a link to nothing."""
+        said = "no file, but a folder, a pipe or a link to nothing"
+        make = [os.mkfifo, os.mkdir, lambda path: os.symlink("nothing", path)]
+        for make_one in make:
+            self.answers({"job.gsi": STATION})
+            make_one(self.folder / "files" / "job.csv")
+            status, lines, _ = self.run_script()
+            self.assertEqual((1, f"job: {said}"), (status, lines[0]))
+            shutil.rmtree(self.folder / "files")
+            self.answers({"job.csv": SHEET, "two.directions.csv": TABLE})
+            for name in ("job.gsi", "two.gsi"):
+                make_one(self.folder / "files" / name)
+            status, lines, _ = self.run_script()
+            self.assertEqual((1, SUMMARY.format(0, 2, 0, 0, 1)), (status, lines[-1].partition("; of the tables")[0]))
+            self.assertIn(f"job: {said}", lines)
+            shutil.rmtree(self.folder / "files")
+
+    def test_a_sheet_is_one_whatever_its_station_is_called(self):
+        """As that of a station whose name ends like that of a table."""
+        field = edited(widened(STATION), (b"00000000000000S1", b"000S1.directions"))
+        sheet = edited(SHEET, (b",S1,", b",S1.directions,"))
+        status, lines = self.answers({"job.gsi": field, "job.S1.directions.csv": sheet})
+        self.assertEqual((0, SUMMARY.format(1, 1, 1, 0, 0)), (status, lines[-1]))
 
     def test_folders_inside_are_skipped(self):
         originals = self.folder / "files" / "originals"

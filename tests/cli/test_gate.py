@@ -1,5 +1,7 @@
 """The gate's ear: what it takes from the lines of `rt ci`, and what it says of them."""
 
+import io
+import json
 import os
 import sys
 import time
@@ -32,6 +34,17 @@ FAILURES = [
     "rt: FAILED: third low/kept.edit low/old.edit\n",
 ]
 
+# What it says of wrong bodies that are refused: three, of which two only for a name that is gone.
+BY_NAME = "refused, as it must be (only because a proof file names what the edit took away, so this"
+REFUSED = [
+    "rt: must-fail low/kept.edit: refused, as it must be: src/lib.rt:3:1: error: an open goal\n",
+    f"rt: must-fail low/name.edit: {BY_NAME} says little of the contract: ..): proofs/A.antt\n",
+    f"rt: must-fail high/name.edit: {BY_NAME} says little of the contract: ..): proofs/B.antt\n",
+]
+
+# What a run keeps of the whole.
+COUNTED = ["minutes", "processors", "wrong_bodies"]
+
 # Lines that tell of nothing of that kind.
 OTHERS = [
     "\n",
@@ -39,7 +52,7 @@ OTHERS = [
     " rt: low proved\n",
     "rt: low proved, but for one\n",
     "rt: low: its tests passed\n",
-    "rt: must-fail low/kept.edit: refused, as it must be: src/lib.rt:3:1: error\n",
+    "must-fail low/kept.edit: refused, as it must be: src/lib.rt:3:1: error\n",
     "src/lib.rt:3:1: note: low proved\n",
     "FAILED: low\n",
     "rt: ok; handles allowed: read write\n",
@@ -76,6 +89,8 @@ class ProgressTest(unittest.TestCase):
         edits = list(ROOT.glob("crates/*/must-fail/*.edit"))
         self.assertEqual(len(edits), sum(progress.wrong.values()))
         self.assertEqual(list(progress.wrong), progress.lacking())
+        self.assertIn("page_calls", progress.of_page)
+        self.assertLess(progress.of_page, folders)
 
     def test_it_says_how_far_the_proofs_are(self):
         progress = self.progress()
@@ -115,11 +130,80 @@ class ProgressTest(unittest.TestCase):
         self.assertEqual([line.rstrip("\n") for line in FAILURES], progress.failed)
         self.assertEqual(["third"], progress.lacking())
 
+    def test_wrong_bodies_that_are_refused_for_a_name_alone_are_counted(self):
+        progress = self.progress()
+        for lines, refused, by_name in [([], 0, 0), (REFUSED[:2], 2, 1), (REFUSED, 5, 3)]:
+            self.hear(progress, [*PROVED, *lines, *OTHERS, *FAILURES])
+            self.assertEqual((refused, by_name), (progress.refused, progress.refused_by_name))
+        self.assertIn("5 wrong bodies were refused, 3 of them only because ", progress.refusals())
+
     def test_other_lines_tell_of_nothing(self):
         progress = self.progress()
         self.hear(progress, OTHERS)
         heard = progress.proved, progress.tested, progress.begun, progress.notes, progress.failed
         self.assertEqual(({}, {}, {}, [], []), heard)
+
+
+class TimesTest(ProgramTest):
+    def setUp(self):
+        super().setUp()
+        self.times = self.folder / "times.json"
+        patched = mock.patch.object(gate, "TIMES", self.times)
+        patched.start()
+        self.addCleanup(patched.stop)
+
+    def test_the_times_of_a_run_are_those_that_the_next_one_says(self):
+        progress = gate.Progress()
+        progress.wrong = {"low": 2, "high": 5}
+        progress.start = time.monotonic() - 60 * 61.04
+        for line in PROVED:
+            progress.hear(line)
+        kept = progress.kept()
+        crates = {"low": ["proved", "tests", "wrong bodies begun"], "high": ["proved"]}
+        self.assertEqual(crates, {crate: [*at] for crate, at in kept["crates"].items()})
+        self.assertEqual({61.0}, {at for one in kept["crates"].values() for at in one.values()})
+        self.assertEqual((61.0, gate.processors(), 7), tuple(kept[one] for one in COUNTED))
+        self.times.write_text(json.dumps(kept))
+        said = f"the last run here took 61 min on {gate.processors()} processors, "
+        self.assertEqual(f"{said}of commit {gate.commit()} with 7 wrong bodies", gate.last_run())
+
+    def test_where_no_run_has_passed_it_says_what_the_page_has(self):
+        page = (ROOT / "docs" / "TESTS.md").read_text()
+        self.assertEqual(1, len(gate.MEASURED.findall(page)))
+        minutes, processors = gate.MEASURED.findall(page)[0]
+        said = "no run here has passed yet; docs/TESTS.md has measured "
+        for text in (None, "", "{}", "[]", '{"minutes": "long"}'):
+            with self.subTest(text):
+                if text is not None:
+                    self.times.write_text(text)
+                self.assertEqual(
+                    f"{said}{minutes} min on {processors} processors on another machine",
+                    gate.last_run(),
+                )
+
+    def run_of(self, *, failed_proofs, failed_tests):
+        """The gate's counts, where so much failed; nothing is run."""
+        counts = gate.command_line.Counts(3, failed_tests, [])
+        page = mock.Mock(failure=lambda: [])
+        with (
+            mock.patch.object(gate, "proofs_passed_and_failed", return_value=(4, failed_proofs)),
+            mock.patch.object(gate, "Page", return_value=page),
+            mock.patch.object(gate, "library_failure", return_value=[]),
+            mock.patch.object(gate, "take_program"),
+            mock.patch.object(gate.command_line, "run", return_value=counts),
+            mock.patch.object(sys, "stdout", io.StringIO()) as said,
+        ):
+            return gate.run_all()[:2], said.getvalue()
+
+    def test_only_a_run_that_passes_keeps_its_times(self):
+        for failed_proofs, failed_tests in [(1, 0), (0, 1), (0, 0)]:
+            with self.subTest(failed_proofs=failed_proofs, failed_tests=failed_tests):
+                counts, said = self.run_of(failed_proofs=failed_proofs, failed_tests=failed_tests)
+                is_well = counts[1] == 0
+                self.assertEqual(not failed_proofs and not failed_tests, is_well)
+                self.assertEqual(is_well, self.times.exists())
+                self.assertEqual(is_well, "times.json keeps the times" in said)
+                self.assertTrue(said.startswith("gate: no run here has passed yet; "), said)
 
 
 class ProofsTest(ProgramTest):
@@ -131,7 +215,7 @@ class ProofsTest(ProgramTest):
         rt.write_text(f'#!/bin/sh\n[ "$*" = ci ] || exit 9\ncat "{printed}"\nexit {status}\n')
         rt.chmod(0o755)
         progress, page = gate.Progress(), NoPage()
-        progress.wrong = {"low": 2, "high": 5}
+        progress.wrong, progress.of_page = {"low": 2, "high": 5, "beside": 0}, {"low", "high"}
         with mock.patch.dict(os.environ, {"RT": str(rt)}), open(os.devnull, "w") as nowhere:
             with mock.patch.object(sys, "stdout", nowhere):
                 found = gate.proofs_passed_and_failed(progress, page, str(self.folder))

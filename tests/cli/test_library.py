@@ -57,6 +57,7 @@ BEYOND: list[tuple[str, dict[str, Any]]] = [
     ("directions", {"decimals": 0}),
     ("directions", {"decimals": 9}),
     ("residuals", {"two_i": 1_000_001}),
+    ("mark", {"station": ""}),
     ("mark", {"station": "SEVENTEEN LETTERS"}),
     ("mark", {"station": "P\u00e47"}),
 ]
@@ -102,8 +103,8 @@ int main(int count, char **words) {
     setbuf(stdout, NULL);
     for (int turn = 0; turn < 20; turn++) {
         if (turn == 1) taken = mallinfo2().uordblks;
-        station_check_check(gsi, n, sheet, m, 2000, 2000, true, 2000, out, sizeof out, &length);
-        station_check_compare(gsi, n, sheet, m, "P7", 2, 2000, 2000, false, 0, out, sizeof out, &length);
+        station_check_check(gsi, n, sheet, m, 2000, 2000, 1, 2000, out, sizeof out, &length);
+        station_check_compare(gsi, n, sheet, m, "P7", 2, 2000, 2000, 0, 0, out, sizeof out, &length);
         station_check_differences(gsi, n, sheet, m, "P7", 2, 2000, 2000, out, sizeof out, &length);
         station_check_directions(gsi, n, "P7", 2, 2000, 2000, 6, out, sizeof out, &length);
         station_check_residuals(gsi, n, "P7", 2, 2000, 2000, out, sizeof out, &length);
@@ -116,6 +117,40 @@ int main(int count, char **words) {
         station_check_explain("TwoC", 4, out, sizeof out, &length);
     }
     printf("%d %zu\n", count, mallinfo2().uordblks - taken);
+    return 0;
+}
+"""
+
+
+# Checks a sheet and compares a table with a limit of 0, and prints each line, for each number of the
+# words that says whether it is stated.
+STATED = r"""
+#include <stdio.h>
+#include <stdlib.h>
+#include <station_check.h>
+
+static char gsi[1 << 16], other[1 << 16], out[1 << 16];
+
+static size_t read_file(const char *path, char *bytes) {
+    FILE *file = fopen(path, "rb");
+    size_t length = fread(bytes, 1, 1 << 16, file);
+    fclose(file);
+    return length;
+}
+
+int main(int count, char **words) {
+    size_t length, n = read_file(words[1], gsi), m = read_file(words[2], other);
+    for (int at = 3; at < count; at++) {
+        uint32_t is_stated = (uint32_t) strtoul(words[at], NULL, 10);
+        station_check_check(gsi, n, other, m, 2000, 2000, is_stated, 0, out, sizeof out, &length);
+        fwrite(out, 1, length, stdout);
+    }
+    m = read_file("table", other);
+    for (int at = 3; at < count; at++) {
+        uint32_t is_stated = (uint32_t) strtoul(words[at], NULL, 10);
+        station_check_compare(gsi, n, other, m, "P7", 2, 2000, 2000, is_stated, 0, out, sizeof out, &length);
+        fwrite(out, 1, length, stdout);
+    }
     return 0;
 }
 """
@@ -301,6 +336,20 @@ class LibraryTest(ProgramTest):
         done = subprocess.run(words, input=text, capture_output=True, text=True, timeout=60)
         self.assertEqual((0, ""), (done.returncode, done.stderr))
 
+    def test_a_limit_is_stated_by_any_number_but_0(self) -> None:
+        source = self.folder / "stated.c"
+        source.write_text(STATED)
+        program = self.compiled(source)
+        (self.folder / "table").write_bytes(TABLE.read_bytes())
+        numbers = [0, 1, 2, 255, 256, 1 << 16, 1 << 31, (1 << 32) - 1]
+        status, said, stderr = answer_to([program, GSI, SHEET, *map(str, numbers)], cwd=self.folder)
+        lines = said.decode().splitlines()
+        of_sheet = [ACCEPTED, *["refused: kernel: Residual 1"] * (len(numbers) - 1)]
+        agrees = "agrees P7: 6 targets, within 0.004 mgon, limit 0.010 mgon"
+        apart = "refused: compare: Apart 0.004 mgon, limit 0.000 mgon"
+        of_table = [agrees, *[apart] * (len(numbers) - 1)]
+        self.assertEqual((0, [*of_sheet, *of_table], b""), (status, lines, stderr))
+
     def test_memory_is_given_back(self) -> None:
         source = self.folder / "leaks.c"
         source.write_text(LEAKS)
@@ -319,11 +368,23 @@ class LibraryTest(ProgramTest):
         self.assertEqual(declared, {name for name, kind in kinds.items() if kind == "T"})
         self.assertEqual(set(), {name for name, kind in kinds.items() if kind == "U"} - NEEDED)
         # Each export of the crate has a name.
-        exports = re.findall(r"station_page_\w+", (CAPI / "names.ld").read_text())
+        texts = [(CAPI / name).read_text() for name in ("names.ld", "stated.c")]
+        exports = [name for text in texts for name in re.findall(r"station_page_\w+", text)]
         sources = "".join(path.read_text() for path in (ROOT / "crates/station_page/src").glob("*.rt"))
         of_crate = set(re.findall(r'extern "C" fn (station_page_\w+)', sources))
         self.assertEqual(of_crate, set(exports))
         self.assertEqual({name.replace("station_page_", "station_check_") for name in of_crate}, declared)
+
+    def test_each_export_takes_and_says_what_its_call_does(self) -> None:
+        """The prover would take an export that says less."""
+        said: list[dict[str, str]] = []
+        for crate, name in ("page_calls", "pub fn page_"), ("station_page", 'pub extern "C" fn station_page_'):
+            sources = "".join(path.read_text() for path in (ROOT / "crates" / crate / "src").glob("*.rt"))
+            heads = re.findall(rf"^{name}(\w+)(\(.*?)^\{{$", sources, re.DOTALL | re.MULTILINE)
+            said.append({call: re.sub(r"\s+|,(?=\s*\))", "", head) for call, head in heads})
+        calls, exports = said
+        self.assertEqual(12, len(calls))
+        self.assertEqual(calls, exports)
 
 
 if __name__ == "__main__":

@@ -20,13 +20,15 @@ CRATES = {
     "station_compare": ["middle"],
     "station_explain": ["low"],
     "not_of_the_program": ["low"],
-    "station_page staticlib": ["station_compare"],
+    "page_calls": ["station_compare"],
+    "station_page staticlib": ["page_calls"],
     "station_program": ["station_compare", "station_explain", "clap"],
 }
 PROVED = ["low", "other_low", "middle", "station_compare", "station_explain", "station_program"]
 
-# A toolchain, by the name that it is called by: `rt` tells where it lies, rattle proves a crate over the
-# libraries that it is told of, waits a moment and says what it proved, and rattle-link makes a program.
+# A toolchain, by the name that it is called by: `rt` tells where it lies, and what it was asked to try;
+# rattle proves a crate over the libraries that it is told of, waits a moment and says what it proved,
+# and rattle-link makes a program.
 # One of the crates that are to MEET waits until all of them have begun; the one to HOLD, until it is told
 # to go on.
 TOOLCHAIN = """\
@@ -37,6 +39,17 @@ import time
 from pathlib import Path
 
 tool, words = Path(sys.argv[0]), sys.argv[1:]
+if tool.name == "rt" and words[:2] == ["try", "--cases"]:
+    data = dict(word.split("=") for word in words[4::2])
+    statuses = iter(os.environ["STATUSES"].split())
+    for case in sorted(Path(words[2]).glob("?")):
+        args = case.with_suffix(".args").read_text().split()
+        assert all(Path(data[word]).is_file() for word in args if "." in word)
+        print(f"== {case.name}\\nasked {' '.join(args)}\\n== no case", flush=True)
+        end = "run=ended status=" + next(statuses)
+        print(f"said of {case.name}\\ncase={case.name} {end} proved=no", file=sys.stderr)
+    print("cases=5 ended=5 proved=no", file=sys.stderr)
+    sys.exit()
 if tool.name == "rt":
     print("a toolchain" if words == ["--version"] else tool.parent.parent / "START-HERE.md")
     sys.exit()
@@ -157,13 +170,36 @@ class MakeTest(ProgramTest):
         said = re.findall(r"(\w+) is proved, (\d+) of 6$", made.stderr, re.MULTILINE)
         self.assertEqual([str(n + 1) for n in range(6)], [n for _, n in said])
 
+    def test_what_is_tried_is_shown_and_said_to_be_unproved(self):
+        made = self.make("try", STATUSES="0 0 1 0 0")
+        self.assertEqual((0, ""), (made.returncode, made.stderr))
+        shown = re.findall(r"^\$ station_check (.*)\nasked (.*)\n== no case\nsaid of \d$", made.stdout, re.M)
+        self.assertEqual(["directions", "compare", "compare", "check", "list"], [one.split()[0] for one, _ in shown])
+        for words, asked in shown:
+            self.assertEqual(words, asked)
+        lines = made.stdout.splitlines()
+        self.assertTrue(lines[0].startswith("make try: nothing is proved by this."), lines[0])
+        self.assertTrue(lines[-1].startswith("make try: nothing was proved: "), lines[-1])
+        self.assertIn("cases=5 ended=5 proved=no", lines)
+        self.assertFalse((self.folder / "build" / "station_check").exists())
+
+    def test_a_try_that_answers_otherwise_fails_and_shows_all_that_was_said(self):
+        for statuses in ("0 0 0 0 0", "1 0 1 0 0", "0 0 1 0 2"):
+            with self.subTest(statuses):
+                made = self.make("try", STATUSES=statuses)
+                self.assertNotEqual(0, made.returncode)
+                for said in ("== 5\nasked list", "case=5 run=ended", "make try: FAILED", "nothing was proved"):
+                    self.assertIn(said, made.stdout)
+
     def test_the_page_is_made_after_the_crates_that_it_stands_on(self):
         (self.folder / "page").mkdir()
         for name in ("heap.c", "station_check.html", "build.py"):
             (self.folder / "page" / name).touch()
         made = self.make("page")
         self.assertEqual(0, made.returncode, made.stderr)
-        self.assertEqual(["low", "middle", "other_low", "station_compare"], sorted(self.begun()))
+        page = ["low", "middle", "other_low", "page_calls", "station_compare"]
+        self.assertEqual(page, sorted(self.begun()))
+        self.assertEqual("5 of 5", re.findall(r"is proved, (.*)$", made.stderr, re.MULTILINE)[-1])
         self.assertNotIn("warning", made.stderr)
 
     def test_a_page_that_is_newer_than_its_sources_asks_for_no_proof(self):
@@ -173,6 +209,13 @@ class MakeTest(ProgramTest):
             (self.folder / name).touch()
         made = self.make("page", "PYTHON=false")
         self.assertEqual((0, []), (made.returncode, self.begun()), made.stderr)
+
+    def test_wrong_bodies_are_tried_once_all_that_they_are_tried_over_is_proved(self):
+        (self.folder / "tools" / "wrong_bodies.py").write_text("import sys\nprint(sys.argv[1:])\n")
+        made = self.make("wrong-bodies", "CRATES=station_explain middle", "JOBS=2")
+        self.assertEqual((0, "['station_explain', 'middle', '--jobs', '2']\n"), (made.returncode, made.stdout))
+        self.assertEqual(["low", "middle", "other_low", "station_explain"], sorted(self.begun()))
+        self.assertNotIn("warning", made.stderr)
 
     def test_crates_are_proved_side_by_side(self):
         for jobs, most in [("JOBS=4", 2), ("JOBS=1", 1)]:
@@ -184,30 +227,25 @@ class MakeTest(ProgramTest):
                     running.append(running[-1] + (1 if call.startswith("begin") else -1))
                 self.assertEqual(most > 1, max(running) > 1)
 
-    def test_what_is_proved_beside_the_longest_chains_has_one_process(self):
-        """Those of the chains have as many as crates are proved side by side. Of libraries the
-        statements are kept."""
+    def test_proofs_are_shared_where_little_is_proved_beside_them(self):
+        """Where less than three tenths of the lines can be proved beside a crate, as many processes share
+        its proof as crates are proved side by side. Of libraries the statements are kept."""
         for jobs in (4, 1):
             with self.subTest(jobs):
                 self.make("clean")
                 self.make("run", f"JOBS={jobs}")
                 asked = {crate: (self.folder / f"asked_{crate}").read_text() for crate in PROVED}
-                chain, beside = f"{jobs} True", "1 True"
-                self.assertEqual({chain}, {asked[crate] for crate in ("station_compare", "station_explain")})
+                shared, alone = {"low", "middle", "station_compare"}, {"other_low", "station_explain"}
+                self.assertEqual({f"{jobs} True"}, {asked[crate] for crate in shared})
+                self.assertEqual({"1 True"}, {asked[crate] for crate in alone})
                 self.assertEqual(f"{jobs} False", asked["station_program"])
-                self.assertEqual({beside}, {asked[crate] for crate in ("low", "other_low", "middle")})
 
-    def test_the_longest_chains_are_of_crates(self):
-        """Each ends with the program, or goes on as the first does."""
-        found = re.findall(r"^CHAIN(?:_\w+)? := (.*)$", (ROOT / "Makefile").read_text(), re.MULTILINE)
-        lines = dict(re.findall(r"^(\w+)[^:]*:(.*)$", (ROOT / "crates.txt").read_text(), re.MULTILINE))
-        first, *others = map(str.split, found)
-        self.assertEqual("station_program", first[-1])
-        self.assertEqual(2, len(others))
-        for chain in (first, *others):
-            for low, crate in zip(chain, chain[1:]):
-                self.assertIn(low, lines[crate].split())
-            self.assertIn(chain[-1], first)
+    def test_crates_that_begin_longer_chains_are_begun_first(self):
+        order = run_of("python3", "tools/order.py", cwd=self.folder).stdout.split()
+        self.assertEqual(["low", "other_low", "middle", "station_compare", "station_explain", "station_program"], order)
+        self.write("station_explain", 500 * "one\n")
+        order = run_of("python3", "tools/order.py", cwd=self.folder).stdout.split()
+        self.assertEqual(["low", "station_explain", "other_low", "middle", "station_compare", "station_program"], order)
 
     def test_crates_on_the_same_library_are_proved_side_by_side(self):
         made = self.make("run", "JOBS=4", MEET="middle station_explain")

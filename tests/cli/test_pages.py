@@ -35,6 +35,11 @@ SEALED = [
     ROOT / "crates" / "exact_adjustment" / "src" / "adjusting.rt",
 ]
 
+# The readers of the standard library, of which no contract says what they give; and where alone they
+# may be named: in the crate that makes sources of them, and at the edge of the program.
+OF_THE_SYSTEM = re.compile(r"\bOfRead\b|\bStdin\b|\bstd::(fs|net|os|process)\b|\bio::(Read|stdin)\b")
+AT_THE_EDGE = ["byte_ends", "command_run/src/host.rt", "station_program/src/main.rt"]
+
 # What each crate's page says is trusted: no list of libraries, which would have to follow crates.txt.
 TRUSTED_BY_EACH = (
     "## Trusted\n\nThe toolchain, with [its contracts](../../README.md#what-is-trusted) of std "
@@ -128,6 +133,17 @@ class PagesTest(TimedTest):
         self.assertEqual([SOLVER / "proofs" / "found" / "find" / "Answers.antt"], opened)
         cited = [path for path, text in texts.items() if "modular_solver.proofs" in text]
         self.assertEqual([], [path for path in cited if SOLVER not in path.parents])
+
+    def test_no_code_above_the_ends_names_a_reader_of_the_system(self):
+        """A function over such a type may forget what it read, invent other bytes and still meet the
+        contract of `check_bytes`; one over every source may not. So this is what makes that contract
+        a promise of files."""
+        for path in sorted(ROOT.glob("crates/*/src/**/*.rt")):
+            name = str(path.relative_to(ROOT / "crates"))
+            if not name.startswith(("test", *AT_THE_EDGE)):
+                with self.subTest(name):
+                    code = re.sub(r"//.*", "", path.read_text())
+                    self.assertIsNone(OF_THE_SYSTEM.search(code))
 
     def test_the_page_of_each_crate_says_what_is_trusted(self):
         for page in ROOT.glob("crates/*/README.md"):

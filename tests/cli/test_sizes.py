@@ -8,6 +8,7 @@ empty lines in them, have the answer of those without. What is kept does not gro
 import resource
 import subprocess
 import unittest
+from unittest import mock
 
 import model
 from against_model import FIELD, SHEET, TABLE, Case, sample
@@ -45,6 +46,21 @@ def table_of(targets):
     return b"".join(b"%d,%d.%02d0000\n" % (t, *divmod(t - 1, 100)) for t in range(1, targets + 1))
 
 
+# The commands whose answer the model works out, at each number of sets and of targets.
+OTHERS = [
+    "words", "list --csv", "residuals", "differences", "report", "report --csv", "report --table",
+]  # fmt: skip
+
+
+def least_squares_of_like_sets(station):
+    """The least-squares directions in gon of a station whose sets are all alike, and its residuals,
+    which are 0: what the model finds by equations, of which these are too many."""
+    first, *_ = station.observations
+    seen = station.observations[: len(station.targets)]
+    directions = [model.HALF_UNIT * (one.p - first.p) for one in seen]
+    return directions, [model.HALF_UNIT * 0 for _ in station.observations]
+
+
 def without_codes(field):
     """A field file without its lines of codes."""
     kept = [line for line in field.split(b"\n") if line.lstrip(b"*")[:2] != b"41"]
@@ -60,7 +76,7 @@ def told(name, sets, targets):
 
 
 def agrees(targets):
-    return b"agrees S1: %d targets, within 0\n" % targets
+    return b"agrees S1: %d targets, within 0.000 mgon, limit 0.010 mgon\n" % targets
 
 
 def accepted(sets, targets, name=b"S1"):
@@ -150,9 +166,19 @@ class SizesTest(ProgramTest):
         self.assertEqual((0, table_of(targets), b""), directions, size)
         compare = answer_of(["compare", field, "S1", "/dev/stdin"], table_of(targets))
         self.assertEqual((0, agrees(targets), b""), compare, size)
+        self.check_others(field, sets, targets)
         # A single set that is read by targets is refused.
         if targets > 1 and sets > 1:
             self.check_marked("S1", field, sets, targets)
+
+    def check_others(self, field, sets, targets):
+        """Each other command, with each kind of rows and of report, has the model's answer."""
+        table = self.file(f"{sets} {targets}.table", table_of(targets))
+        for command in OTHERS:
+            case = Case(command, command, field.read_bytes(), table_of(targets))
+            expected = case.expected(field, table)
+            self.assertEqual((0, b""), (expected[0], expected[2]), (command, sets, targets))
+            self.assertEqual(expected, answer_of(case.args(field, table)), (command, sets, targets))
 
     def check_marked(self, name, field, sets, targets):
         """Without its codes the file gets the same codes again."""
@@ -163,6 +189,12 @@ class SizesTest(ProgramTest):
         job.unlink()
 
     def test_each_number_of_sets_and_of_targets(self):
+        # As the equations of the model say, where they are few.
+        few = model.survey_of(lines(station("S1", 3, 4)), model.Limits())[0]
+        self.assertEqual(model.least_squares(few), least_squares_of_like_sets(few))
+        known = mock.patch.object(model, "least_squares", least_squares_of_like_sets)
+        known.start()
+        self.addCleanup(known.stop)
         self.each(self.check_station, [(sets, 3) for sets in range(1, 41)])
         self.each(self.check_station, [(2, targets) for targets in range(1, 101)])
 

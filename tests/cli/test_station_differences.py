@@ -173,7 +173,7 @@ class GeneratedTest(AgainstModel):
             random.shuffle(rows)
             table.write_text("".join(rows))
             _, agrees, _ = answer_of(["compare", "--within=1000000", field, "S1", table])
-            apart = int(agrees.decode().rpartition(" ")[2])
+            apart = units(agrees.decode().rpartition(" within ")[2].partition(" mgon")[0], 3)
             _, text, _ = answer_of(["differences", field, "S1", table])
             found = list(csv.DictReader(io.StringIO(text.decode())))
             sizes = [units(row["difference"], 3) for row in found]

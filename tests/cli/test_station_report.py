@@ -94,11 +94,11 @@ class ReportTest(ProgramTest):
         table = self.folder / "table.csv"
         table.write_bytes(TABLE_15)
         section = SECTION.replace(b"0.055 mgon", b"0.014 mgon")
-        section = section.replace(b"agrees S1: 2 targets, within 15", b"apart S1: 2 targets, by 15")
+        section = section.replace(b"agrees S1: 2 targets, within", b"apart S1: 2 targets, by")
         before, residuals, after = (REPORT % bytes(EXAMPLE)).partition(b"Residuals")
         expected = before + section % bytes(table) + residuals + after
         answer = answer_of(["report", "--within=14", "--table", table, EXAMPLE, "S1"])
-        self.assertEqual((1, expected, refused("compare: Apart 15")), answer)
+        self.assertEqual((1, expected, refused("compare: Apart 0.015 mgon, limit 0.014 mgon")), answer)
 
     def test_a_table_that_is_refused_is_named_and_nothing_is_printed(self):
         table = self.folder / "table.csv"

@@ -208,6 +208,14 @@ WATCH = """{
 }"""
 
 
+# Stops the work once, when it comes to the file of a name.
+STOP_AT = (
+    "new MutationObserver((_, seen) => { if (!$('progress').hidden && $('progress-text').textContent.includes(%s))"
+    " { seen.disconnect(); $('stop').onclick() } })"
+    ".observe($('progress'), { subtree: true, childList: true, attributes: true })"
+)
+
+
 class PageInBrowserTest(TimedTest):
     maxDiff = None
 
@@ -245,6 +253,16 @@ class PageInBrowserTest(TimedTest):
             " card.querySelector('h2').textContent,"
             " ...[...card.querySelectorAll('.headline')].map(e => e.textContent)])"
         )
+
+    def choose(self, page, file, place):
+        """Chooses the station of a sheet or a table in the list of files."""
+        with page.answered():
+            page.js(
+                "{ const item = [...document.querySelectorAll('#inputs li')]"
+                f".find(one => one.querySelector('.name').textContent === {json.dumps(file)});"
+                " const s = item.querySelector('select');"
+                f" s.value = [...s.options].find(one => one.textContent === {json.dumps(place)}).value; s.onchange() }}"
+            )
 
     # ------------------------------------------------------------ answers
 
@@ -573,7 +591,7 @@ class PageInBrowserTest(TimedTest):
         for unsure in ("plain.gsi", "level.gsi"):
             page.empty()
             page.give(self.folder / unsure, FIELD, SHEET)
-            self.assertEqual("1 to do; 1 in order", page.text("#verdict"))
+            self.assertEqual("1 to do; 1 computed rightly", page.text("#verdict"))
             self.assertEqual("open", page.js("$('verdict').className"))
 
     def test_a_refusal_shows_the_place_that_it_names(self):
@@ -604,7 +622,7 @@ class PageInBrowserTest(TimedTest):
 
     def test_the_decimals_of_a_table_tell_its_limit_where_none_is_stated(self):
         page = self.page(P7_FIELD, self.file("four.csv", FOUR_DECIMALS))
-        agrees = "Agrees. 6 targets within 0.025 mgon of the least-squares directions."
+        agrees = "Agrees. 6 targets within 0.025 mgon of the least-squares directions; the limit is 0.055 mgon."
         self.assertEqual([["good", "Station P7", agrees]], self.cards(page))
         self.assertEqual("station_check compare station_p7.gsi P7 four.csv", page.text(".exact code"))
         self.assertIn("tables within 0.01 mgon or as they are rounded", page.text("#in-force"))
@@ -655,7 +673,7 @@ class PageInBrowserTest(TimedTest):
         self.assertEqual("table of directions", kinds[P7_TABLE.name])
         for name, _, said in [*UNUSED, ("week", None, "a folder is no file")]:
             self.assertTrue(kinds[name].startswith("not used: ") and said in kinds[name], kinds[name])
-        agrees = "Agrees. 6 targets within 0.004 mgon of the least-squares directions."
+        agrees = "Agrees. 6 targets within 0.004 mgon of the least-squares directions; the limit is 0.01 mgon."
         self.assertEqual([["good", "Station P7", P7_HEADLINE, agrees]], self.cards(page))
 
     def test_a_table_of_any_writing_is_known_as_one(self):
@@ -679,7 +697,7 @@ class PageInBrowserTest(TimedTest):
         self.assertEqual([("good", "Station P7", 4), ("good", "Station S1", 4)], [
             (mood, title, 2 + len(said)) for mood, title, *said in self.cards(page)
         ])
-        self.assertEqual("2 in order", page.text("#verdict"))
+        self.assertEqual("2 computed rightly", page.text("#verdict"))
         # Both stations in one file, with names that say nothing: the station of a sheet, the targets of a table.
         page.empty()
         both = self.file("job.gsi", P7_FIELD.read_bytes() + FIELD.read_bytes())
@@ -696,14 +714,13 @@ class PageInBrowserTest(TimedTest):
         page.empty()
         page.give(both, self.file("odd.csv", b"X,0\nY,1\n"))
         self.assertEqual(["open", "odd.csv"], self.cards(page)[2][:2])
-        with page.answered():
-            page.js("{ const s = document.querySelector('#inputs select'); s.value = 'job.gsi: S1'; s.onchange() }")
+        self.choose(page, "odd.csv", "job.gsi: S1")
         self.assertEqual("refused: table row 1: Unknown", page.text(".exact samp"))
 
     def test_of_many_cards_the_first_of_each_kind_is_led_to(self):
         page = self.page(*(self.file(f"{nth}.gsi", FIELD.read_bytes()) for nth in range(9)), self.plain(), self.file("8.csv", SHEET.read_bytes()))
-        self.assertEqual("1 to do; 8 read, not compared; 1 in order", page.text("#verdict"))
-        for button, title in [("1 in order", "Station S18.gsi"), ("1 to do", "plain.gsi"), ("8 read, not compared", "Station S10.gsi")]:
+        self.assertEqual("1 to do; 8 read, not compared; 1 computed rightly", page.text("#verdict"))
+        for button, title in [("1 computed rightly", "Station S18.gsi"), ("1 to do", "plain.gsi"), ("8 read, not compared", "Station S10.gsi")]:
             page.press(button)
             found = page.wait(IN_HAND)
             self.assertTrue(found[0].endswith(title) and 0 <= found[1] < SCREEN[1] - 100, (button, found))
@@ -737,7 +754,172 @@ class PageInBrowserTest(TimedTest):
         self.assertEqual([FIELD.name], page.texts("#inputs .name"))
         self.assertEqual("Station P7", self.cards(page)[0][1])
 
+    def test_of_two_files_of_one_name_the_chosen_one_counts(self):
+        """They come from two folders, together; and a copy with codes is called as another file is."""
+        paths = []
+        for name, data in (("mon", P7_FIELD.read_bytes()), ("tue", P7_FIELD.read_bytes().replace(b"39999942", b"39999342"))):
+            (self.folder / name).mkdir()
+            paths.append(self.folder / name / "job.gsi")
+            paths[-1].write_bytes(data)
+        page = self.page(*paths, self.file("t.csv", FOUR_DECIMALS))
+        self.assertEqual(["job.gsi (1)", "job.gsi (2)", "t.csv"], page.texts("#inputs .name"))
+        self.assertEqual(["read", "read", "open"], [card[0] for card in self.cards(page)])
+        for nth, mood in ((1, "good"), (2, "bad"), (1, "good")):
+            self.choose(page, "t.csv", f"job.gsi ({nth}): P7")
+            moods = [card[0] for card in self.cards(page)]
+            self.assertEqual([mood if at == nth else "read" for at in (1, 2)], moods)
+            digest = hashlib.sha256(paths[nth - 1].read_bytes()).hexdigest()
+            self.assertIn(digest, page.texts(".card .digests")[nth - 1])
+            self.assertIn("t.csv", page.texts(".card")[nth - 1])
+        page.empty()
+        plain = b"".join(line for line in P7_FIELD.read_bytes().splitlines(True) if line[:3] != b"*41")
+        job = self.file("job.gsi", b"*110000+00000000000000P7 88..10+0000000000001500\n" + plain)
+        page.give(job, self.file("job_marked.gsi", paths[1].read_bytes()), self.file("t.csv", FOUR_DECIMALS))
+        of_copy = page.js("cards.findIndex(card => card.field.original)")
+        for chosen, mood in ((of_copy, "good"), (1 - of_copy, "bad")):
+            place = page.js(f"placeName(cards[{chosen}].station)")
+            self.choose(page, "t.csv", place)
+            self.assertEqual(mood, self.cards(page)[chosen][0])
+        self.assertEqual(2, len({*page.js("cards.map(card => placeName(card.station))")}))
+
+    def test_a_file_that_another_replaces_is_named(self):
+        page = self.page(FIELD, SHEET)
+        self.assertEqual("", page.text("#replaced"))
+        page.give(self.file(FIELD.name, P7_FIELD.read_bytes()))
+        self.assertEqual(f"Replaced by a file of the same name: {FIELD.name}.", page.text("#replaced"))
+        page.give(P7_TABLE)
+        self.assertEqual("", page.text("#replaced"))
+
     # ------------------------------------------------------------ limits
+
+    def moved(self, units):
+        """The field file of P7 with both readings of P8 in set 2 moved by so many units of 0.01 mgon."""
+        lines, inside = P7_FIELD.read_text().splitlines(True), False
+        for at, line in enumerate(lines):
+            if line.startswith("*41"):
+                inside = line.rstrip().endswith("0000000000000002")
+            if inside and "00P8 " in line:
+                hz = re.search(r"21\.322\+(\d{16})", line)
+                lines[at] = line.replace(hz[1], f"{int(hz[1]) + units:016}")
+        return self.file(f"moved{units}.gsi", "".join(lines).encode())
+
+    def test_the_limit_of_residuals_holds_each_station(self):
+        """With a table that was computed from it, with a sheet, and alone."""
+        page = self.page(self.moved(600))
+        table = self.file("of_it.csv", page.saved("Save directions (CSV)", "P7_directions.csv"))
+        kept = "Greatest residual 3.401 mgon, set 2, P8: within the limit of 10 mgon."
+        above = "Greatest residual 3.401 mgon, set 2, P8: above the limit of 1 mgon."
+        agrees = "Agrees. 6 targets within 0.001 mgon of the least-squares directions; the limit is 0.01 mgon."
+        read = "Read without a fault: 4 sets, 6 targets, 22 directions."
+        for others, mood, said in [((), "read", read), ((table,), "good", agrees)]:
+            page.empty()
+            page.give(self.folder / "moved600.gsi", *others)
+            self.assertEqual([[mood, "Station P7", said]], self.cards(page))
+            self.assertIn(kept, page.texts(".card > p"))
+            page.fill("residual", "1")
+            self.assertEqual("bad", self.cards(page)[0][0])
+            self.assertIn(above, self.cards(page)[0])
+            self.assertIn(above, page.text("#verdict"))
+            self.assertNotIn("Computed rightly", page.text(".card"))
+            self.assertIn(above, "".join(self.facts(page)))
+            for limit, isKept in (("3.4", False), ("3.405", True), ("10", True)):
+                page.fill("residual", limit)
+                self.assertEqual(isKept, "within the limit" in page.text(".card"), limit)
+
+    def facts(self, page):
+        """What stands among the facts of the protocols."""
+        page.js("onbeforeprint()")
+        return page.texts("#protocol .facts dd")
+
+    def test_a_residual_that_stops_the_adjustment_is_named(self):
+        page = self.page(self.moved(6000))
+        self.assertEqual("bad", self.cards(page)[0][0])
+        headline = "Not adjusted, so there are no residuals: A residual is above its limit."
+        self.assertIn(headline, self.cards(page)[0])
+        self.assertIn("set 2, target P8", page.text(".answer .lines"))
+        self.assertIn("set 2, target P8", self.printed_text(page))
+        self.assertEqual("Station P7: Read without a fault: 4 sets, 6 targets, 22 directions. " + headline, page.text("#verdict"))
+
+    def printed_text(self, page):
+        page.js("onbeforeprint()")
+        return page.text("#protocol")
+
+    def test_no_limit_is_printed_to_which_nothing_was_held(self):
+        page = self.page(P7_FIELD)
+        self.assertIn("2c 20, 2i 20, residuals 10 mgon", self.facts(page))
+        page.give(self.file("four.csv", FOUR_DECIMALS))
+        self.assertIn("2c 20, 2i 20, residuals 10 mgon, tables within 0.01 mgon or as they are rounded", self.facts(page))
+        page.empty()
+        page.give(self.file("fault.gsi", FIELD.read_bytes().replace(b"25000010", b"2500001X", 1)))
+        self.assertIn("2c 20, 2i 20 mgon", self.facts(page))
+
+    def test_of_a_large_file_residuals_are_judged_when_they_are_opened(self):
+        """Before, no limit of them is told; then the card says what came of it."""
+        page = self.page()
+        data = bench.field_file(bench.Shape("large", 100, 40, 10)).encode()
+        page.give(self.file("large.gsi", data))
+        self.assertNotIn("within the limit", page.text("#answers"))
+        page.js("document.querySelector('.card details.results').open = true")
+        page.wait("document.querySelector('.card').textContent.includes('within the limit of 10 mgon')")
+        page.settle()
+        self.assertTrue(page.js("document.querySelector('.card details.results').open"))
+
+    # ------------------------------------------------------------ what stays
+
+    def test_a_language_or_a_limit_changes_nothing_else(self):
+        """What was opened stays open, what was chosen chosen, what was typed typed, and the keyboard
+        stays where it was."""
+        both = self.file("job.gsi", P7_FIELD.read_bytes() + FIELD.read_bytes())
+        files = [self.file(f"{nth}.gsi", FIELD.read_bytes()) for nth in range(3)]
+        page = self.page(both, *files, self.plain(), self.file("odd.csv", FOUR_DECIMALS))
+        self.choose(page, "odd.csv", "job.gsi: P7")
+        page.js("document.querySelectorAll('.card details.results')[2].open = true")
+        page.wait("document.querySelectorAll('.card details.results')[2].classList.contains('filled')")
+        page.js("{ const name = document.querySelector('.card form input'); name.value = 'P1'; name.oninput(); name.focus() }")
+
+        def look():
+            return page.js(
+                "[[...document.querySelectorAll('.card details.results')].map(one => one.open),"
+                " document.querySelector('.card form input').value,"
+                " document.activeElement === document.querySelector('.card form input'),"
+                " [...document.querySelectorAll('#inputs select')].map(one => one.selectedIndex)]"
+            )
+
+        before = look()
+        self.assertEqual([False, False, True, False, False], before[0])
+        self.assertEqual(["P1", True, [1]], before[1:])
+        for code in ("de", "fr", "en"):
+            page.js(f"languages.value = '{code}'; languages.onchange()")
+            page.settle()
+            self.assertEqual(before, look())
+        page.fill("within", "0.5")
+        self.assertEqual(before, look())
+        # A button in the results, and in the list of files.
+        for selector in (".card .buttons > button", "#inputs li:nth-child(3) button", "#inputs select", ".card details.results > summary"):
+            here = f"document.activeElement === document.querySelector({json.dumps(selector)})"
+            page.js(f"document.querySelector({json.dumps(selector)}).focus()")
+            page.js("languages.value = 'de'; languages.onchange()")
+            self.assertTrue(page.js(here), selector)
+        # A file that is taken away leaves the keyboard at the next one.
+        with page.answered():
+            page.js("{ const gone = document.querySelector('#inputs li:nth-child(2) button'); gone.focus(); gone.click() }")
+        self.assertTrue(page.js("document.activeElement === document.querySelector('#inputs li:nth-child(2) button')"))
+        with page.answered():
+            page.js("{ const gone = document.querySelector('#inputs li:nth-child(4) button'); gone.focus(); gone.click() }")
+        self.assertTrue(page.js("document.activeElement.closest('#inputs li:nth-child(4)') !== null"))
+
+    def test_what_was_said_is_said_in_the_language_that_is_chosen(self):
+        page = self.page()
+        for do, said in [
+            ("tell(() => say('quiet', text('checking')))", "Wird geprüft …"),
+            ("sayWhy(new Stopped())", "Abgebrochen. Was keine Antwort hat, wurde nicht geprüft."),
+            ("sayWhy(new Error('CompileError'))", "Dieser Browser kann nicht prüfen"),
+        ]:
+            page.js(f"{do}; languages.value = 'de'; languages.onchange()")
+            self.assertTrue(page.text("#verdict").startswith(said), page.text("#verdict"))
+            page.js("languages.value = 'en'; languages.onchange()")
+
+    # ------------------------------------------------------------ the fields of limits
 
     def test_limits_are_stated_in_mgon_and_those_in_force_are_shown(self):
         page = self.page(FIELD, SHEET)
@@ -867,12 +1049,88 @@ class PageInBrowserTest(TimedTest):
         self.assertIn("Checked by: place, date, signature", second)
 
     @unittest.skipUnless(shutil.which("pdftotext"), "no pdftotext is found")
-    def test_what_has_no_protocol_is_printed_as_it_is_shown(self):
+    def test_a_refusal_is_printed_with_what_it_means(self):
         text = FIELD.read_text().replace("25000010", "2500001X", 1)
         (printed,) = self.printed(self.page(self.file("fault.gsi", text.encode())))
-        for said in ("Refused.", "refused: block 5: Hz Digits", "Line 5 of fault.gsi, block 5", "What to do: "):
+        for said in ("Check of fault.gsi", "Refused.", "refused: block 5: Hz Digits", "Line 5 of fault.gsi, block 5", "What to do: "):
+            self.assertIn(said, printed)
+        for said in ("Checked by: place, date, signature", hashlib.sha256(text.encode()).hexdigest()):
             self.assertIn(said, printed)
         self.assertNotIn("Add files", printed)
+
+    @unittest.skipUnless(shutil.which("pdftotext"), "no pdftotext is found")
+    def test_no_file_misses_on_paper(self):
+        """Whatever came of it: each is on the first page, and each card has its protocol."""
+        fault = self.file("fault_hz.gsi", FIELD.read_bytes().replace(b"25000010", b"2500001X", 1))
+        others = [fault, FIELD, self.file("odd.csv", b"X,0\nY,1\n"), self.file(*UNUSED[0][:2]), self.rain()]
+        page = self.page(P7_FIELD, P7_SHEET, *others)
+        first, *rest = self.printed(page)
+        self.assertIn("Check of 7 files", first)
+        for path in (P7_FIELD, P7_SHEET, *others):
+            self.assertIn(path.name, first)
+        for path in (P7_FIELD, P7_SHEET, fault):
+            self.assertIn(hashlib.sha256(path.read_bytes()).hexdigest(), first)
+        for said in (P7_HEADLINE, "Refused.", "not used: ", NOTHING_RECOGNIZED, "several stations are possible", page.text("#verdict")):
+            self.assertIn(" ".join(said.split()), " ".join(first.split()))
+        # The protocol of one station, printed or saved alone, names what was refused, open or not used.
+        page.js("only = cards[0]; onbeforeprint(); only = null")
+        for alone in (page.text("#protocol"), page.js("protocolFile(cards[0], limits, desk.beside(cards[0]))")):
+            for said in ("fault_hz.gsi: Refused. An angle is not digits alone.", f"{UNUSED[0][0]}: not used: ", f"rain.gsi: {NOTHING_RECOGNIZED}"):
+                self.assertIn(said, alone)
+        all_of = "".join(rest)
+        titles = ["Protocol of sets: Station P7", "Protocol of sets: Station S1", "Check of fault_hz.gsi", "Check of rain.gsi", "Check of odd.csv"]
+        for title in titles:
+            self.assertIn(title, all_of)
+        self.assertIn("refused: block 5: Hz Digits", all_of)
+        # One whose results are closed has its answer all the same.
+        names = [f"{nth}.gsi" for nth in range(4)]
+        page.empty()
+        page.give(*(self.file(name, FIELD.read_bytes()) for name in names))
+        first, *rest = self.printed(page)
+        brief = "".join(rest)
+        self.assertEqual(4, brief.count("Protocol of sets: Station S1"))
+        self.assertLess(len(rest), 4)
+        self.assertEqual(4, brief.count("are printed where they were opened"))
+        for name in names:
+            self.assertIn(name, first)
+            self.assertIn(name, brief)
+
+    def test_what_was_stopped_is_printed_as_not_checked(self):
+        page = self.page()
+        page.js(STOP_AT % json.dumps("second.csv"))
+        page.give(FIELD, SHEET, self.file("second.csv", SHEET.read_bytes()))
+        page.js("onbeforeprint()")
+        self.assertIn("Not checked, since the work was stopped: second.csv.", page.text("#protocol"))
+
+    @unittest.skipUnless(shutil.which("pdftotext"), "no pdftotext is found")
+    def test_a_name_is_never_a_part_of_the_style(self):
+        """Whatever stands in it: what would end a text of the style, a rule, or the style itself."""
+        style = ".bad,.where,.lines,.explanation,.exact,.said,samp{display:none}"
+        more = f"{style} .said.good::after{{content:'x'}} @page{{@bottom-left{{content:'"
+        wrong = P7_SHEET.read_bytes().replace(b"set,1,,-6895,", b"set,1,,-6896,")
+        for name in [f"P7\n}}}} {more}.gsi", f'P7"}} }} {style}.gsi', f"P7\\\n\\a}} {style}.gsi", f"P7\r\f{style}.gsi", "P7<!--<style>.gsi"]:
+            with self.subTest(name):
+                field = self.file(name, P7_FIELD.read_bytes())
+                page = self.page(field, self.file("sheet.csv", wrong))
+                refused = page.text(".answer .headline")
+                self.assertTrue(refused.startswith("Refused. "), refused)
+                printed = "".join(self.printed(page))
+                for said in ("Refused. ", "refused: kernel: ", "sheet.csv"):
+                    self.assertIn(said, printed)
+                # The window is as it was, too.
+                self.assertTrue(page.js("document.querySelector('.card.bad').checkVisibility()"))
+                styles = page.texts("#protocol style")
+                self.assertEqual(1, len(styles))
+                self.assertRegex(styles[0], r'^@page [a-z0-9]* \{ @bottom-left \{ content: "(\\[0-9a-f]{6})+" \} \}$')
+                shown = name.replace("\n", r"\x0a").replace("\r", r"\x0d").replace("\f", r"\x0c")
+                self.assertIn(f"{shown}", page.text("#protocol"))
+                # It stands at the foot of the page, which may cut it.
+                self.assertIn(f"Protocol of sets: Station P7, {shown}"[:40], printed)
+                self.assertIn("Refused. ", page.js("protocolFile(cards[0], limits)"))
+                # The command that is shown is one, by that name.
+                word = page.js("commandOf('list', [], {}, [cards[0].field.name])").removeprefix("station_check list ")
+                echoed = subprocess.run(["bash", "-c", f"printf %s {word}"], capture_output=True, check=True).stdout
+                self.assertEqual((name, False), (echoed.decode(), "\n" in word))
 
     # ------------------------------------------------------------ everyone
 
@@ -919,7 +1177,7 @@ class PageInBrowserTest(TimedTest):
         page = self.page(P7_FIELD, P7_SHEET)
         page.call("Emulation.setEmulatedMedia", features=[{"name": "forced-colors", "value": "active"}])
         self.assertTrue(page.js("matchMedia('(forced-colors: active)').matches"))
-        self.assertEqual("In order", page.text(".mood"))
+        self.assertEqual("Computed rightly", page.text(".mood"))
         style = "getComputedStyle(document.querySelector('{}'){}).{}"
         for selector, pseudo, name, value in [
             ("td.greatest", "", "outlineStyle", "solid"),
@@ -1051,13 +1309,29 @@ class PageInBrowserTest(TimedTest):
         self.assertEqual(LARGE[0], len(page.texts(".card")))
         self.assertLess(page.js("longest"), HELD)
 
+    def test_what_is_stopped_leaves_nothing_green_that_was_not_judged(self):
+        """A file of a station that was not reached, and one whose field file was not."""
+        page = self.page()
+        second, other = self.file("second.csv", SHEET.read_bytes()), self.file("other.gsi", P7_FIELD.read_bytes())
+        page.js(STOP_AT % json.dumps("second.csv"))
+        page.give(FIELD, SHEET, second)
+        self.assertEqual("Stopped. What was not answered was not checked.", page.text("#verdict"))
+        self.assertEqual(["open", "Station S1"], self.cards(page)[0][:2])
+        self.assertIn("Not checked, since the work was stopped: second.csv.", page.text(".card"))
+        page.empty()
+        page.js(STOP_AT % json.dumps("other.gsi"))
+        page.give(FIELD, other, SHEET, self.file("other.csv", P7_SHEET.read_bytes()))
+        self.assertEqual(["open"] * 3, [card[0] for card in self.cards(page)])
+        for name in (SHEET.name, "other.gsi", "other.csv"):
+            self.assertIn(name, page.text("#answers"))
+        with page.answered():
+            page.js("$('again').onclick()")
+        self.assertEqual(["good", "good"], [card[0] for card in self.cards(page)])
+
     def test_what_is_under_way_can_be_stopped(self):
         large = self.file("large.gsi", bench.field_file(bench.Shape("large", *LARGE)).encode())
         page = self.page(FIELD, SHEET)
-        page.js(
-            "new MutationObserver((_, seen) => { if (!$('progress').hidden && $('progress-text').textContent.includes('large'))"
-            " { seen.disconnect(); $('stop').onclick() } }).observe($('progress'), { subtree: true, childList: true, attributes: true })"
-        )
+        page.js(STOP_AT % json.dumps("large"))
         page.give(large)
         self.assertEqual("Stopped. What was not answered was not checked.", page.text("#verdict"))
         with page.answered():

@@ -12,7 +12,9 @@ from test_page_calls import EXAMPLES, JOB, PAGE, RT, make_page
 
 P7 = "Station P7: Accepted. Greatest residual 0.320 mgon, set 4, TOWER."
 S1 = "Station S1: Accepted. Greatest residual 0.005 mgon, set 1, A."
-WRONG = "\u201cResiduals of a sheet at most, in mgon\u201d: a number from 0 to 10, in steps of 0.005"
+WRONG = "\u201cResiduals at most, in mgon\u201d: a number from 0 to 10, in steps of 0.005"
+
+AGREES = "Agrees. 2 targets within 0 mgon of the least-squares directions; the limit is 0.01 mgon."
 
 # The directions of P7 as an office in Germany or Austria exports them, with four decimals.
 FOUR_DECIMALS = "Ziel;Hz\nTOWER;0,0000\nP3;64,5213\nMAST;139,4045\nP8;212,7572\nCHURCH;278,8606\nP12;345,2092\n"
@@ -30,9 +32,10 @@ STEPS = [
     (("fill", "residual", 0), "Station S1: Refused. A residual is above its limit."),
     (("fill", "residual", 11), WRONG),
     (("fill", "residual", "0.005"), S1),
-    (("give", EXAMPLE_TABLE), f"{S1} Agrees. 2 targets within 0 mgon of the least-squares directions."),
-    (("give", EXAMPLES[0]), "1 read, not compared; 1 in order"),
-    (("give", EXAMPLES[2]), "2 in order"),
+    (("give", EXAMPLE_TABLE), f"{S1} {AGREES}"),
+    (("give", EXAMPLES[0]), "1 refused; 1 computed rightly"),
+    (("fill", "residual", 10), "1 read, not compared; 1 computed rightly"),
+    (("give", EXAMPLES[2]), "2 computed rightly"),
     (("press", "#remove-all"), "Ready for your files."),
     (("give", JOB), "2 read, not compared"),
 ]
@@ -76,7 +79,7 @@ class PageInFirefoxTest(TimedTest):
         read = "Station P7: Read without a fault: 4 sets, 6 targets, 22 directions."
         self.assertEqual(read, page.wait_text("#verdict", read))
         page.drop(table)
-        agrees = "Station P7: Agrees. 6 targets within 0.025 mgon of the least-squares directions."
+        agrees = "Station P7: Agrees. 6 targets within 0.025 mgon of the least-squares directions; the limit is 0.055 mgon."
         self.assertEqual(agrees, page.wait_text("#verdict", agrees))
 
     def test_the_picture_has_the_colours_of_the_style(self):

@@ -7,6 +7,7 @@
  *   READ_STOPS=N      only so many reads fail or end; those after them give what follows
  *   WRITE_MOST=N      each write to standard output takes at most N bytes
  *   WRITE_ROOM=N      standard output takes N bytes in all, and then fails
+ *   WRITE_STOPS=N     only so many writes fail; those after them are taken
  */
 #define _GNU_SOURCE
 #include <errno.h>
@@ -18,7 +19,7 @@
 #define NO_LIMIT (1UL << 62)
 
 static unsigned long read_most = NO_LIMIT, read_room = NO_LIMIT, read_stops = NO_LIMIT;
-static unsigned long write_most = NO_LIMIT, write_room = NO_LIMIT;
+static unsigned long write_most = NO_LIMIT, write_room = NO_LIMIT, write_stops = NO_LIMIT;
 static int read_error = EIO;
 static int has_path, has_output;
 static struct stat path, output;
@@ -38,6 +39,7 @@ __attribute__((constructor)) static void begin(void)
     read_stops = number("READ_STOPS", NO_LIMIT);
     write_most = number("WRITE_MOST", NO_LIMIT);
     write_room = number("WRITE_ROOM", NO_LIMIT);
+    write_stops = number("WRITE_STOPS", NO_LIMIT);
     read_error = (int)number("READ_ERROR", EIO);
     has_path = name != NULL && stat(name, &path) == 0;
     has_output = fstat(STDOUT_FILENO, &output) == 0;
@@ -72,9 +74,10 @@ ssize_t read(int file, void *to, size_t size)
 
 static ssize_t take(int file, const void *from, size_t size)
 {
-    if (!has_output || !is_same(file, &output))
+    if (!has_output || !is_same(file, &output) || write_stops == 0)
         return syscall(SYS_write, file, from, size);
     if (size > 0 && write_room == 0) {
+        write_stops--;
         errno = ENOSPC;
         return -1;
     }

@@ -39,7 +39,7 @@ REFUSALS = [
     *[f"kernel: {fault}" for fault in KERNEL_FAULTS],
     *["no station", "means: Incomplete"],
     *[f"table row n: {fault}" for fault in TABLE_ROW_FAULTS],
-    *["table: Missing n", "adjust: NotConnected", "adjust: Residual n", "compare: Apart n"],
+    *["table: Missing n", "adjust: NotConnected", "adjust: Residual n", "compare: Apart n mgon, limit n mgon"],
 ]
 
 # Those of files, sheets and tables with too much of something, and of reads that fail.
@@ -64,4 +64,5 @@ def kind_of(answer: tuple[int, bytes, bytes]) -> str:
         return verdict if verdict in ("accepted", "agrees") else printed
     reason = stderr.decode().removeprefix("refused: ").rstrip("\n")
     reason = re.sub(r"^(block|sheet row|table row) \d+", r"\1 n", reason)
+    reason = re.sub(r"\d+\.\d{3} mgon", "n mgon", reason)
     return reason if "WordTwice" in reason else re.sub(r" \d+$", " n", reason)

@@ -43,7 +43,7 @@ NOTES = (
 
 ACCEPTED = b"accepted S1: 2 sets, 2 targets, 4 directions, greatest residual 4/4\n"
 
-AGREES = b"agrees S1: 2 targets, within 0\n"
+AGREES = b"agrees S1: 2 targets, within 0.000 mgon, limit 0.010 mgon\n"
 
 DIFFERENCES = b"""\
 target,stated,least squares,difference,from the median
@@ -120,7 +120,7 @@ Stated directions in gon, differences in mgon: stated less adjusted, after the b
 
 Table                 %s
 Limit of differences  0.055 mgon
-Comparison            agrees S1: 2 targets, within 15
+Comparison            agrees S1: 2 targets, within 0.015 mgon, limit 0.055 mgon
 
 """
 

@@ -7,5 +7,6 @@ pub mod Sink
 pub mod Writers
 pub mod OfRead
 pub mod OfWrite
+pub mod Keeping
 pub mod Script
 pub mod Held

@@ -8,6 +8,8 @@
 //!
 //! [`read_whole`] takes all bytes of a source, up to a limit.
 //!
+//! [`Keeping`] keeps what another source gives.
+//!
 //! [`OfRead`] and [`OfWrite`] are std's readers and writers, which tell no bytes. [`Script`] and
 //! [`Held`] tell theirs, for tests.
 #![tactic(auto)]
@@ -15,6 +17,7 @@
 mod failed;
 mod held;
 mod input;
+mod keeping;
 mod of_read;
 mod of_write;
 mod out_of_memory;
@@ -25,6 +28,7 @@ mod source;
 pub use failed::Failed;
 pub use held::Held;
 pub use input::{InputFault, read_whole};
+pub use keeping::Keeping;
 pub use of_read::OfRead;
 pub use of_write::OfWrite;
 pub use out_of_memory::OutOfMemory;

@@ -1,5 +1,6 @@
 -- What an argument more, or a command more, makes of a grammar.
-use Rattle.std.proofs.Common.{◌≡◌, ◌∙◌, ◌∷◌, ◌++◌, true, false, not, ap, ap₂, is_some, List, [], map}
+use Rattle.std.proofs.Common.{◌≡◌, ◌∙◌, ◌∷◌, ◌++◌, ◌+◌, ℕ, zero, suc, add-one, get_or}
+use Rattle.std.proofs.Common.{true, false, not, ap, ap₂, is_some, List, [], map}
 use Rattle.std.proofs.Common.{append-nil, append_assoc}
 use Rattle.std.proofs.Common.{None, Option, Some, option_map, refl, subst, sym, true≢false}
 use Rattle.std.proofs.lemmas.Result.{IfOk-weaker}
@@ -23,7 +24,11 @@ use Rattle.clap.specs.declared.parser.matches.SubCommand.{SubCommand}
 use Rattle.std.specs.Box.{box_value}
 use Rattle.std.specs.Prelude.{Box, Result, Ok, Err, IfOk, IsOkAnd, option_and_then}
 use Rattle.command_line.specs.CommandLine.{Meets, named_by}
-use Rattle.command_line.specs.Commands.{alone, are_simple, of_rules, the_program}
+use Rattle.command_line.specs.Commands.{alone, are_simple, of_rules, program_alone, the_program}
+use Rattle.command_line.specs.Commands.{words_of}
+use Rattle.command_line.specs.declared.commands.Subcommand.{Subcommand}
+use Rattle.command_line.specs.declared.commands.Subcommand.TheVariants as command
+use Rattle.command_line.specs.declared.commands.TheConstants.{SUBCOMMANDS}
 
 -- An argument that changes nothing in how words are read is of its own command alone.
 is_local : (a : Arg) → is_simple_arg a ≡ true → a.global ≡ false
@@ -69,22 +74,44 @@ has_rules items_of args (Ok given) made name rules words lists are simple =
 has_rules items_of args (Err error) made name rules words lists are simple =
     IfOk-weaker made _ _ (λ new is. absurd is) words
 
--- A command that was made, by this grammar, added to a program that was made, by that one.
-pub adds_command : (program made all : Result Command Error) (grammar : App) (s : Shape)
-    → IfOk all (λ new. IsOkAnd program (λ old. IsOkAnd made (λ sub. AddsSubcommand old sub new)))
-    → IfOk program (λ old. app_of old ≡ grammar) → IfOk made (λ sub. app_of sub ≡ alone s)
-    → s.is_plain ≡ true
-    → IfOk all (λ new. app_of new ≡ with_subcommand grammar s)
-adds_command (Ok old) (Ok sub) all grammar s adds is_old is_sub plain =
-    IfOk-weaker all _ _
-    (λ new added.
+-- A command of this grammar, added to a program of that one.
+adds_command : (old sub new : Command) (grammar : App) (s : Shape) → AddsSubcommand old sub new
+    → app_of old ≡ grammar → app_of sub ≡ alone s → s.is_plain ≡ true
+    → app_of new ≡ with_subcommand grammar s
+adds_command old sub new grammar s added is_old is_sub plain =
     added.shape (plain_fields sub (ap (λ (x : App). x.top.is_plain) is_sub ∙ plain)).globals
-    ∙ ap₂ with_subcommand is_old (ap (λ (x : App). x.top) is_sub))
-    adds
-adds_command (Ok old) (Err error) all grammar s adds is_old is_sub plain =
-    IfOk-weaker all _ _ (λ new added. absurd added) adds
-adds_command (Err error) made all grammar s adds is_old is_sub plain =
-    IfOk-weaker all _ _ (λ new added. absurd added) adds
+    ∙ ap₂ with_subcommand is_old (ap (λ (x : App). x.top) is_sub)
+
+-- Each command of the program is a plain one.
+is_plain_command : (s : Subcommand) → (words_of s).is_plain ≡ true
+is_plain_command command.Compare = refl
+is_plain_command command.Differences = refl
+is_plain_command command.Directions = refl
+is_plain_command command.Residuals = refl
+is_plain_command command.Report = refl
+is_plain_command command.Check = refl
+is_plain_command command.Means = refl
+is_plain_command command.Mark = refl
+is_plain_command command.List = refl
+is_plain_command command.Words = refl
+is_plain_command command.Explain = refl
+
+-- The program with the first commands, so many of them.
+abbrev pub program_with : ℕ → App
+program_with zero = program_alone
+program_with (suc n) =
+    with_subcommand (program_with n) (words_of (get_or SUBCOMMANDS n command.Compare))
+
+-- One command more is added.
+pub adds_next : (n : ℕ) (old sub new : Command) → AddsSubcommand old sub new
+    → app_of old ≡ program_with n
+    → app_of sub ≡ alone (words_of (get_or SUBCOMMANDS n command.Compare))
+    → app_of new ≡ program_with (n + 1)
+adds_next n old sub new added is_old is_sub =
+    let s = get_or SUBCOMMANDS n command.Compare in
+    rw add-one
+    (adds_command old sub new (program_with n) (words_of s) added is_old is_sub
+    (is_plain_command s))
 
 -- Two that are both there.
 abbrev pair : Option Text → Option (List Row) → Option (Text × List Row)

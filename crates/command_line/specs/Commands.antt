@@ -7,6 +7,8 @@ use Rattle.clap.specs.Simple.{new_shape}
 use Rattle.clap.specs.Words.{App, Rule, Shape, Text, new_rule}
 use Rattle.clap.specs.declared.builder.action.ArgAction.TheVariants.{Set, SetTrue, Append}
 use Rattle.clap.specs.declared.builder.value_parser.ValueParser.TheVariants.{NonEmptyString, Signed}
+use Rattle.command_line.specs.declared.commands.Subcommand.{Subcommand}
+use Rattle.command_line.specs.declared.commands.Subcommand.TheVariants as command
 
 -- An argument that must be given: one word.
 abbrev pub given_rule : Text → Rule
@@ -177,6 +179,20 @@ words_words = of_rules (codes "words") (field_file_rule ∷ [])
 -- `explain`, with any words
 abbrev pub explain_words : Shape
 explain_words = of_rules (codes "explain") (fault_rule ∷ [])
+
+-- A command of the program.
+abbrev pub words_of : Subcommand → Shape
+words_of command.Compare = compare_words
+words_of command.Differences = differences_words
+words_of command.Directions = directions_words
+words_of command.Residuals = residuals_words
+words_of command.Report = report_words
+words_of command.Check = check_words
+words_of command.Means = means_words
+words_of command.Mark = mark_words
+words_of command.List = list_words
+words_of command.Words = words_words
+words_of command.Explain = explain_words
 
 -- The program before it has commands. Each of them has `--version` too.
 abbrev pub program_alone : App

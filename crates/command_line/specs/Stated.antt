@@ -69,10 +69,12 @@ abbrev pub StatesNoResidual : Found → Type 0
 StatesNoResidual found = IsSome (matched_of found (codes "residual"))
     × NoLimitIsStated found (codes "residual") HalfUnit LARGEST_RESIDUAL_LIMIT
 
--- This limit of a comparison is stated, in units of 0.000001 gon, or none.
+-- This limit of a comparison is stated, in units of 0.000001 gon, and is none too large; or none is
+-- stated.
 abbrev pub StatesWithin : Found → Option ℕ → Type 0
 StatesWithin found None = matched_of found (codes "within") ≡ None
-StatesWithin found (Some within) = LimitIsStated found (codes "within") Thousandth within
+StatesWithin found (Some within) =
+    (within ≤ 1_000_000) × LimitIsStated found (codes "within") Thousandth within
 
 -- A limit of a comparison is stated that may not be.
 abbrev pub StatesNoWithin : Found → Type 0

@@ -20,31 +20,36 @@ use std::alloc::Global;
 /// What the program is called where its words don't have its name.
 const USUAL_NAME: &str = "station_check";
 
-/// What the words of a command line, of which the first is the program's name, ask for. A fault is
-/// looked for in the table of explanations.
+/// What the words of a command line, of which the first is the program's name, ask for. Where they
+/// ask for the version, it is this one; a fault is looked for in the table of explanations.
 ///
 /// # Errors
 ///
 /// What `clap` says of a mistake; help or the version that was asked for; that memory ran out.
 pub fn asked_for<'a>(
     alloc: Global,
+    version: &'a str,
     table: &[&'static [Explanation]],
     words: &'a [String],
 ) -> Result<Request<'a, &'a str>, Error>
     ensures asked { IfOk result (IsAskedForBy (map string_bytes words.now) table.now) }
     ensures mistake { IfErr result (IsMistakeIn (map string_bytes words.now) table.now) }
 {
-    let matches = matches_of(alloc, words)?;
+    let matches = matches_of(alloc, version, words)?;
     request_named(alloc, table, name_called(words), &matches)
 }
 
 /// What `clap` finds in the words of a command line by the grammar of the program.
-fn matches_of<'a>(alloc: Global, words: &'a [String]) -> Result<ArgMatches<'a>, Error>
+fn matches_of<'a>(
+    alloc: Global,
+    version: &'a str,
+    words: &'a [String],
+) -> Result<ArgMatches<'a>, Error>
     ensures met { IfOk result (λ matches.
         subcommand_rows_of matches ≡ named_by (map string_bytes words.now)) }
     ensures kinds { FailsBy (fault_of the_program (map string_bytes words.now)) result }
 {
-    program(alloc)?.try_get_matches_from(words)
+    program(alloc, version)?.try_get_matches_from(words)
 }
 
 /// The name by which the program was called, where the words have it: what follows the last slash

@@ -1,13 +1,13 @@
 //! The commands of the program, as the grammar has them, and their help.
 
 ghost use Rattle.std.specs.Prelude.{◌≡◌, IfOk, IfErr, IsOkAnd, map, true};
-ghost use Rattle.clap.specs.Words.{AddsSubcommand, app_of, kind_of, rule_of};
+ghost use Rattle.clap.specs.Words.{app_of, kind_of, rule_of};
 ghost use Rattle.command_line.specs.Commands.{alone, are_simple, check_words, compare_words};
 ghost use Rattle.command_line.specs.Commands.{differences_words, directions_words, explain_words};
 ghost use Rattle.command_line.specs.Commands.{list_words, mark_words, means_words, of_rules};
 ghost use Rattle.command_line.specs.Commands.{program_alone};
 ghost use Rattle.command_line.specs.Commands.{report_words, residuals_words, the_program};
-ghost use Rattle.command_line.specs.Commands.{words_words};
+ghost use Rattle.command_line.specs.Commands.{words_of, words_words};
 
 use crate::arguments::{
     csv_flag, decimals, degrees_flag, digests_flag, field_file, residual_limit, sheet_file,
@@ -16,34 +16,78 @@ use crate::arguments::{
 use crate::help;
 use clap::error::ErrorKind;
 use clap::{Arg, Command, Error};
-use station_check::VERSION;
 use std::alloc::{AllocFailed, Global};
 
-/// The program with all its commands.
-pub(crate) fn program<'a>(alloc: Global) -> Result<Command<'a>, Error>
+/// A command of the program.
+#[derive(Clone, Copy)]
+enum Subcommand {
+    Compare,
+    Differences,
+    Directions,
+    Residuals,
+    Report,
+    Check,
+    Means,
+    Mark,
+    List,
+    Words,
+    Explain,
+}
+
+impl Subcommand {
+    /// The word that calls it.
+    fn name(self) -> &'static str
+        ensures { result.now ≡ (words_of self).name }
+    {
+        match self {
+            Subcommand::Compare => "compare",
+            Subcommand::Differences => "differences",
+            Subcommand::Directions => "directions",
+            Subcommand::Residuals => "residuals",
+            Subcommand::Report => "report",
+            Subcommand::Check => "check",
+            Subcommand::Means => "means",
+            Subcommand::Mark => "mark",
+            Subcommand::List => "list",
+            Subcommand::Words => "words",
+            Subcommand::Explain => "explain",
+        }
+    }
+}
+
+/// The commands, in the order in which help lists them.
+const SUBCOMMANDS: [Subcommand; 11] = [
+    Subcommand::Compare,
+    Subcommand::Differences,
+    Subcommand::Directions,
+    Subcommand::Residuals,
+    Subcommand::Report,
+    Subcommand::Check,
+    Subcommand::Means,
+    Subcommand::Mark,
+    Subcommand::List,
+    Subcommand::Words,
+    Subcommand::Explain,
+];
+
+/// The program with all its commands, in this version.
+pub(crate) fn program<'a>(alloc: Global, version: &'a str) -> Result<Command<'a>, Error>
     ensures commands { IfOk result (λ command. app_of command ≡ the_program) }
     ensures memory { IfErr result (λ error. kind_of error ≡ ErrorKind.OutOfMemory) }
 {
-    let program = Ok(bare_program(alloc));
-    let program = with_command(program, compare_command(alloc));
-    let program = with_command(program, differences_command(alloc));
-    let program = with_command(program, directions_command(alloc));
-    let program = with_command(program, residuals_command(alloc));
-    let program = with_command(program, report_command(alloc));
-    let program = with_command(program, check_command(alloc));
-    let program = with_command(program, means_command(alloc));
-    let program = with_command(program, mark_command(alloc));
-    let program = with_command(program, list_command(alloc));
-    let program = with_command(program, words_command(alloc));
-    with_command(program, explain_command(alloc))
+    let mut program = bare_program(alloc, version);
+    for subcommand in SUBCOMMANDS {
+        program = program.subcommand(command_of(alloc, subcommand)?)?;
+    }
+    Ok(program)
 }
 
 /// The program before its commands are added.
-fn bare_program<'a>(alloc: Global) -> Command<'a>
+fn bare_program<'a>(alloc: Global, version: &'a str) -> Command<'a>
     ensures { app_of result ≡ program_alone }
 {
     Command::new(alloc, "station_check")
-        .version(VERSION)
+        .version(version)
         .propagate_version(true)
         .about(help::ABOUT)
         .long_about(help::LONG_ABOUT)
@@ -55,34 +99,32 @@ pub(crate) fn command_named<'a>(alloc: Global, name: &'a str) -> Result<Command<
     ensures name { IfOk result (λ command. (app_of command).top.name ≡ name.entry.now) }
     ensures memory { IfErr result (λ error. kind_of error ≡ ErrorKind.OutOfMemory) }
 {
-    match name {
-        "compare" => compare_command(alloc),
-        "differences" => differences_command(alloc),
-        "directions" => directions_command(alloc),
-        "residuals" => residuals_command(alloc),
-        "report" => report_command(alloc),
-        "check" => check_command(alloc),
-        "means" => means_command(alloc),
-        "mark" => mark_command(alloc),
-        "list" => list_command(alloc),
-        "words" => words_command(alloc),
-        "explain" => explain_command(alloc),
-        _ => Ok(Command::new(alloc, name)),
+    for subcommand in SUBCOMMANDS {
+        if subcommand.name() == name {
+            return command_of(alloc, subcommand);
+        }
     }
+    Ok(Command::new(alloc, name))
 }
 
-/// A program with a command more, unless there was no memory for either.
-fn with_command<'a>(
-    program: Result<Command<'a>, Error>,
-    command: Result<Command<'a>, Error>,
-) -> Result<Command<'a>, Error>
-    requires before { IfErr program (λ error. kind_of error ≡ ErrorKind.OutOfMemory) }
-    requires memory { IfErr command (λ error. kind_of error ≡ ErrorKind.OutOfMemory) }
-    ensures added { IfOk result (λ all. IsOkAnd program.entry (λ old.
-        IsOkAnd command.entry (λ one. AddsSubcommand old one all))) }
+/// A command, alone.
+fn command_of<'a>(alloc: Global, subcommand: Subcommand) -> Result<Command<'a>, Error>
+    ensures words { IfOk result (λ command. app_of command ≡ alone (words_of subcommand)) }
     ensures memory { IfErr result (λ error. kind_of error ≡ ErrorKind.OutOfMemory) }
 {
-    Ok(program?.subcommand(command?)?)
+    match subcommand {
+        Subcommand::Compare => compare_command(alloc),
+        Subcommand::Differences => differences_command(alloc),
+        Subcommand::Directions => directions_command(alloc),
+        Subcommand::Residuals => residuals_command(alloc),
+        Subcommand::Report => report_command(alloc),
+        Subcommand::Check => check_command(alloc),
+        Subcommand::Means => means_command(alloc),
+        Subcommand::Mark => mark_command(alloc),
+        Subcommand::List => list_command(alloc),
+        Subcommand::Words => words_command(alloc),
+        Subcommand::Explain => explain_command(alloc),
+    }
 }
 
 /// A command of this name, with the texts of its help and these arguments, unless there was no

@@ -73,7 +73,6 @@ pub(crate) fn decimals_of(found: &ArgMatches<'_>) -> Option<Decimals>
 /// out of its range.
 pub(crate) fn within_of(found: &ArgMatches<'_>) -> Option<Option<u32>>
     ensures stated { IfSome result (StatesWithin (found_of found.now)) }
-    ensures bound { IfSome result (λ within. IfSome within (λ n. n ≤ LARGEST_WITHIN)) }
     ensures none { IfNone result (StatesNoWithin (found_of found.now)) }
 {
     if !found.contains_id(WITHIN) {

@@ -72,7 +72,7 @@ Exit status:
 Example:
   station_check compare field.gsi S1 table.csv
 
-  agrees S1: 2 targets, within 0";
+  agrees S1: 2 targets, within 0.000 mgon, limit 0.010 mgon";
 
 pub const TABLE_HELP: &str = "The table of directions, text of two columns";
 

@@ -1,1 +1,2 @@
 pub mod UnopenedLaws
+pub mod ExplainingLaws

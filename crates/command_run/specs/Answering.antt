@@ -23,10 +23,10 @@ use Rattle.station_check.specs.declared.fault.Fault.TheVariants.{Memory}
 use Rattle.station_compare.specs.FaultTexts.{refusal_line as compare_refusal_line}
 use Rattle.station_compare.specs.Runs.{IsCompareRun, IsDirectionsRun}
 use Rattle.station_differences.specs.Runs.{IsDifferencesRun}
-use Rattle.station_explain.specs.Explaining.{IsExplainRun}
 use Rattle.station_explain.specs.Table.{Explanation}
 use Rattle.station_mark.specs.FaultTexts.{refusal_line as mark_refusal_line}
 use Rattle.station_mark.specs.Runs.{IsMarkRun, notes_in}
+use Rattle.command_run.specs.Explaining.{IsExplainRun}
 use Rattle.command_run.specs.Hosts.{Known, Readers, IsAsKnown, IsUnread, IsTakenIn}
 use Rattle.command_run.specs.Hosts.{change_of}
 use Rattle.command_run.specs.Unopened.{unopened_line}

@@ -2,4 +2,5 @@
 -- needs them.
 pub mod Hosts
 pub mod Unopened
+pub mod Explaining
 pub mod Answering

@@ -7,6 +7,7 @@ ghost use Rattle.command_run.specs.Answering.{ChecksFiles, ComparesFiles, Report
 ghost use Rattle.command_run.specs.Answering.{NamesFirst, ReportsFiles};
 ghost use Rattle.command_run.specs.Hosts.{IsUnread, known_of, readers};
 
+use crate::explaining::run_explain;
 use crate::host::Host;
 use crate::unopened::Unopened;
 use adjust_kernel::ResidualLimit;
@@ -19,7 +20,7 @@ use station_book::Limits;
 use station_check::{run_check, run_list, run_means, run_words};
 use station_compare::{run_compare, run_directions};
 use station_differences::run_differences;
-use station_explain::{Explanation, run_explain};
+use station_explain::Explanation;
 use station_mark::run_mark;
 use station_record::{
     NamedReader, run_check_recorded, run_compare_recorded, run_report_recorded,

@@ -6,10 +6,12 @@
 //! | `status` | `run`: the exit status of the run that the words of a host ask for |
 //! | `host` | what gives the words and the files of paths, and the runtime as such a host |
 //! | `answering` | a request with its files open, and the call that answers it |
+//! | `explaining` | the run that explains a fault |
 //! | `unopened` | the line that names a file which can't be opened |
 #![tactic(auto)]
 
 mod answering;
+mod explaining;
 mod host;
 mod status;
 mod unopened;

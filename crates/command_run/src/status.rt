@@ -14,7 +14,7 @@ use crate::unopened::{Unopened, unopened_line};
 use byte_ends::Sink;
 use clap::Error;
 use command_line::asked_for;
-use station_check::{Fault, refuse};
+use station_check::{Fault, VERSION, refuse};
 use station_explain::Explanation;
 use std::alloc::Global;
 
@@ -87,7 +87,7 @@ fn status_of_words<H: Host, W: Sink, E: Sink>(
     ensures mistake { IfErr result (IsMistakeIn (map string_bytes words.now) faults.now) }
     ensures unchanged { OnErr result ((out.new ≡ out.old) × (err.new ≡ err.old)) }
 {
-    let request = asked_for(alloc, faults, words)?;
+    let request = asked_for(alloc, VERSION, faults, words)?;
     match answer(alloc, host, input, faults, &request, out, err) {
         Ok(status) => Ok(status),
         Err(unopened) => Ok(report_unopened(alloc, &unopened, err)),

@@ -182,6 +182,8 @@ impl<R: Source> Lines<R> {
 
     /// Finds, tests and counts the next line, while the state is `Open`: the caller settles a
     /// fault.
+    // Within its two callers: a call and its answer took one in 16 instructions of `list`.
+    #[inline(always)]
     fn find_block(&mut self) -> Result<Option<Shape>, FileKind>
         requires { is_settled self.old ≡ false }
         ensures shape { IfOk result

@@ -10,6 +10,12 @@ use Rattle.sheet_format.specs.Texts.{rows_text}
 use Rattle.sheet_format.proofs.TextRows.{entry-more, rows_text-append}
 use Rattle.station_check.proofs.ListLaws.{zip_get, zip_short}
 
+-- A text that was put after another, and one that was put after both.
+pub joined : (before middle after first second : List ℕ) → middle ≡ before ++ first
+    → after ≡ middle ++ second → after ≡ before ++ (first ++ second)
+joined before middle after first second put then =
+    then ∙ (ap (λ (text : List ℕ). text ++ second) put ∙ append_assoc before first second)
+
 -- After any text, the rows of one more entry join those of the entries before it.
 pub entries-joined : {X : Type 0} (f : X → List (List (List ℕ))) (text : List ℕ) (xs : List X)
     (i : ℕ) (x : X) → slice_get xs i ≡ Some x

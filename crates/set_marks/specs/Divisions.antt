@@ -89,11 +89,12 @@ abbrev pub are_read_alike : List Sight → List Sight → Bool
 are_read_alike first rs =
     (is_by_faces first && is_by_faces rs) || (is_by_targets first && is_by_targets rs)
 
--- the target of the first reading, and of the last
+-- the target of the first reading
 abbrev pub first_target : List Sight → List ℕ
 first_target [] = []
 first_target (r ∷ rs) = r.target
 
+-- the target of the last reading
 abbrev pub last_target : List Sight → List ℕ
 last_target [] = []
 last_target (r ∷ []) = r.target

@@ -5,11 +5,12 @@ use Rattle.set_marks.specs.declared.mark.BlockMark.{BlockMark}
 use Rattle.set_marks.specs.declared.mark.Mark.{Mark}
 use Rattle.set_marks.specs.Lines.{end_beside}
 
--- the code lines of the block of this number that come first of these, and those after them
+-- the code lines of the block of this number that come first of these
 abbrev pub marks_of_block : ℕ → List BlockMark → List BlockMark
 marks_of_block number [] = []
 marks_of_block number (m ∷ ms) = if m.block == number then m ∷ marks_of_block number ms else []
 
+-- the code lines after those
 abbrev pub marks_after : ℕ → List BlockMark → List BlockMark
 marks_after number [] = []
 marks_after number (m ∷ ms) = if m.block == number then marks_after number ms else m ∷ ms

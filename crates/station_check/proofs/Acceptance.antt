@@ -7,7 +7,7 @@ use Rattle.std.specs.List.{AllZip, Contains}
 use Rattle.std.proofs.lemmas.List.{reverse-reverse}
 use Rattle.byte_ends.specs.Source.{Told}
 use Rattle.gsi_word.specs.Blocks.{GsiBlock, IsBlock}
-use Rattle.gsi_file.specs.FileAnswers.{FileAnswers}
+use Rattle.gsi_file.specs.FileAnswers.{FileAnswers, file_answers}
 use Rattle.gsi_file.specs.declared.file_fault.FileKind.{FileKind}
 use Rattle.adjust_kernel.specs.declared.accepted.Accepted.{Accepted}
 use Rattle.adjust_kernel.proofs.LawLemmas.{accepted_keeps_limit}
@@ -106,11 +106,12 @@ station_found limits file name its small has =
     }
 
 -- A sheet that was judged well is accepted.
-pub acceptance : (limits : FaceLimits) (limit : Option ℕ) (file : FileAnswers) (told : Told)
+pub acceptance : (limits : FaceLimits) (limit : Option ℕ) (gsi told : Told)
     (stations : List SurveyedStation) (a : Accepted) → AreLimits limits
-    → IsSurvey limits file stations → IsJudgedSheet stations limit told (Ok a)
-    → IsAccepted limits limit file told a
-acceptance limits limit file told stations a small survey judged =
+    → IsSurvey limits (file_answers gsi) stations → IsJudgedSheet stations limit told (Ok a)
+    → IsAccepted limits limit gsi told a
+acceptance limits limit gsi told stations a small survey judged =
+    let file = file_answers gsi in
     let blocks = survey.blocks in
     let its = judged.judged.its in
     let name = judged.sheet.name in
@@ -162,9 +163,9 @@ acceptance limits limit file told stations a small survey judged =
 
 -- So a well judged answer of a check is an acceptance.
 pub accepted_so : (limits : FaceLimits) → AreLimits limits
-    → (limit : Option ℕ) (file : FileAnswers) (told : Told) (stations : List SurveyedStation)
-    (r : Result Accepted Fault) → IsSurvey limits file stations
-    → IfKernels (IsJudgedSheet stations limit told) r → IfOk r (IsAccepted limits limit file told)
-accepted_so limits small limit file told stations (Ok a) s j =
-    acceptance limits limit file told stations a small s j
-accepted_so limits small limit file told stations (Err fault) s j = tt
+    → (limit : Option ℕ) (gsi told : Told) (stations : List SurveyedStation)
+    (r : Result Accepted Fault) → IsSurvey limits (file_answers gsi) stations
+    → IfKernels (IsJudgedSheet stations limit told) r → IfOk r (IsAccepted limits limit gsi told)
+accepted_so limits small limit gsi told stations (Ok a) s j =
+    acceptance limits limit gsi told stations a small s j
+accepted_so limits small limit gsi told stations (Err fault) s j = tt

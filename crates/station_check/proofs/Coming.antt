@@ -29,13 +29,12 @@ lines_came told failed gave gsi first last next So e whole s =
 pub promise_as_told : (limits : FaceLimits) (limit : Option ℕ) (gsi sheet : ReaderChange)
     (r : Result Accepted Fault) → IsAnswer limits limit gsi sheet r
     → (file stated : Told) → gsi.told ≡ Some file → sheet.told ≡ Some stated
-    → KeepsPromise limits limit (file_answers file) stated r
+    → KeepsPromise limits limit file stated r
 promise_as_told limits limit gsi sheet r a file stated e f =
     let gsi_left = some_left gsi.told' in
     let sheet_left = some_left sheet.told' in
-    subst (λ (t : Told). KeepsPromise limits limit (file_answers file) t r)
+    subst (λ (t : Told). KeepsPromise limits limit file t r)
     (given_as_told sheet a.sheet_bytes a.sheet_reads stated f sheet_left.0 sheet_left.1)
-    (subst (λ (t : Told). KeepsPromise limits limit (file_answers t)
-    (given_then a.sheet_bytes sheet_left.0) r)
+    (subst (λ (t : Told). KeepsPromise limits limit t (given_then a.sheet_bytes sheet_left.0) r)
     (given_as_told gsi a.gsi_bytes a.gsi_reads file e gsi_left.0 gsi_left.1)
     (a.promise gsi_left.0 sheet_left.0 gsi_left.1 sheet_left.1))

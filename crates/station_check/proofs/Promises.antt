@@ -3,7 +3,7 @@ use Rattle.std.proofs.Common.{◌≡◌, ℕ, List, Option, Ok, Err, refl, ◌�
 use Rattle.std.specs.Prelude.{Result, IfErr}
 use Rattle.byte_ends.specs.Source.{Told}
 use Rattle.byte_ends.specs.Input.{input_within}
-use Rattle.gsi_file.specs.FileAnswers.{FileAnswers}
+use Rattle.gsi_file.specs.FileAnswers.{FileAnswers, file_answers}
 use Rattle.adjust_kernel.specs.declared.accepted.Accepted.{Accepted}
 use Rattle.sheet_format.specs.declared.reading.TheConstants.{LONGEST_SHEET}
 use Rattle.station_book.specs.Limits.{FaceLimits, AreLimits}
@@ -35,14 +35,15 @@ verdict_of limits limit file stated stations r s c = by_checked c.verdict where
 
 -- The promise, where the field file has stations.
 pub promise_by_sheet : (limits : FaceLimits) → AreLimits limits
-    → (limit : Option ℕ) (file : FileAnswers) (stated : Told) (stations : List SurveyedStation)
-    (r : Result Accepted Fault) → IsSurvey limits file stations → IfErr r IsOfSheet
+    → (limit : Option ℕ) (gsi stated : Told) (stations : List SurveyedStation)
+    (r : Result Accepted Fault) → IsSurvey limits (file_answers gsi) stations → IfErr r IsOfSheet
     → IsChecked stations limit stated r
-    → KeepsPromise limits limit file stated r
-promise_by_sheet limits small limit file stated stations r s o c =
+    → KeepsPromise limits limit gsi stated r
+promise_by_sheet limits small limit gsi stated stations r s o c =
+    let file = file_answers gsi in
     let verdict = verdict_of limits limit file stated stations r s c in
     record {
-      accepted = accepted_so limits small limit file stated stations r s c.judged;
+      accepted = accepted_so limits small limit gsi stated stations r s c.judged;
       refused = refused_so limits limit file stated stations r s o c.judged c.verdict;
       verdict = verdict;
       no_other = only_verdict limits limit file stated r small verdict;
@@ -73,9 +74,11 @@ file_verdict limits limit file stated Write h =
 
 -- The promise, where the field file has a fault.
 pub promise_by_file : (limits : FaceLimits) → AreLimits limits
-    → (limit : Option ℕ) (file : FileAnswers) (stated : Told) (fault : Fault) → IsOfFile fault
-    → Surveys limits file (Err fault) → KeepsPromise limits limit file stated (Err fault)
-promise_by_file limits small limit file stated fault o h =
+    → (limit : Option ℕ) (gsi stated : Told) (fault : Fault) → IsOfFile fault
+    → Surveys limits (file_answers gsi) (Err fault)
+    → KeepsPromise limits limit gsi stated (Err fault)
+promise_by_file limits small limit gsi stated fault o h =
+    let file = file_answers gsi in
     let verdict = file_verdict limits limit file stated fault h in
     record {
       accepted = tt;

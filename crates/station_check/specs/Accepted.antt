@@ -7,7 +7,7 @@ use Rattle.std.specs.List.{AllZip, Contains}
 use Rattle.byte_ends.specs.Source.{Told}
 use Rattle.byte_ends.specs.Input.{input_within, Ended}
 use Rattle.gsi_word.specs.Blocks.{IsBlock}
-use Rattle.gsi_file.specs.FileAnswers.{FileAnswers}
+use Rattle.gsi_file.specs.FileAnswers.{file_answers}
 use Rattle.adjust_kernel.specs.Least.{IsLeast, IsUnique}
 use Rattle.adjust_kernel.specs.Matching.{Key, Matches, keys_of}
 use Rattle.adjust_kernel.specs.Pairs.{choice_stated_by}
@@ -29,14 +29,15 @@ pub record StatesSheet (source : Told) (sheet : SheetValue) : Type 0 where
   pub whole : input_within LONGEST_SHEET source ≡ Ended bytes
   pub states : IsSheetText bytes sheet
 
--- Of these lines and the end after them, and of these bytes of a sheet and how they end, this is
--- the acceptance; `limit` is the residual limit in half units, where one is stated.
-pub record IsAccepted (limits : FaceLimits) (limit : Option ℕ) (file : FileAnswers) (source : Told)
+-- Of these bytes of a field file and of a sheet, and how they end, this is the acceptance; `limit` is
+-- the residual limit in half units, where one is stated.
+pub record IsAccepted (limits : FaceLimits) (limit : Option ℕ) (gsi source : Told)
     (a : Accepted) : Type 0 where
-  -- The field file was read to its end, and its numbered lines are these blocks, the newest first.
+  -- The field file was read to its end, and the numbered lines of its bytes are these blocks, the
+  -- newest first.
   pub blocks : History
-  pub ended : file.last ≡ None
-  pub lines : AllZip IsBlock file.lines (reverse blocks)
+  pub ended : (file_answers gsi).last ≡ None
+  pub lines : AllZip IsBlock (file_answers gsi).lines (reverse blocks)
   -- No fault stands at any of them, nor at the end.
   pub faultless : IsWithoutFault limits blocks
   pub closed : fault_at_end blocks ≡ None

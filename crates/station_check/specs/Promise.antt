@@ -2,7 +2,7 @@
 use Rattle.std.specs.Prelude.{ℕ, List, Option, Result, IfOk, IfErr}
 use Rattle.byte_ends.specs.Came.{Leaves}
 use Rattle.byte_ends.specs.Source.{Told, ReaderChange, MayGive, HasGiven, given_then}
-use Rattle.gsi_file.specs.FileAnswers.{FileAnswers, file_answers}
+use Rattle.gsi_file.specs.FileAnswers.{file_answers}
 use Rattle.adjust_kernel.specs.declared.accepted.Accepted.{Accepted}
 use Rattle.station_book.specs.Limits.{FaceLimits}
 use Rattle.station_check.specs.declared.fault.Fault.{Fault}
@@ -12,18 +12,18 @@ use Rattle.station_check.specs.Refused.{TellsOfRefusal, IsFileFirst}
 use Rattle.station_check.specs.SheetInput.{sheet_left}
 use Rattle.station_check.specs.Verdicts.{AnswersVerdict, IsOnlyVerdict}
 
--- The answer on a field file of these lines, and a sheet of these bytes. `limit` is the residual
--- limit in half units, where one is stated.
-pub record KeepsPromise (limits : FaceLimits) (limit : Option ℕ) (file : FileAnswers)
-    (source : Told) (r : Result Accepted Fault) : Type 0 where
+-- The answer on a field file and a sheet of these bytes. `limit` is the residual limit in half
+-- units, where one is stated.
+pub record KeepsPromise (limits : FaceLimits) (limit : Option ℕ) (gsi source : Told)
+    (r : Result Accepted Fault) : Type 0 where
   -- What an acceptance says, and what each refusal says.
-  pub accepted : IfOk r (IsAccepted limits limit file source)
-  pub refused : IfErr r (TellsOfRefusal limits limit file source)
+  pub accepted : IfOk r (IsAccepted limits limit gsi source)
+  pub refused : IfErr r (TellsOfRefusal limits limit (file_answers gsi) source)
   -- The answer is the whole verdict, and no other verdict stands, unless memory runs out.
-  pub verdict : AnswersVerdict limits limit file source r
-  pub no_other : IsOnlyVerdict limits limit file source r
+  pub verdict : AnswersVerdict limits limit (file_answers gsi) source r
+  pub no_other : IsOnlyVerdict limits limit (file_answers gsi) source r
   -- Where the field file comes to a fault, that is the answer, whatever the sheet is.
-  pub file_first : IsFileFirst limits file r
+  pub file_first : IsFileFirst limits (file_answers gsi) r
 
 -- The answer on what two readers gave, whatever they are, and how both are left.
 pub record IsAnswer (limits : FaceLimits) (limit : Option ℕ) (gsi sheet : ReaderChange)
@@ -36,7 +36,7 @@ pub record IsAnswer (limits : FaceLimits) (limit : Option ℕ) (gsi sheet : Read
   -- Of these bytes, and whatever may be left in the readers after them, the whole promise is kept.
   pub promise : (gsi_left sheet_left : Told) → MayGive gsi.told' gsi_left
       → MayGive sheet.told' sheet_left
-      → KeepsPromise limits limit (file_answers (given_then gsi_bytes gsi_left))
+      → KeepsPromise limits limit (given_then gsi_bytes gsi_left)
       (given_then sheet_bytes sheet_left) r
   -- The kernel is never given a sheet for another station.
   pub of_check : IfErr r IsOfCheck

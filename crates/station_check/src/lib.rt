@@ -10,6 +10,7 @@
 //! | `write_list` | writes the stations of a field file, their directions and face differences |
 //! | `write_words` | writes the words of a field file |
 //! | `check_sources` | as `check_bytes`, and gives the field file's reader back |
+//! | `check_kept` | the same by readers that keep their bytes: an acceptance is of exactly these |
 //! | `stations_of_file` | the stations of a field file, for other libraries, and its reader |
 //! | `noted_stations_of_file` | the same, and how many readings stand in no set |
 //! | `note_unchecked` | notes how many these are |
@@ -35,6 +36,7 @@
 mod accepted;
 mod check;
 mod fault;
+mod kept;
 mod label;
 pub mod laws;
 mod list;
@@ -56,6 +58,7 @@ mod words;
 pub use accepted::accepted_line;
 pub use check::{check_bytes, check_slices, check_sources, source_of};
 pub use fault::Fault;
+pub use kept::check_kept;
 pub use list::{noted_stations_of_file, write_list};
 pub use means::write_means;
 pub use page::Page;

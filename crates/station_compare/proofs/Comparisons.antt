@@ -57,7 +57,7 @@ module _ (unit : AngleUnit) (limits : FaceLimits) (lines : FileAnswers) (stated 
     (name : List ℕ) (within : Option ℕ) where
   -- A table that agrees is compared.
   pub compared_of : (a : Agreement) (h : Agrees unit limits lines stated name within a)
-      → IsComparedWith unit h.its.station h.bytes a.apart
+      → IsComparedWith unit h.its.station h.bytes a.how_far.apart
   compared_of a h = record {
     directions = h.directions;
     states = h.states;
@@ -83,13 +83,14 @@ module _ (unit : AngleUnit) (limits : FaceLimits) (lines : FileAnswers) (stated 
         station = station;
         bytes = bytes;
         whole = whole;
-        directions = is.compared.directions;
-        states = is.compared.states;
-        adjustable = is.compared.are_apart.adjustable;
-        brought = λ c turns least. (is.compared.are_apart.from_each c turns least).brought;
+        directions = is.how_far.compared.directions;
+        states = is.how_far.compared.states;
+        adjustable = is.how_far.compared.are_apart.adjustable;
+        brought = λ c turns least. (is.how_far.compared.are_apart.from_each c turns least).brought;
         no_nearer = λ n fewer c turns least.
-            (is.compared.are_apart.from_each c turns least).no_nearer n fewer;
+            (is.how_far.compared.are_apart.from_each c turns least).no_nearer n fewer;
         agrees = is.agrees;
+        limit = is.how_far.limit;
         named = is.named;
         counted = is.counted;
       }

@@ -70,18 +70,27 @@ module _ (unit : AngleUnit) (station : StationValue) (bytes : List ℕ) where
     answer_of (Err fault) = Err (Table fault)
     answer_of (Ok (Err fault)) = Err (Adjust fault)
     answer_of (Ok (Ok apart)) =
-        if nat_le apart (limit_in_force unit within station.targets bytes)
-        then Ok (record { name = station.name; targets = length station.targets; apart = apart })
-        else Err (Apart apart)
+        let limit = limit_in_force unit within station.targets bytes in
+        if nat_le apart limit
+        then Ok (record {
+          name = station.name;
+          targets = length station.targets;
+          how_far = record { apart = apart; limit = limit };
+        })
+        else Err (Apart (record { apart = apart; limit = limit }))
 
     answers : (r : Result Agreement CompareFault) → IsSettled r
         → ByTable unit station within bytes r
         → (c : Result (Result ℕ AdjustFault) TableFault) × ComeTo c × (r ≡ answer_of c)
-    answers (Ok a) set h =
-        (Ok (Ok a.apart), h.compared, rw (le-leb _ _ h.agrees, ← h.named, ← h.counted) refl)
+    answers (Ok a) set h = (
+      Ok (Ok a.how_far.apart),
+      h.how_far.compared,
+      rw (← h.how_far.limit, le-leb _ _ h.agrees, ← h.named, ← h.counted) refl,
+    )
     answers (Err (Table fault)) set h = (Err fault, h, refl)
     answers (Err (Adjust fault)) set h = (Ok (Err fault), (h, set), refl)
-    answers (Err (Apart n)) set h = (Ok (Ok n), h.1, rw (lt-leb _ _ h.0) refl)
+    answers (Err (Apart n)) set h =
+        (Ok (Ok n.apart), h.1.compared, rw (← h.1.limit, lt-leb _ _ h.0) refl)
     answers (Err Memory) set h = absurd set
     answers (Err fault) set h = absurd h
 
@@ -120,7 +129,10 @@ module _ (unit : AngleUnit) (limits : FaceLimits) (small : AreLimits limits) (fi
     tt,
     subst (λ (input : Input). ByInput unit h.its.station within input (Ok a)) (sym h.whole)
         (record {
-          compared = compared_of unit limits file stated name within a h;
+          how_far = record {
+            compared = compared_of unit limits file stated name within a h;
+            limit = h.limit;
+          };
           agrees = h.agrees;
           named = h.named;
           counted = h.counted;

@@ -74,8 +74,8 @@ module _ (count : ℕ) (text : List ℕ) (many : 6 ≤ count) where
         (omega (arith, small))
         (subst (λ ds. AreApart station (stated_by ds) apart) same h.are_apart)
 
-    no_more : (within : Option ℕ) (apart : ℕ) → limit_in_force Gon within station.targets text <
-        apart
+    no_more : (within : Option ℕ) (apart : ℕ)
+        → limit_in_force Gon within station.targets text < apart
         → apart ≤ 1 → (within ≡ Some 0) × (apart ≡ 1)
     no_more (Some within) apart more few =
         (ap Some (omega (arith, more, few)), omega (arith, more, few))
@@ -91,8 +91,8 @@ module _ (count : ℕ) (text : List ℕ) (many : 6 ≤ count) where
     by_table within (Adjust NotFound) h = tt
     by_table within (Adjust fault) h =
         absurd (no_adjust_fault station fault own.rounded.adjustable tt h.fault_stands)
-    by_table within (Apart apart) h =
-        no_more within apart h.0 (own_apart apart h.1)
+    by_table within (Apart n) h =
+        no_more within n.apart (rw h.1.limit at h.0) (own_apart n.apart h.1.compared)
     by_table within Memory h = tt
     by_table within fault h = h
 
@@ -114,12 +114,12 @@ module _ (count : ℕ) (text : List ℕ) (many : 6 ≤ count) where
     -- Where own directions agree with their file, they are apart by 1 unit at most.
     pub agrees_by_1 : (within : Option ℕ) (a : Agreement)
         → Agrees Gon limits file whole name within a
-        → a.apart ≤ 1
+        → a.how_far.apart ≤ 1
     agrees_by_1 within a h =
         let ended : Ended text ≡ Ended h.bytes = sym read ∙ h.whole in
         let same : text ≡ h.bytes = cc in
-        own_apart h.its.station (its h.its h.station) a.apart
-        (subst (λ bytes. IsComparedWith Gon h.its.station bytes a.apart) (sym same)
+        own_apart h.its.station (its h.its h.station) a.how_far.apart
+        (subst (λ bytes. IsComparedWith Gon h.its.station bytes a.how_far.apart) (sym same)
         (compared_of Gon limits file whole name within a h))
 
     -- They are refused for being apart by 1, where 0 was asked for, for another sheet, or memory.

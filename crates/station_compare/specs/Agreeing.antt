@@ -40,13 +40,14 @@ pub record Agrees (unit : AngleUnit) (limits : FaceLimits) (file : FileAnswers) 
   -- One rotation brings every stated direction so near to the least-squares one, whichever choice
   -- is least.
   pub brought : (c : Choice) (turns : List ℤ) → IsLeastOf its.station c turns
-      → AreBroughtWithin (length its.station.targets) c (stated_by directions) a.apart
+      → AreBroughtWithin (length its.station.targets) c (stated_by directions) a.how_far.apart
   -- And no rotation brings them nearer by a unit.
-  pub no_nearer : (nearer : ℕ) → nearer < a.apart → (c : Choice) (turns : List ℤ)
+  pub no_nearer : (nearer : ℕ) → nearer < a.how_far.apart → (c : Choice) (turns : List ℤ)
       → IsLeastOf its.station c turns
       → ¬ AreBroughtWithin (length its.station.targets) c (stated_by directions) nearer
-  -- That is no further than the limit in force: the stated one, or the usual one for the steps to
-  -- which the table's rows round their directions.
-  pub agrees : a.apart ≤ limit_in_force unit within its.station.targets bytes
+  -- That is no further than the limit that it says: the one in force, which is the stated one, or
+  -- the usual one for the steps to which the table's rows round their directions.
+  pub agrees : a.how_far.apart ≤ a.how_far.limit
+  pub limit : a.how_far.limit ≡ limit_in_force unit within its.station.targets bytes
   pub named : a.name ≡ its.station.name
   pub counted : a.targets ≡ length its.station.targets

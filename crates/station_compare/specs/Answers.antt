@@ -52,7 +52,7 @@ table_left TableRead = BrokenOff
 table_left (Table (table.Row number kind)) = ReadOut
 table_left (Table (table.Missing target)) = ReadOut
 table_left (Adjust fault) = ReadOut
-table_left (Apart apart) = ReadOut
+table_left (Apart how_far) = ReadOut
 table_left fault = Unfailed
 
 -- How a fault leaves the field file's reader: as its own fault says; where memory ran out no read

@@ -14,6 +14,7 @@ use Rattle.station_compare.specs.declared.agreement.Agreement.{Agreement}
 use Rattle.station_compare.specs.declared.fault.CompareFault.{CompareFault}
 use Rattle.station_compare.specs.declared.fault.CompareFault.TheVariants.{TableRead, Table}
 use Rattle.station_compare.specs.declared.fault.CompareFault.TheVariants.{Adjust, Apart, Memory}
+use Rattle.station_compare.specs.declared.how_far.HowFar.{HowFar}
 use Rattle.direction_table.specs.declared.unit.AngleUnit.{AngleUnit}
 
 -- So far are the directions of a table apart from the least-squares directions of a station: one
@@ -25,12 +26,17 @@ pub record IsComparedWith (unit : AngleUnit) (station : StationValue) (bytes : L
   pub states : IsTableText unit station.targets bytes directions
   pub are_apart : AreApart station (stated_by directions) apart
 
+-- How far the table is apart is this, and the limit is the one in force.
+pub record IsHowFar (unit : AngleUnit) (station : StationValue) (bytes : List ℕ)
+    (within : Option ℕ) (h : HowFar) : Type 0 where
+  pub compared : IsComparedWith unit station bytes h.apart
+  pub limit : h.limit ≡ limit_in_force unit within station.targets bytes
+
 -- The table agrees: its directions are no further apart than the limit in force.
 pub record IsAgreement (unit : AngleUnit) (station : StationValue) (bytes : List ℕ)
-    (within : Option ℕ)
-    (a : Agreement) : Type 0 where
-  pub compared : IsComparedWith unit station bytes a.apart
-  pub agrees : a.apart ≤ limit_in_force unit within station.targets bytes
+    (within : Option ℕ) (a : Agreement) : Type 0 where
+  pub how_far : IsHowFar unit station bytes within a.how_far
+  pub agrees : a.how_far.apart ≤ a.how_far.limit
   pub named : a.name ≡ station.name
   pub counted : a.targets ≡ length station.targets
 
@@ -50,9 +56,8 @@ ByTable unit station within bytes (Ok a) = IsAgreement unit station bytes within
 ByTable unit station within bytes (Err (Table fault)) = IsTableFault unit station.targets bytes
     fault
 ByTable unit station within bytes (Err (Adjust fault)) = IsUnadjusted unit station bytes fault
-ByTable unit station within bytes (Err (Apart apart)) =
-    (limit_in_force unit within station.targets bytes < apart)
-    × IsComparedWith unit station bytes apart
+ByTable unit station within bytes (Err (Apart h)) =
+    (h.limit < h.apart) × IsHowFar unit station bytes within h
 ByTable unit station within bytes (Err Memory) = ⊤
 ByTable unit station within bytes (Err fault) = ⊥
 

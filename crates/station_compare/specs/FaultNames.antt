@@ -21,6 +21,6 @@ compare_fault_name (File fault) = fault_name fault
 compare_fault_name TableRead = codes "Read"
 compare_fault_name (Table fault) = table_fault_name fault
 compare_fault_name (Adjust fault) = adjust_fault_name fault
-compare_fault_name (Apart apart) = codes "Apart"
+compare_fault_name (Apart how_far) = codes "Apart"
 compare_fault_name Write = codes "write failed"
 compare_fault_name Memory = codes "out of memory"

@@ -7,7 +7,7 @@ use Rattle.station_compare.specs.declared.fault.CompareFault.TheVariants.{Adjust
 -- Why it may be refused: it is apart by 1 unit, and 0 was stated; or no adjustment was found, or
 -- memory ran out, which no contract excludes. Nothing else comes.
 abbrev pub MayRefuse : Option ℕ → CompareFault → Type 0
-MayRefuse within (Apart apart) = (within ≡ Some 0) × (apart ≡ 1)
+MayRefuse within (Apart h) = (within ≡ Some 0) × (h.apart ≡ 1)
 MayRefuse within (Adjust NotFound) = ⊤
 MayRefuse within Memory = ⊤
 MayRefuse within fault = ⊥

@@ -3,6 +3,7 @@
 ghost use Rattle.std.specs.Prelude.{◌≡◌};
 ghost use Rattle.station_compare.specs.FaultTexts as spec;
 
+use crate::how_far::{HowFar, add_how_far};
 use adjust_kernel::Name;
 use station_check::{VerdictLine, add, add_numbered};
 
@@ -13,9 +14,8 @@ pub struct Agreement {
     pub name: Name,
     /// How many targets it has.
     pub targets: u32,
-    /// So near one rotation brings every stated direction to the least-squares one, in units of
-    /// 0.000001 gon.
-    pub apart: u32,
+    /// How far the table is apart from it: no further than the limit.
+    pub how_far: HowFar,
 }
 
 /// The line of a table that agrees, with its line feed.
@@ -26,7 +26,8 @@ pub fn agreement_line(agreement: Agreement) -> VerdictLine
     add(&mut line, b"agrees ");
     add(&mut line, agreement.name.bytes());
     add_numbered(&mut line, b": ", agreement.targets);
-    add_numbered(&mut line, b" targets, within ", agreement.apart);
+    add(&mut line, b" targets, within ");
+    add_how_far(&mut line, agreement.how_far);
     add(&mut line, b"\n");
     line
 }

@@ -9,6 +9,7 @@ ghost use Rattle.station_compare.specs.Comparing.{ByInput, ByTable};
 
 use crate::agreement::Agreement;
 use crate::fault::CompareFault;
+use crate::how_far::HowFar;
 use adjust_kernel::Station;
 use byte_ends::{Source, read_whole};
 use direction_table::{AngleUnit, LONGEST_TABLE, read_stated_table};
@@ -106,12 +107,13 @@ fn compare_table(
     let stated = read_stated_table(alloc, unit, station.targets(), bytes)?;
     let apart = apart_from_least(alloc, station, &stated.directions)?;
     let limit = within.unwrap_or(stated.usual_within);
+    let how_far = HowFar { apart, limit };
     if apart > limit {
-        return Err(CompareFault::Apart(apart));
+        return Err(CompareFault::Apart(how_far));
     }
     Ok(Agreement {
         name: station.name(),
         targets: station.targets().len() as u32,
-        apart,
+        how_far,
     })
 }

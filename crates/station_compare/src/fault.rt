@@ -5,6 +5,7 @@ ghost use Rattle.station_compare.specs.FaultNames as names;
 ghost use Rattle.station_compare.specs.Faults.{of_adjust, of_file, of_input, of_table};
 ghost use Rattle.station_compare.specs.declared.fault.CompareFault.TheVariants.{Memory, Write};
 
+use crate::how_far::HowFar;
 use byte_ends::{Failed, InputFault};
 use direction_table::TableFault;
 use exact_adjustment::{AdjustError, AdjustFault};
@@ -27,10 +28,10 @@ pub enum CompareFault {
     /// The station's least-squares directions are not told.
     #[error("the station can't be adjusted: {0}")]
     Adjust(AdjustFault),
-    /// The stated directions are so far apart from the least-squares ones, in units of 0.000001
-    /// gon, and further than the limit: the stated one, or what is usual for the table's rows.
-    #[error("the directions are {0} units of 0.000001 gon apart from the least-squares ones")]
-    Apart(u32),
+    /// The stated directions are so far apart from the least-squares ones, and further than the
+    /// limit: compare them target by target, by `station_differences`.
+    #[error("the directions are {apart} units of 0.000001 gon apart, limit {limit}", apart = .0.apart, limit = .0.limit)]
+    Apart(HowFar),
     /// What was to be written couldn't be written whole: see whether the output is open and has
     /// room.
     #[error("a write failed")]

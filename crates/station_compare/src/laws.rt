@@ -26,7 +26,7 @@ pub fn directions_agree()
         (count : ℕ) (within : Option ℕ) (a : Agreement) → AreLimits limits
         → 6 ≤ count → StatesDirections limits file name count text
         → Agrees Gon limits file (record { bytes = text; fails = false }) name within a
-        → a.apart ≤ 1 }
+        → a.how_far.apart ≤ 1 }
     ensures refused { (limits : FaceLimits) (file : FileAnswers) (name text : List ℕ)
         (count : ℕ) (within : Option ℕ) (fault : CompareFault) → AreLimits limits
         → 6 ≤ count → StatesDirections limits file name count text

@@ -5,12 +5,16 @@ ghost use Rattle.arrayvec.specs.ArrayVec.{array_vec_len};
 ghost use Rattle.station_compare.specs.FaultTexts as spec;
 
 use crate::fault::CompareFault;
+use crate::how_far::{LONGEST_HOW_FAR, add_how_far};
 use direction_table::TableFault;
 use exact_adjustment::AdjustFault;
 use station_check::{
-    LONGEST_CARRIED, LONGEST_PLACE, LONGEST_VERDICT_LINE, VerdictLine, add, add_carried,
-    add_number, add_numbered_place, add_place,
+    LONGEST_PLACE, LONGEST_VERDICT_LINE, VerdictLine, add, add_carried, add_number,
+    add_numbered_place, add_place,
 };
+
+/// Bytes of what a fault carries, at most: how far a table is apart, after a blank.
+const LONGEST_CARRIED: usize = 1 + LONGEST_HOW_FAR;
 
 /// The line of a refusal, with its line feed.
 pub fn refusal_line(fault: CompareFault) -> VerdictLine
@@ -56,7 +60,10 @@ fn add_compare_carried(line: &mut VerdictLine, fault: CompareFault)
         CompareFault::File(fault) => add_carried(line, fault),
         CompareFault::Table(TableFault::Missing(target)) => add_number(line, Some(target)),
         CompareFault::Adjust(AdjustFault::Residual(number)) => add_number(line, Some(number)),
-        CompareFault::Apart(apart) => add_number(line, Some(apart)),
+        CompareFault::Apart(how_far) => {
+            add(line, b" ");
+            add_how_far(line, how_far);
+        }
         _ => {}
     }
 }

@@ -165,7 +165,11 @@ module _ (unit : AngleUnit) (limits : FaceLimits) (small : AreLimits limits) (fi
       are_apart station has.rules has.adjustment has.tied has.exact has.limited
       (stated_by d.directions) some.0 some.2 in (
         some.0,
-        record { name = station.name; targets = length station.targets; apart = some.0 },
+        record {
+          name = station.name;
+          targets = length station.targets;
+          how_far = record { apart = some.0; limit = some.0 };
+        },
         record {
           its = p.its;
           station = p.station;
@@ -177,6 +181,7 @@ module _ (unit : AngleUnit) (limits : FaceLimits) (small : AreLimits limits) (fi
           brought = λ c turns least. (are.from_each c turns least).brought;
           no_nearer = λ n fewer c turns least. (are.from_each c turns least).no_nearer n fewer;
           agrees = omega arith;
+          limit = refl;
           named = refl;
           counted = refl;
         },

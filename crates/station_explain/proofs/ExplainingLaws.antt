@@ -1,18 +1,10 @@
--- Texts of faults, and names that are filled with blanks.
-use Rattle.std.specs.Prelude.{ℕ, List, Option, Some, None}
-use Rattle.std.specs.Borrow.{Bor}
+-- Names that are filled with blanks.
+use Rattle.std.specs.Prelude.{ℕ, List}
 use Rattle.std.proofs.Common.{◌≡◌, ◌-◌, ◌^◌, ◌≤◌, length, arith, refl}
 use lib.Utf8.{encode}
 use Rattle.std.proofs.Padding.{take_chars_all}
 use Rattle.std.specs.Fmt.{char_count, format_spec, padded, styled_text}
-use Rattle.station_explain.specs.Table.{Explanation}
-use Rattle.station_explain.specs.Explaining.{filled, meaning_text, list_text, Explains}
-
--- There is always a text that explains.
-pub explained : (table : List (Bor (List Explanation))) (fault : Option Explanation)
-    → (text : List ℕ) × Explains table fault text
-explained table (Some e) = (meaning_text e, refl)
-explained table None = (list_text table, refl)
+use Rattle.station_explain.specs.Explaining.{filled}
 
 -- What `{name:<16}` writes is the name, filled to 16 characters.
 pub filled_by_format : (name : List ℕ) → length name ≤ 2 ^ 64 - 1

@@ -1,6 +1,6 @@
 -- Which fault a text names.
 use Rattle.std.specs.Prelude.{◌≡◌, ◌≢◌, ◌⊎◌, ◌++◌, ℕ, List, IsTrue, IsFalse, codes}
-use Rattle.std.specs.Prelude.{All, Any, Contains}
+use Rattle.std.specs.Prelude.{All, Any, Contains, ◌≤◌, length}
 use Rattle.std.specs.Borrow.{Bor}
 use Rattle.std.specs.Char.{is_ascii_digit}
 use Rattle.std.specs.Str.{str_eq_ignore_ascii_case}
@@ -14,6 +14,18 @@ Lacks part text = (before after : List ℕ) → text ≢ before ++ (part ++ afte
 pub record SplitsAtLast (part text before after : List ℕ) : Type 0 where
   pub whole : text ≡ before ++ (part ++ after)
   pub last : Lacks part after
+
+-- What stands before the first such part of a text, and what stands after it.
+pub record SplitsAtFirst (part text before after : List ℕ) : Type 0 where
+  pub whole : text ≡ before ++ (part ++ after)
+  pub first : (earlier rest : List ℕ) → text ≡ earlier ++ (part ++ rest)
+      → length before ≤ length earlier
+
+-- A line up to its first point, which stands in a number with decimals, or the whole of it where
+-- it has none.
+abbrev pub IsBeforePoint : List ℕ → List ℕ → Type 0
+IsBeforePoint line told = (Lacks (codes ".") line × (told ≡ line))
+    ⊎ ((after : List ℕ) × SplitsAtFirst (codes ".") line told after)
 
 -- The fault that a line tells of, with the number that it carries: what stands after the line's
 -- last ": ", or the whole of it where it has none.
@@ -35,7 +47,8 @@ IsNameIn fault name = (Lacks (codes " ") fault × (name ≡ fault))
 
 -- A line, or a part of it, has this name of a fault.
 abbrev pub Names : List ℕ → List ℕ → Type 0
-Names line name = (fault : List ℕ) × IsFaultIn line fault × IsNameIn fault name
+Names line name = (told : List ℕ) × (fault : List ℕ) × IsBeforePoint line told
+    × IsFaultIn told fault × IsNameIn fault name
 
 -- The fault has this name, written just so.
 abbrev pub HasName : List ℕ → Explanation → Type 0

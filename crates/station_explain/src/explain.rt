@@ -1,61 +1,15 @@
 //! What is printed of faults: the names of all, or what one of them means.
 
-ghost use Rattle.std.specs.Prelude.{◌≡◌, ◌++◌, IfOk, OnOk, IfNone, option_map, string_bytes, ⊤};
+ghost use Rattle.std.specs.Prelude.{◌≡◌, ◌++◌, IfOk, OnOk, IfNone, option_map, string_bytes};
 ghost use Rattle.std.specs.List.{flat_map};
-ghost use Rattle.byte_ends.specs.Writers.{writer_change};
-ghost use Rattle.station_check.specs.RunEndings.{Run};
-ghost use Rattle.station_check.specs.VerdictLines.{refusal_line};
-ghost use Rattle.station_explain.specs.Explaining.{meaning_text, name_line, name_lines, list_text};
-ghost use Rattle.station_explain.specs.Explaining.{Explains, IsExplainRun};
+ghost use Rattle.station_explain.specs.Explaining.{Explains, list_text, meaning_text};
+ghost use Rattle.station_explain.specs.Explaining.{name_line, name_lines};
 
 use crate::explanations::Explanation;
-use byte_ends::Sink;
-use station_check::{ACCEPTED, Fault, refuse, write_whole};
 use std::alloc::{AllocError, Global};
 
 /// How many bytes two texts begin with that begin alike.
 const ALIKE: usize = 4;
-
-/// Prints what a fault means, or the names of all faults, and answers the exit status: 0 where all
-/// was written, else 1, with the line of a refusal on `err`.
-pub fn run_explain<W: Sink, E: Sink>(
-    alloc: Global,
-    table: &[&'static [Explanation]],
-    fault: Option<&Explanation>,
-    out: &mut W,
-    err: &mut E,
-) -> u8
-    ensures { Run {A = ⊤} refusal_line
-        (IsExplainRun table.now (option_map (λ e. e.now) fault.entry))
-        result (writer_change W.Sink out.old out.new)
-        (writer_change E.Sink err.old err.new) }
-{
-    match print(alloc, table, fault, out) {
-        Ok(()) => ACCEPTED,
-        Err(fault) => refuse(fault, err),
-    }
-}
-
-/// Prints what a fault means, or the names of all faults. The text is made in memory, written, and
-/// flushed once.
-fn print<W: Sink>(
-    alloc: Global,
-    table: &[&'static [Explanation]],
-    fault: Option<&Explanation>,
-    out: &mut W,
-) -> Result<(), Fault>
-    ensures { IsExplainRun table.now (option_map (λ e. e.now) fault.entry) result
-        (writer_change W.Sink out.old out.new) }
-{
-    let text = match explaining_text(alloc, table, fault) {
-        Ok(text) => text,
-        Err(_) => return Err(Fault::Memory),
-    };
-    match write_whole(out, text.as_bytes()) {
-        Ok(()) => Ok(()),
-        Err(_) => Err(Fault::Write),
-    }
-}
 
 /// What a fault means, or the names of all faults where none is asked for. An error says that there
 /// was no memory for it.

@@ -1029,18 +1029,18 @@ limit that '--within' states. If none is stated the row with the most decimals t
 programs leave out zeros: half of its last decimal and 0.005 mgon, but 0.01 mgon at least. That is
 0.055 mgon for 4 decimals, 0.505 for 3, 5.005 for 2, 50.005 for 1; of degrees 0.061, 0.561, 5.561
 and 55.561; of seconds 0.16 without decimals and 0.021 with 1. Rows of gon or degrees without
-decimals don't count, nor does 0-00-00. The number in the line is how far, in units of 0.001 mgon,
-rounded up: the least N with which the table agrees.",
-        example: "refused: compare: Apart 15",
+decimals don't count, nor does 0-00-00. The first number in the line is how far, rounded up to 0.001
+mgon: the least limit with which the table agrees. The second is the limit that it was held to.",
+        example: "refused: compare: Apart 0.015 mgon, limit 0.010 mgon",
         remedy: "\
 Print the difference of each target by 'station_check differences': in its last column
 a direction that is wrong stands out alone, by its whole error. The protocol of the sets has the
 differences too, by 'station_check report --table'. The best rotation halves the error of a single
-target, since all others take the other half: 1 mgon shows as 500, and as 0.500 beside -0.500. If
-one row stands out, see what the program did: plain means of incomplete sets, weights and
-observations that it left out give other directions. If all rows differ by no more than the program
-rounds, as where it prints six digits of each number, state the number of the line by --within.
-If the program prints degrees, state --degrees.",
+target, since all others take the other half: 1 mgon shows as 0.500 mgon, and in the differences as
+0.500 beside -0.500. If one row stands out, see what the program did: plain means of incomplete
+sets, weights and observations that it left out give other directions. If all rows differ by no more
+than the program rounds, as where it prints six digits of each number, state the first number of the
+line, as '--within 0.015mgon'. If the program prints degrees, state --degrees.",
     },
 ];
 

@@ -7,13 +7,12 @@
 //! | `explanation_meant` | the explanation of a name |
 //! | `list_of_near_names` | the names that are near a text which is no name |
 //! | `explaining_text` | what a fault means, or the names of all |
-//! | `run_explain` | the command: what a fault means, or the names of all, and the exit status |
 #![tactic(auto)]
 
 mod explain;
 mod explanations;
 mod naming;
 
-pub use explain::{explaining_text, list_of_near_names, run_explain};
+pub use explain::{explaining_text, list_of_near_names};
 pub use explanations::{Explanation, Said, all_explanations, explanation_meant};
 pub use naming::fault_named_in;

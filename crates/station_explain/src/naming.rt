@@ -1,14 +1,24 @@
 //! The name of a fault in a line that names it.
 
 ghost use Rattle.std.specs.Prelude.{◌↔◌, IsTrue};
-ghost use Rattle.station_explain.specs.Naming.{Names, IsFaultIn, IsNameIn, IsNumber};
+ghost use Rattle.station_explain.specs.Naming.{Names, IsBeforePoint, IsFaultIn, IsNameIn, IsNumber};
 
 /// The name of a fault in the line of a refusal, or in a part of it: without what stands before it,
-/// and without the number that it carries.
+/// and without the numbers that it carries.
 pub fn fault_named_in(line: &str) -> &str
     ensures { Names line.now result.now }
 {
-    name_in(fault_in(line))
+    name_in(fault_in(before_point(line)))
+}
+
+/// A line up to its first point, which stands in a number with decimals.
+fn before_point(line: &str) -> &str
+    ensures { IsBeforePoint line.now result.now }
+{
+    match line.split_once(".") {
+        Some((before, _)) => before,
+        None => line,
+    }
 }
 
 /// The fault that a line tells of, without what stands before it.

@@ -1,40 +1,231 @@
-//! The calls of the library for a page in a browser: bytes in, bytes out, and no files.
-//!
-//! | Export | Does |
-//! |---|---|
-//! | `station_page_check` | checks a sheet against a field file: the line of the verdict |
-//! | `station_page_list` | hands out the list of a field file's stations |
-//! | `station_page_means` | hands out the sheet of means of a station |
-//! | `station_page_words` | hands out the words of a field file |
-//! | `station_page_directions` | hands out the table of a station's least-squares directions |
-//! | `station_page_residuals` | hands out the residuals of a station, observation by observation |
-//! | `station_page_report` | hands out the report of a station's sets |
-//! | `station_page_compare` | compares a table of directions: the line of the answer |
-//! | `station_page_differences` | hands out the differences of a table, target by target |
-//! | `station_page_mark` | hands out a copy with codes put in, and what was recognized |
-//! | `station_page_digest` | hands out the line of a file's SHA-256 digest |
-//! | `station_page_explain` | hands out what the fault means that a text names |
-//!
-//! Each is given whole files as slices, and numbers in the place of options. It hands out its text
-//! at the front of a slice, and how long that is. Its answer is the status of the program's
-//! command, 0 or 1; where it could answer nothing it is one of its own: 2 for a number or a name
-//! out of its range, 3 for a slice with too little room.
-//!
-//! What a page does is this crate and what makes a module of it, which no contract speaks of.
+//! The calls of `page_calls` for C and for the module of a page: each export is one of them, and
+//! says what it says.
 #![tactic(auto)]
 
-mod check;
-mod compare;
-mod differences;
-mod digest;
-mod directions;
-mod explain;
-mod hand_out;
-pub mod laws;
-mod list;
-mod mark;
-mod means;
-mod report;
-mod residuals;
-mod text;
-mod words;
+ghost use Rattle.std.specs.Prelude.{◌≡◌, length, take};
+ghost use Rattle.direction_table.specs.Texts.{AreDecimals};
+ghost use Rattle.page_calls.specs.Answers.{IsCheckOf, IsListOf, IsMeansOf, IsWordsOf};
+ghost use Rattle.page_calls.specs.Answers.{IsDirectionsOf, IsResidualsOf, IsReportOf};
+ghost use Rattle.page_calls.specs.Answers.{IsComparisonOf, IsDifferencesOf, IsMarkOf, IsDigestOf};
+ghost use Rattle.page_calls.specs.Answers.{IsExplanationOf};
+ghost use Rattle.page_calls.specs.HandedOut.{Leaves, Shows, ShowsInRange};
+ghost use Rattle.page_calls.specs.Limits.{AreFaceLimits, IsResidualLimit, IsWithin, MayBeStated};
+
+use page_calls::{
+    page_check, page_compare, page_differences, page_digest, page_directions, page_explain,
+    page_list, page_mark, page_means, page_report, page_residuals, page_words,
+};
+use std::alloc::Global;
+
+/// [`page_check`], exported.
+#[unsafe(no_mangle)]
+pub extern "C" fn station_page_check(
+    alloc: Global,
+    gsi: &[u8],
+    sheet: &[u8],
+    two_c: u32,
+    two_i: u32,
+    is_stated: bool,
+    residual: u32,
+    out: &mut [u8],
+    written: &mut usize,
+) -> u8
+    ensures { ShowsInRange (AreFaceLimits two_c two_i × IsResidualLimit is_stated residual)
+        (IsCheckOf two_c two_i is_stated residual gsi.now sheet.now) out.old out.new written.new
+        result }
+{
+    page_check(
+        alloc, gsi, sheet, two_c, two_i, is_stated, residual, out, written,
+    )
+}
+
+/// [`page_list`], exported.
+#[unsafe(no_mangle)]
+pub extern "C" fn station_page_list(
+    alloc: Global,
+    gsi: &[u8],
+    two_c: u32,
+    two_i: u32,
+    out: &mut [u8],
+    written: &mut usize,
+) -> u8
+    ensures { ShowsInRange (AreFaceLimits two_c two_i) (IsListOf two_c two_i gsi.now) out.old
+        out.new written.new result }
+{
+    page_list(alloc, gsi, two_c, two_i, out, written)
+}
+
+/// [`page_means`], exported.
+#[unsafe(no_mangle)]
+pub extern "C" fn station_page_means(
+    alloc: Global,
+    gsi: &[u8],
+    name: &[u8],
+    two_c: u32,
+    two_i: u32,
+    out: &mut [u8],
+    written: &mut usize,
+) -> u8
+    ensures { ShowsInRange (AreFaceLimits two_c two_i) (IsMeansOf two_c two_i gsi.now name.now)
+        out.old out.new written.new result }
+{
+    page_means(alloc, gsi, name, two_c, two_i, out, written)
+}
+
+/// [`page_words`], exported.
+#[unsafe(no_mangle)]
+pub extern "C" fn station_page_words(
+    alloc: Global,
+    gsi: &[u8],
+    out: &mut [u8],
+    written: &mut usize,
+    refusal: &mut [u8],
+    refusal_written: &mut usize,
+) -> u8
+    ensures words { Shows
+        (IsWordsOf gsi.now (length refusal.old) (take refusal_written.new refusal.new)) out.old
+        out.new written.new result }
+    ensures line { Leaves refusal.old refusal.new refusal_written.new }
+{
+    page_words(alloc, gsi, out, written, refusal, refusal_written)
+}
+
+/// [`page_directions`], exported.
+#[unsafe(no_mangle)]
+pub extern "C" fn station_page_directions(
+    alloc: Global,
+    gsi: &[u8],
+    name: &[u8],
+    two_c: u32,
+    two_i: u32,
+    decimals: u32,
+    out: &mut [u8],
+    written: &mut usize,
+) -> u8
+    ensures { ShowsInRange (AreFaceLimits two_c two_i × AreDecimals decimals)
+        (IsDirectionsOf two_c two_i gsi.now name.now decimals) out.old out.new written.new result }
+{
+    page_directions(alloc, gsi, name, two_c, two_i, decimals, out, written)
+}
+
+/// [`page_residuals`], exported.
+#[unsafe(no_mangle)]
+pub extern "C" fn station_page_residuals(
+    alloc: Global,
+    gsi: &[u8],
+    name: &[u8],
+    two_c: u32,
+    two_i: u32,
+    out: &mut [u8],
+    written: &mut usize,
+) -> u8
+    ensures { ShowsInRange (AreFaceLimits two_c two_i)
+        (IsResidualsOf two_c two_i gsi.now name.now) out.old out.new written.new result }
+{
+    page_residuals(alloc, gsi, name, two_c, two_i, out, written)
+}
+
+/// [`page_report`], exported.
+#[unsafe(no_mangle)]
+pub extern "C" fn station_page_report(
+    alloc: Global,
+    gsi: &[u8],
+    path: &[u8],
+    name: &[u8],
+    two_c: u32,
+    two_i: u32,
+    out: &mut [u8],
+    written: &mut usize,
+) -> u8
+    ensures { ShowsInRange (AreFaceLimits two_c two_i)
+        (IsReportOf two_c two_i gsi.now path.now name.now) out.old out.new written.new result }
+{
+    page_report(alloc, gsi, path, name, two_c, two_i, out, written)
+}
+
+/// [`page_compare`], exported.
+#[unsafe(no_mangle)]
+pub extern "C" fn station_page_compare(
+    alloc: Global,
+    gsi: &[u8],
+    table: &[u8],
+    name: &[u8],
+    two_c: u32,
+    two_i: u32,
+    is_stated: bool,
+    within: u32,
+    out: &mut [u8],
+    written: &mut usize,
+) -> u8
+    ensures { ShowsInRange (AreFaceLimits two_c two_i × IsWithin is_stated within)
+        (IsComparisonOf two_c two_i is_stated within gsi.now table.now name.now) out.old out.new
+        written.new result }
+{
+    page_compare(
+        alloc, gsi, table, name, two_c, two_i, is_stated, within, out, written,
+    )
+}
+
+/// [`page_differences`], exported.
+#[unsafe(no_mangle)]
+pub extern "C" fn station_page_differences(
+    alloc: Global,
+    gsi: &[u8],
+    table: &[u8],
+    name: &[u8],
+    two_c: u32,
+    two_i: u32,
+    out: &mut [u8],
+    written: &mut usize,
+) -> u8
+    ensures { ShowsInRange (AreFaceLimits two_c two_i)
+        (IsDifferencesOf two_c two_i gsi.now table.now name.now) out.old out.new written.new result }
+{
+    page_differences(alloc, gsi, table, name, two_c, two_i, out, written)
+}
+
+/// [`page_mark`], exported.
+#[unsafe(no_mangle)]
+pub extern "C" fn station_page_mark(
+    alloc: Global,
+    gsi: &[u8],
+    name: &[u8],
+    out: &mut [u8],
+    written: &mut usize,
+    notes: &mut [u8],
+    notes_written: &mut usize,
+) -> u8
+    ensures copy { ShowsInRange (MayBeStated name.now)
+        (IsMarkOf gsi.now name.now (length notes.old) (take notes_written.new notes.new)) out.old
+        out.new written.new result }
+    ensures notes { Leaves notes.old notes.new notes_written.new }
+    ensures beyond { ¬ MayBeStated name.now → notes_written.new ≡ 0 }
+{
+    page_mark(alloc, gsi, name, out, written, notes, notes_written)
+}
+
+/// [`page_digest`], exported.
+#[unsafe(no_mangle)]
+pub extern "C" fn station_page_digest(
+    file: &[u8],
+    name: &[u8],
+    out: &mut [u8],
+    written: &mut usize,
+) -> u8
+    ensures { Shows (IsDigestOf file.now name.now) out.old out.new written.new result }
+{
+    page_digest(file, name, out, written)
+}
+
+/// [`page_explain`], exported.
+#[unsafe(no_mangle)]
+pub extern "C" fn station_page_explain(
+    alloc: Global,
+    line: &[u8],
+    out: &mut [u8],
+    written: &mut usize,
+) -> u8
+    ensures { Shows (IsExplanationOf line.now) out.old out.new written.new result }
+{
+    page_explain(alloc, line, out, written)
+}

@@ -17,6 +17,7 @@ use Rattle.station_compare.proofs.OneStation.{same_station}
 use Rattle.station_compare.specs.LimitInForce.{limit_in_force}
 use Rattle.station_compare.specs.OneAnswer.{IsSettled}
 use Rattle.station_compare.specs.declared.fault.CompareFault.{CompareFault}
+use Rattle.station_compare.specs.declared.how_far.HowFar.{HowFar}
 use Rattle.station_differences.proofs.AnswerLaws.{one_answer as one_of_differences, settled_too}
 use Rattle.station_differences.proofs.LeastLaws.{one_list}
 use Rattle.station_differences.specs.Answers.{HasNoDifferences}
@@ -65,14 +66,16 @@ tells_by_input value asked file stated its (Err fault) station h =
 
 -- A section, and whether directions are apart, are one.
 one_section : (station : StationValue) (path : List ℕ) (directions : List ℤ) (limit : ℕ)
-    (a b : List ℕ) (x y : Option ℕ) → IsSection station path directions limit a x
+    (a b : List ℕ) (x y : Option HowFar) → IsSection station path directions limit a x
     → IsSection station path directions limit b y → (a ≡ b) × (x ≡ y)
 one_section station path directions limit a b x y p q =
     let rows = one_list station directions p.rows q.rows p.compared q.compared in
-    let apart = one_distance station (stated_by directions) p.apart q.apart p.are_apart q.are_apart
-    in (
-      p.section_is ∙ (λ i. section_text path station (rows i) (apart i) limit) ∙ sym q.section_is,
-      p.beyond_is ∙ ap (λ n. beyond_of n limit) apart ∙ sym q.beyond_is,
+    let apart = one_distance station (stated_by directions) p.how_far.apart q.how_far.apart
+    p.are_apart q.are_apart in
+    let limits = p.held_to ∙ sym q.held_to in
+    let how_far : p.how_far ≡ q.how_far = λ i. record { apart = apart i; limit = limits i } in (
+      p.section_is ∙ (λ i. section_text path station (rows i) (how_far i)) ∙ sym q.section_is,
+      p.beyond_is ∙ ap beyond_of how_far ∙ sym q.beyond_is,
     )
 
 -- A report with stated directions is one.

@@ -3,7 +3,8 @@ use Rattle.std.specs.Prelude.{ℕ, Bool, List, ◌++◌, length, codes, decimal,
 use Rattle.std.specs.List.{flat_map}
 use Rattle.adjust_kernel.specs.Stations.{StationValue}
 use Rattle.angle_texts.specs.MgonTexts.{mgon_text, thousandths_text}
-use Rattle.station_compare.specs.FaultTexts.{agreement_line}
+use Rattle.station_compare.specs.FaultTexts.{agreement_line, how_far_text}
+use Rattle.station_compare.specs.declared.how_far.HowFar.{HowFar}
 use Rattle.station_differences.specs.DifferenceTexts.{are_short, stated_text}
 use Rattle.station_differences.specs.declared.compared.TargetDifference.{TargetDifference}
 use Rattle.station_report.specs.Columns.{left_text, right_text}
@@ -26,35 +27,34 @@ abbrev pub limit_text : ℕ → List ℕ
 limit_text limit =
     entry_text (codes "Limit of differences") (thousandths_text limit ++ codes " mgon")
 
--- The line of a table that does not agree: how far its directions are apart, in units of 0.001
--- mgon.
-abbrev pub apart_line : StationValue → ℕ → List ℕ
-apart_line station apart =
+-- The line of a table that does not agree: how far its directions are apart, and the limit.
+abbrev pub apart_line : StationValue → HowFar → List ℕ
+apart_line station h =
     codes "apart " ++ (station.name ++ (codes ": "
     ++ (decimal (length station.targets)
-    ++ (codes " targets, by " ++ (decimal apart ++ codes "\n")))))
+    ++ (codes " targets, by " ++ (how_far_text h ++ codes "\n")))))
 
 -- The line of the verdict: the one of the comparison where the table agrees.
-abbrev pub verdict_line : StationValue → ℕ → ℕ → List ℕ
-verdict_line station apart limit =
-    if nat_le apart limit
+abbrev pub verdict_line : StationValue → HowFar → List ℕ
+verdict_line station h =
+    if nat_le h.apart h.limit
     then agreement_line (record {
       name = station.name;
       targets = length station.targets;
-      apart = apart;
+      how_far = h;
     })
-    else apart_line station apart
+    else apart_line station h
 
 -- The end of the section: the table as it was named, the limit, and the verdict.
-abbrev pub verdict_text : List ℕ → StationValue → ℕ → ℕ → List ℕ
-verdict_text path station apart limit =
-    codes "\n" ++ (file_text (codes "Table") path ++ (limit_text limit
-    ++ (left_text 22 (codes "Comparison") ++ verdict_line station apart limit)))
+abbrev pub verdict_text : List ℕ → StationValue → HowFar → List ℕ
+verdict_text path station h =
+    codes "\n" ++ (file_text (codes "Table") path ++ (limit_text h.limit
+    ++ (left_text 22 (codes "Comparison") ++ verdict_line station h)))
 
 -- The section.
-abbrev pub section_text : List ℕ → StationValue → List TargetDifference → ℕ → ℕ → List ℕ
-section_text path station rows apart limit =
+abbrev pub section_text : List ℕ → StationValue → List TargetDifference → HowFar → List ℕ
+section_text path station rows h =
     codes "\nStated directions in gon, differences in mgon: "
     ++ (codes "stated less adjusted, after the best rotation\n\n"
     ++ (codes "  Target                      Stated    Difference\n\n"
-    ++ (target_lines rows ++ verdict_text path station apart limit)))
+    ++ (target_lines rows ++ verdict_text path station h)))

@@ -17,6 +17,7 @@ use Rattle.station_book.specs.Limits.{FaceLimits}
 use Rattle.station_book.specs.Stations.{SurveyedStation}
 use Rattle.station_check.specs.StationOfFile.{IsStationOfFile}
 use Rattle.station_compare.specs.LimitInForce.{limit_in_force}
+use Rattle.station_compare.specs.declared.how_far.HowFar.{HowFar}
 use Rattle.station_differences.specs.Differences.{AreCompared}
 use Rattle.station_differences.specs.declared.compared.TargetDifference.{TargetDifference}
 use Rattle.station_report.specs.Stating.{IsReportText}
@@ -34,28 +35,30 @@ pub record ReportAsked : Type 0 where
   pub limits : FaceLimits
   pub within : Option ℕ
 
--- A report with a table: its text; and how far the directions are apart, in units of 0.000001 gon,
--- where that is beyond the limit in force.
+-- A report with a table: its text; and how far the directions are apart, where that is beyond the
+-- limit in force.
 pub record ReportValue : Type 0 where
   pub text : List ℕ
-  pub beyond : Option ℕ
+  pub beyond : Option HowFar
 
--- how far directions are apart, where that is beyond a limit
-abbrev pub beyond_of : ℕ → ℕ → Option ℕ
-beyond_of apart limit = if nat_le apart limit then None else Some apart
+-- how far directions are apart, where that is beyond the limit
+abbrev pub beyond_of : HowFar → Option HowFar
+beyond_of h = if nat_le h.apart h.limit then None else Some h
 
 -- This is the section of stated directions beside their station, with this limit.
 pub record IsSection (station : StationValue) (path : List ℕ) (directions : List ℤ) (limit : ℕ)
-    (section : List ℕ) (beyond : Option ℕ) : Type 0 where
+    (section : List ℕ) (beyond : Option HowFar) : Type 0 where
   -- The rows of the targets, with these directions and the least-squares ones, and their
   -- differences.
   pub rows : List TargetDifference
   pub compared : AreCompared station directions rows
-  -- So far are they apart: as the comparison says.
-  pub apart : ℕ
-  pub are_apart : AreApart station (stated_by directions) apart
-  pub section_is : section ≡ section_text path station rows apart limit
-  pub beyond_is : beyond ≡ beyond_of apart limit
+  -- So far are they apart, as the comparison says; and the limit that is printed is the one that
+  -- they are held to.
+  pub how_far : HowFar
+  pub are_apart : AreApart station (stated_by directions) how_far.apart
+  pub held_to : how_far.limit ≡ limit
+  pub section_is : section ≡ section_text path station rows how_far
+  pub beyond_is : beyond ≡ beyond_of how_far
 
 -- This is the report of a station with these stated directions.
 pub record IsReportBeside (asked : ReportAsked) (its : SurveyedStation) (directions : List ℤ)

@@ -14,7 +14,7 @@ use direction_table::read_stated_table;
 use directions_apart::apart_of;
 use exact_adjustment::{AdjustError, Adjustment, adjust};
 use station_book::Surveyed;
-use station_compare::CompareFault;
+use station_compare::{CompareFault, HowFar};
 use station_differences::differences_by;
 use station_report::text_by;
 use std::alloc::{AllocError, Global};
@@ -24,9 +24,9 @@ use std::alloc::{AllocError, Global};
 pub struct TableReport {
     /// Its text.
     pub text: Vec<u8>,
-    /// How far the stated directions are apart from the least-squares ones, in units of 0.000001
-    /// gon, where that is beyond the limit in force.
-    pub beyond: Option<u32>,
+    /// How far the stated directions are apart from the least-squares ones, where that is beyond
+    /// the limit in force.
+    pub beyond: Option<HowFar>,
 }
 
 /// The report of a station with the directions that a table's bytes state.
@@ -80,8 +80,11 @@ fn report_by(
 {
     let station = surveyed.station();
     let rows = differences_by(alloc, station.targets(), adjustment, stated)?;
-    let apart = apart_of(adjustment, stated);
-    let section = section_text(alloc, asked.table_path, station, &rows, apart, limit)?;
+    let how_far = HowFar {
+        apart: apart_of(adjustment, stated),
+        limit,
+    };
+    let section = section_text(alloc, asked.table_path, station, &rows, how_far)?;
     let text = text_by(
         alloc,
         asked.path,
@@ -92,13 +95,17 @@ fn report_by(
     )?;
     Ok(TableReport {
         text,
-        beyond: beyond(apart, limit),
+        beyond: beyond(how_far),
     })
 }
 
-/// How far directions are apart, where that is beyond a limit.
-fn beyond(apart: u32, limit: u32) -> Option<u32>
-    ensures { result ≡ beyond_of apart limit }
+/// How far directions are apart, where that is beyond the limit.
+fn beyond(how_far: HowFar) -> Option<HowFar>
+    ensures { result ≡ beyond_of how_far }
 {
-    if apart <= limit { None } else { Some(apart) }
+    if how_far.apart <= how_far.limit {
+        None
+    } else {
+        Some(how_far)
+    }
 }

@@ -19,7 +19,7 @@ use byte_ends::{Sink, Source, read_whole};
 use direction_table::LONGEST_TABLE;
 use station_book::Surveyed;
 use station_check::{Fault, stations_of_file, write_whole};
-use station_compare::CompareFault;
+use station_compare::{CompareFault, HowFar};
 use std::alloc::Global;
 
 /// The report of a station with the directions that a table states, and the field file's reader,
@@ -89,12 +89,12 @@ pub fn write_table_report<R: Source, Q: Source, W: Sink>(
 }
 
 /// What is answered of a report that was written whole.
-pub fn verdict(beyond: Option<u32>) -> Result<(), CompareFault>
+pub fn verdict(beyond: Option<HowFar>) -> Result<(), CompareFault>
     ensures { IsVerdict beyond result }
 {
     match beyond {
         None => Ok(()),
-        Some(apart) => Err(CompareFault::Apart(apart)),
+        Some(how_far) => Err(CompareFault::Apart(how_far)),
     }
 }
 

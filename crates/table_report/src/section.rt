@@ -1,15 +1,16 @@
 //! The section of a table, made in memory.
 ghost use Rattle.std.specs.Prelude.{◌≡◌, ◌++◌, IfOk, OnOk};
+ghost use Rattle.station_compare.specs.FaultTexts.{how_far_text};
 ghost use Rattle.table_report.specs.Sections as spec;
 
 use adjust_kernel::{LONGEST_NAME, Station};
 use angle_texts::{push_mgon, push_thousandths};
-use station_compare::{Agreement, agreement_line};
+use station_compare::{Agreement, HowFar, agreement_line};
 use station_differences::{TargetDifference, are_short, push_stated};
 use station_report::{ENTRY_NAMES, push_count, push_file, push_left, push_right};
 use std::alloc::{AllocError, Global};
 
-/// The section of a table of this path, whose directions are so far apart, with this limit.
+/// The section of a table of this path, whose directions are so far apart.
 ///
 /// The only error is that memory was refused.
 pub(crate) fn section_text(
@@ -17,11 +18,10 @@ pub(crate) fn section_text(
     path: &[u8],
     station: &Station,
     rows: &[TargetDifference],
-    apart: u32,
-    limit: u32,
+    how_far: HowFar,
 ) -> Result<Vec<u8>, AllocError>
     ensures { IfOk result (λ text. text.items
-        ≡ spec.section_text path.now station.now rows.now apart limit) }
+        ≡ spec.section_text path.now station.now rows.now how_far) }
 {
     let mut text = Vec::new(alloc);
     text.extend_from_slice(
@@ -30,7 +30,7 @@ pub(crate) fn section_text(
     )?;
     text.extend_from_slice(b"  Target                      Stated    Difference\n\n")?;
     push_targets(alloc, &mut text, rows)?;
-    push_end(&mut text, path, station, apart, limit)?;
+    push_end(&mut text, path, station, how_far)?;
     Ok(text)
 }
 
@@ -76,17 +76,16 @@ fn push_end(
     text: &mut Vec<u8>,
     path: &[u8],
     station: &Station,
-    apart: u32,
-    limit: u32,
+    how_far: HowFar,
 ) -> Result<(), AllocError>
     ensures { OnOk result (text.new.items ≡ text.old.items
-        ++ spec.verdict_text path.now station.now apart limit) }
+        ++ spec.verdict_text path.now station.now how_far) }
 {
     text.push(b'\n')?;
     push_file(text, b"Table", path)?;
-    push_limit(text, limit)?;
+    push_limit(text, how_far.limit)?;
     push_left(text, ENTRY_NAMES, b"Comparison")?;
-    push_verdict(text, station, apart, limit)?;
+    push_verdict(text, station, how_far)?;
     Ok(())
 }
 
@@ -101,36 +100,42 @@ fn push_limit(text: &mut Vec<u8>, limit: u32) -> Result<(), AllocError>
 }
 
 /// Adds the line of the verdict.
-fn push_verdict(
-    text: &mut Vec<u8>,
-    station: &Station,
-    apart: u32,
-    limit: u32,
-) -> Result<(), AllocError>
+fn push_verdict(text: &mut Vec<u8>, station: &Station, how_far: HowFar) -> Result<(), AllocError>
     ensures { OnOk result (text.new.items ≡ text.old.items
-        ++ spec.verdict_line station.now apart limit) }
+        ++ spec.verdict_line station.now how_far) }
 {
-    if apart <= limit {
+    if how_far.apart <= how_far.limit {
         let agreement = Agreement {
             name: station.name(),
             targets: station.targets().len() as u32,
-            apart,
+            how_far,
         };
         return text.extend_from_slice(agreement_line(agreement).as_slice());
     }
-    push_apart(text, station, apart)
+    push_apart(text, station, how_far)
 }
 
 /// Adds the line of a table that does not agree.
-fn push_apart(text: &mut Vec<u8>, station: &Station, apart: u32) -> Result<(), AllocError>
-    ensures { OnOk result (text.new.items ≡ text.old.items ++ spec.apart_line station.now apart) }
+fn push_apart(text: &mut Vec<u8>, station: &Station, how_far: HowFar) -> Result<(), AllocError>
+    ensures { OnOk result (text.new.items ≡ text.old.items ++ spec.apart_line station.now how_far) }
 {
     text.extend_from_slice(b"apart ")?;
     text.extend_from_slice(station.name().bytes())?;
     text.extend_from_slice(b": ")?;
     push_count(text, station.targets().len())?;
     text.extend_from_slice(b" targets, by ")?;
-    push_count(text, apart as usize)?;
+    push_how_far(text, how_far)?;
     text.push(b'\n')?;
+    Ok(())
+}
+
+/// Adds how far a table is apart and the limit, both in mgon.
+fn push_how_far(text: &mut Vec<u8>, how_far: HowFar) -> Result<(), AllocError>
+    ensures { OnOk result (text.new.items ≡ text.old.items ++ how_far_text how_far) }
+{
+    push_thousandths(text, how_far.apart)?;
+    text.extend_from_slice(b" mgon, limit ")?;
+    push_thousandths(text, how_far.limit)?;
+    text.extend_from_slice(b" mgon")?;
     Ok(())
 }

@@ -9,7 +9,7 @@ use exact_adjustment::AdjustFault;
 use station_book::Limits;
 use station_check::Fault;
 use station_compare::{
-    Agreement, CompareFault, agreement_line, compare_bytes, refusal_line, run_compare,
+    Agreement, CompareFault, HowFar, agreement_line, compare_bytes, refusal_line, run_compare,
 };
 use std::alloc::Global;
 use std::process::Abort;
@@ -20,6 +20,16 @@ fn limits(rt: &impl Abort) -> Limits {
     Limits::new(100, 100).expect(rt, "limits")
 }
 
+/// That a table is so far apart, beside this limit.
+fn near(apart: u32, limit: u32) -> Result<HowFar, CompareFault> {
+    Ok(HowFar { apart, limit })
+}
+
+/// The same, where that is too far.
+fn far(apart: u32, limit: u32) -> Result<HowFar, CompareFault> {
+    Err(CompareFault::Apart(HowFar { apart, limit }))
+}
+
 /// How far apart the directions of a table are, or why not told.
 fn compared(
     rt: &impl Abort,
@@ -28,7 +38,7 @@ fn compared(
     name: &[u8],
     table: &[u8],
     within: Option<u32>,
-) -> Result<u32, CompareFault> {
+) -> Result<HowFar, CompareFault> {
     compared_in(rt, alloc, AngleUnit::Gon, gsi, name, table, within)
 }
 
@@ -41,32 +51,24 @@ fn compared_in(
     name: &[u8],
     table: &[u8],
     within: Option<u32>,
-) -> Result<u32, CompareFault> {
+) -> Result<HowFar, CompareFault> {
     let gsi = Script::new(gsi, usize::MAX, false);
     let mut table = Script::new(table, usize::MAX, false);
     let answer = compare_bytes(alloc, gsi, &mut table, unit, name, limits(rt), within);
-    answer.map(|agreement| agreement.apart)
+    answer.map(|agreement| agreement.how_far)
 }
 
 #[test]
 fn tables_lie_beside_the_least_directions(rt: HostRuntime) -> Result<(), Fail> {
-    let cases: [(&[u8], u32, Result<u32, CompareFault>); 8] = [
-        (b"A,0\nB,50.00003\n", 0, Ok(0)),
-        (b"B,50.000030\nA,0.000000\n", 0, Ok(0)),
-        (
-            b"A,100.0001\nB,150.0001\n",
-            10,
-            Err(CompareFault::Apart(15)),
-        ),
-        (
-            b"A,100.0001\nB,150.0001\n",
-            14,
-            Err(CompareFault::Apart(15)),
-        ),
-        (b"A,100.0001\nB,150.0001\n", 15, Ok(15)),
-        (b"A,100.0001\nB,150.0001\n", 16, Ok(15)),
-        (b"A,399.99999\nB,50.00002\n", 0, Ok(0)),
-        (b"A,-0.00001\nB,50.00003\n", 5, Ok(5)),
+    let cases: [(&[u8], u32, Result<HowFar, CompareFault>); 8] = [
+        (b"A,0\nB,50.00003\n", 0, near(0, 0)),
+        (b"B,50.000030\nA,0.000000\n", 0, near(0, 0)),
+        (b"A,100.0001\nB,150.0001\n", 10, far(15, 10)),
+        (b"A,100.0001\nB,150.0001\n", 14, far(15, 14)),
+        (b"A,100.0001\nB,150.0001\n", 15, near(15, 15)),
+        (b"A,100.0001\nB,150.0001\n", 16, near(15, 16)),
+        (b"A,399.99999\nB,50.00002\n", 0, near(0, 0)),
+        (b"A,-0.00001\nB,50.00003\n", 5, near(5, 5)),
     ];
     for (table, within, want) in cases {
         assert_eq!(rt;
@@ -79,25 +81,25 @@ fn tables_lie_beside_the_least_directions(rt: HostRuntime) -> Result<(), Fail> {
 
 #[test]
 fn where_nothing_is_stated_the_finest_row_tells_the_limit(rt: HostRuntime) -> Result<(), Fail> {
-    let cases: [(&[u8], Result<u32, CompareFault>); 14] = [
+    let cases: [(&[u8], Result<HowFar, CompareFault>); 14] = [
         // Five decimals or more, and whole gon alone: 10.
-        (b"A,0\nB,50.00001\n", Ok(10)),
-        (b"A,0\nB,50.000009\n", Err(CompareFault::Apart(11))),
-        (b"A,0\nB,50\n", Err(CompareFault::Apart(15))),
+        (b"A,0\nB,50.00001\n", near(10, 10)),
+        (b"A,0\nB,50.000009\n", far(11, 10)),
+        (b"A,0\nB,50\n", far(15, 10)),
         // Four decimals: 55, and as many as 0 has.
-        (b"A,0.0000\nB,50.0001\n", Ok(35)),
-        (b"A,0.00\nB,50.0001\n", Ok(35)),
-        (b"A,0.0000000\nB,50.0001\n", Err(CompareFault::Apart(35))),
-        (b"A,0.0\nB,49.9999\n", Err(CompareFault::Apart(65))),
+        (b"A,0.0000\nB,50.0001\n", near(35, 55)),
+        (b"A,0.00\nB,50.0001\n", near(35, 55)),
+        (b"A,0.0000000\nB,50.0001\n", far(35, 10)),
+        (b"A,0.0\nB,49.9999\n", far(65, 55)),
         // Three, two and one: 505, 5,005 and 50,005.
-        (b"A,0\nB,50.001\n", Ok(485)),
-        (b"A,0\nB,49.999\n", Err(CompareFault::Apart(515))),
-        (b"A,0.1\nB,50.2\n", Ok(49_985)),
+        (b"A,0\nB,50.001\n", near(485, 505)),
+        (b"A,0\nB,49.999\n", far(515, 505)),
+        (b"A,0.1\nB,50.2\n", near(49_985, 50_005)),
         // Of two rows the finer, in either order.
-        (b"A,0.1\nB,50.10006\n", Err(CompareFault::Apart(15))),
-        (b"A,0.0001\nB,50.001\n", Err(CompareFault::Apart(435))),
-        (b"A,0.001\nB,50.0002\n", Err(CompareFault::Apart(415))),
-        (b"A,0.00\nB,50.01000\n", Err(CompareFault::Apart(4_985))),
+        (b"A,0.1\nB,50.10006\n", far(15, 10)),
+        (b"A,0.0001\nB,50.001\n", far(435, 55)),
+        (b"A,0.001\nB,50.0002\n", far(415, 55)),
+        (b"A,0.00\nB,50.01000\n", far(4_985, 10)),
     ];
     for (table, want) in cases {
         assert_eq!(rt; compared(&rt, rt.alloc(), S1, b"S1", table, None), want);
@@ -108,26 +110,23 @@ fn where_nothing_is_stated_the_finest_row_tells_the_limit(rt: HostRuntime) -> Re
 #[test]
 fn tables_in_degrees_lie_beside_the_least_directions(rt: HostRuntime) -> Result<(), Fail> {
     // 50.00003 gon are 45 degrees and 0.0972 seconds; a second is 308.64.. units.
-    let cases: [(&[u8], Result<u32, CompareFault>); 14] = [
-        (b"A,0-00-00.0000\nB,45-00-00.0972\n", Ok(0)),
-        (b"B;45\xC2\xB000'00,0972\"\nA;360\n", Ok(0)),
-        (b"A,0\nB,45.000027\n", Ok(0)),
-        (b"A 100.1\nB 145.100027\n", Ok(0)),
+    let cases: [(&[u8], Result<HowFar, CompareFault>); 14] = [
+        (b"A,0-00-00.0000\nB,45-00-00.0972\n", near(0, 10)),
+        (b"B;45\xC2\xB000'00,0972\"\nA;360\n", near(0, 10)),
+        (b"A,0\nB,45.000027\n", near(0, 10)),
+        (b"A 100.1\nB 145.100027\n", near(0, 10)),
         // Seconds without decimals: 160, but 0-00-00 tells nothing.
-        (b"A,0-00-00\nB,45-00-01\n", Ok(140)),
-        (b"A,0-00-00\nB,45-00-01.2\n", Err(CompareFault::Apart(171))),
-        (b"A,0-00-00\nB,45-00-00.15\n", Ok(9)),
-        (b"A,0-00-00\nB,45-00-00.39\n", Err(CompareFault::Apart(46))),
+        (b"A,0-00-00\nB,45-00-01\n", near(140, 160)),
+        (b"A,0-00-00\nB,45-00-01.2\n", far(171, 21)),
+        (b"A,0-00-00\nB,45-00-00.15\n", near(9, 10)),
+        (b"A,0-00-00\nB,45-00-00.39\n", far(46, 10)),
         // With one decimal 21, with more 10.
-        (b"A,0-00-00.0\nB,45-00-00.2\n", Ok(16)),
-        (b"A,0-00-00.0\nB,45-00-00.3\n", Err(CompareFault::Apart(32))),
-        (
-            b"A,0-00-00.00\nB,45-00-00.17\n",
-            Err(CompareFault::Apart(12)),
-        ),
+        (b"A,0-00-00.0\nB,45-00-00.2\n", near(16, 21)),
+        (b"A,0-00-00.0\nB,45-00-00.3\n", far(32, 21)),
+        (b"A,0-00-00.00\nB,45-00-00.17\n", far(12, 10)),
         // Four decimals of a degree: 61; a whole degree tells nothing.
-        (b"A,0\nB,45.0001\n", Ok(41)),
-        (b"A,0\nB,45\n", Err(CompareFault::Apart(15))),
+        (b"A,0\nB,45.0001\n", near(41, 61)),
+        (b"A,0\nB,45\n", far(15, 10)),
         (
             b"A,0-00-00\nB,45-60-00\n",
             Err(CompareFault::Table(TableFault::Row(2, RowKind::Number))),
@@ -195,10 +194,17 @@ fn lines_are_as_the_formats_have_them(rt: HostRuntime) -> Result<(), Fail> {
     let agreement = Agreement {
         name: Name::new(b"S1").expect(&rt, "a name"),
         targets: 2,
-        apart: 0,
+        how_far: HowFar {
+            apart: 4,
+            limit: 1_051,
+        },
     };
-    let line: &[u8] = b"agrees S1: 2 targets, within 0\n";
+    let line: &[u8] = b"agrees S1: 2 targets, within 0.004 mgon, limit 1.051 mgon\n";
     assert_eq!(rt; agreement_line(agreement).as_slice(), line);
+    let far = HowFar {
+        apart: 100_000_000,
+        limit: 10,
+    };
     let cases: [(CompareFault, &[u8]); 8] = [
         (
             CompareFault::File(Fault::NoStation),
@@ -225,7 +231,10 @@ fn lines_are_as_the_formats_have_them(rt: HostRuntime) -> Result<(), Fail> {
             CompareFault::Adjust(AdjustFault::NotFound),
             b"refused: adjust: NotFound\n",
         ),
-        (CompareFault::Apart(15), b"refused: compare: Apart 15\n"),
+        (
+            CompareFault::Apart(far),
+            b"refused: compare: Apart 100000.000 mgon, limit 0.010 mgon\n",
+        ),
     ];
     for (fault, want) in cases {
         assert_eq!(rt; refusal_line(fault).as_slice(), want);
@@ -240,7 +249,7 @@ fn a_run_prints_its_line_and_answers_its_status(rt: HostRuntime) -> Result<(), F
             b"A,0\nB,50.00003\n",
             false,
             0,
-            b"agrees S1: 2 targets, within 0\n",
+            b"agrees S1: 2 targets, within 0.000 mgon, limit 0.010 mgon\n",
             b"",
         ),
         (b"A,0\n", false, 1, b"", b"refused: table: Missing 2\n"),

@@ -43,7 +43,7 @@ const ACCEPTED: &[u8] = b"accepted S1: 2 sets, 2 targets, 4 directions, greatest
 aa3a8284e08fbd449811233917dcb0758ce46bee9eac082e94f1f864251ebb9d  S1.csv\n";
 
 /// What is printed of the comparison.
-const AGREES: &[u8] = b"agrees S1: 2 targets, within 0\n\
+const AGREES: &[u8] = b"agrees S1: 2 targets, within 0.000 mgon, limit 0.000 mgon\n\
 2f4ee076b5c212dab3274b4ac86ac3e8ed63b631b5c22f66f8f7e428f77bd167  job.gsi\n\
 f5da1d3d1ff629ae485cd880ec2cf3c8bf17d9e17aa2aff7b23099abe37dc41e  S1.csv\n";
 
@@ -85,7 +85,7 @@ f5da1d3d1ff629ae485cd880ec2cf3c8bf17d9e17aa2aff7b23099abe37dc41e  S1.csv\n",
         digests: b"\nSHA-256 digests of what was read, as sha256sum prints them\n\n\
 2f4ee076b5c212dab3274b4ac86ac3e8ed63b631b5c22f66f8f7e428f77bd167  job.gsi\n\
 209dd27d75818856866121c8deaff72691406d7deb455bcc46b1123e36847798  S1.csv\n",
-        refused: b"refused: compare: Apart 10\n",
+        refused: b"refused: compare: Apart 0.010 mgon, limit 0.009 mgon\n",
     },
 ];
 
@@ -373,7 +373,11 @@ fn a_refused_comparison_prints_no_digest(rt: HostRuntime) -> Result<(), Fail> {
         let (gsi, table) = files(TABLE, step);
         let (_, other) = files(b"A,0\nB,50.00005\n", step);
         let cases: [(File<'_>, File<'_>, &[u8]); 4] = [
-            (gsi, other, b"refused: compare: Apart 10\n"),
+            (
+                gsi,
+                other,
+                b"refused: compare: Apart 0.010 mgon, limit 0.009 mgon\n",
+            ),
             (gsi.that_fails(), table, b"refused: block 13: Read\n"),
             (gsi, table.that_fails(), b"refused: table: Read\n"),
             (gsi, gsi, b"refused: table row 2: Number\n"),

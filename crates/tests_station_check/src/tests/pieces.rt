@@ -2,9 +2,10 @@
 
 use super::answers::{AMPLE, answers_as_ever, usual_limits};
 use super::files::{SHEET, STATION, widened};
+use byte_ends::{Keeping, Script};
 use gsi_file::{FileFault, FileKind};
 use sheet_format::{RowKind, SheetFault};
-use station_check::{Fault, check_slices};
+use station_check::{Fault, check_kept, check_slices};
 use std::test::Fail;
 
 #[test]
@@ -46,6 +47,20 @@ fn bytes_at_hand_are_checked_whole(rt: HostRuntime) -> Result<(), Fail> {
     for (gsi, sheet, fault) in rows {
         let verdict = check_slices(rt.alloc(), gsi, sheet, limits, None);
         assert_eq!(rt; verdict, Err(fault));
+    }
+    Ok(())
+}
+
+#[test]
+fn readers_that_keep_have_kept_the_bytes_that_were_accepted(rt: HostRuntime) -> Result<(), Fail> {
+    let alloc = rt.alloc();
+    for step in [1, 7, AMPLE] {
+        let gsi = Keeping::new(alloc, Script::new(STATION, step, false));
+        let mut sheet = Keeping::new(alloc, Script::new(SHEET, step, false));
+        let (answer, gsi) = check_kept(alloc, gsi, &mut sheet, usual_limits()?, None);
+        assert!(rt; answer.is_ok(), "{step} bytes a read");
+        assert_eq!(rt; gsi.kept(), Some(STATION));
+        assert_eq!(rt; sheet.kept(), Some(SHEET));
     }
     Ok(())
 }

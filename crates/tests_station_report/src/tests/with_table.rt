@@ -3,7 +3,7 @@
 use super::worked::{AMPLE, PATH, STEPS, Worked, given, joined, limits, refused, room_for, s1, s4};
 use byte_ends::{OfRead, OfWrite};
 use direction_table::AngleUnit;
-use station_compare::CompareFault;
+use station_compare::{CompareFault, HowFar};
 use std::alloc::Global;
 use std::process::Abort;
 use std::test::Fail;
@@ -31,7 +31,7 @@ struct Beside {
     limit: &'static [u8],
     verdict: &'static [u8],
     /// How far it is apart, where that is beyond the limit, and the line of the refusal then.
-    beyond: Option<u32>,
+    beyond: Option<HowFar>,
     refused: &'static [u8],
 }
 
@@ -44,7 +44,7 @@ const TURNED: Beside = Beside {
     lines: b"  A                       100.000100         0.015\n\
 \x20 B                       150.000100        -0.015\n",
     limit: b"0.055",
-    verdict: b"agrees S1: 2 targets, within 15",
+    verdict: b"agrees S1: 2 targets, within 0.015 mgon, limit 0.055 mgon",
     beyond: None,
     refused: b"",
 };
@@ -53,9 +53,12 @@ const TURNED: Beside = Beside {
 const APART: Beside = Beside {
     within: Some(14),
     limit: b"0.014",
-    verdict: b"apart S1: 2 targets, by 15",
-    beyond: Some(15),
-    refused: b"refused: compare: Apart 15\n",
+    verdict: b"apart S1: 2 targets, by 0.015 mgon, limit 0.014 mgon",
+    beyond: Some(HowFar {
+        apart: 15,
+        limit: 14,
+    }),
+    refused: b"refused: compare: Apart 0.015 mgon, limit 0.014 mgon\n",
     ..TURNED
 };
 
@@ -66,6 +69,7 @@ fn tables() -> [Beside; 10] {
         Beside {
             within: Some(15),
             limit: b"0.015",
+            verdict: b"agrees S1: 2 targets, within 0.015 mgon, limit 0.015 mgon",
             ..TURNED
         },
         APART,
@@ -76,9 +80,9 @@ fn tables() -> [Beside; 10] {
             lines: b"  A                         0.000000         0.000\n\
 \x20 B                        50.000031         0.001\n",
             limit: b"0.000",
-            verdict: b"apart S1: 2 targets, by 1",
-            beyond: Some(1),
-            refused: b"refused: compare: Apart 1\n",
+            verdict: b"apart S1: 2 targets, by 0.001 mgon, limit 0.000 mgon",
+            beyond: Some(HowFar { apart: 1, limit: 0 }),
+            refused: b"refused: compare: Apart 0.001 mgon, limit 0.000 mgon\n",
             ..TURNED
         },
         // Half a circle apart: of the two arcs the one that begins at the first target.
@@ -88,9 +92,12 @@ fn tables() -> [Beside; 10] {
             lines: b"  A                         0.000000   -100000.000\n\
 \x20 B                       250.000030    100000.000\n",
             limit: b"1000.000",
-            verdict: b"apart S1: 2 targets, by 100000000",
-            beyond: Some(100_000_000),
-            refused: b"refused: compare: Apart 100000000\n",
+            verdict: b"apart S1: 2 targets, by 100000.000 mgon, limit 1000.000 mgon",
+            beyond: Some(HowFar {
+                apart: 100_000_000,
+                limit: 1_000_000,
+            }),
+            refused: b"refused: compare: Apart 100000.000 mgon, limit 1000.000 mgon\n",
             ..TURNED
         },
         // 45 degrees and 0.0972 seconds are 50.00003 gon; the row of A tells no step.
@@ -100,7 +107,7 @@ fn tables() -> [Beside; 10] {
             lines: b"  A                         0.000000         0.000\n\
 \x20 B                        50.000030         0.000\n",
             limit: b"0.010",
-            verdict: b"agrees S1: 2 targets, within 0",
+            verdict: b"agrees S1: 2 targets, within 0.000 mgon, limit 0.010 mgon",
             ..TURNED
         },
         // 0.2 seconds are 0.00006172839.. gon.
@@ -110,9 +117,12 @@ fn tables() -> [Beside; 10] {
             lines: b"  A                      0.000000000        -0.016\n\
 \x20 B                     50.000061728         0.016\n",
             limit: b"0.010",
-            verdict: b"apart S1: 2 targets, by 16",
-            beyond: Some(16),
-            refused: b"refused: compare: Apart 16\n",
+            verdict: b"apart S1: 2 targets, by 0.016 mgon, limit 0.010 mgon",
+            beyond: Some(HowFar {
+                apart: 16,
+                limit: 10,
+            }),
+            refused: b"refused: compare: Apart 0.016 mgon, limit 0.010 mgon\n",
             ..TURNED
         },
         // 4 decimals of a degree.
@@ -122,6 +132,7 @@ fn tables() -> [Beside; 10] {
             lines: b"  A                       100.000000         0.015\n\
 \x20 B                       150.000000        -0.015\n",
             limit: b"0.061",
+            verdict: b"agrees S1: 2 targets, within 0.015 mgon, limit 0.061 mgon",
             ..TURNED
         },
         // Differences of 0, -62/3 and -61/3 units: half of the spread is 31/3, and rounded up 11.
@@ -132,9 +143,12 @@ fn tables() -> [Beside; 10] {
 \x20 B,\"1                     50.000026        -0.010\n\
 \x20 C                       150.000029        -0.010\n",
             limit: b"0.010",
-            verdict: b"apart S4: 3 targets, by 11",
-            beyond: Some(11),
-            refused: b"refused: compare: Apart 11\n",
+            verdict: b"apart S4: 3 targets, by 0.011 mgon, limit 0.010 mgon",
+            beyond: Some(HowFar {
+                apart: 11,
+                limit: 10,
+            }),
+            refused: b"refused: compare: Apart 0.011 mgon, limit 0.010 mgon\n",
             ..TURNED
         },
         Beside {
@@ -145,7 +159,7 @@ fn tables() -> [Beside; 10] {
 \x20 B,\"1                     50.000026        -0.010\n\
 \x20 C                       150.000029        -0.010\n",
             limit: b"0.011",
-            verdict: b"agrees S4: 3 targets, within 11",
+            verdict: b"agrees S4: 3 targets, within 0.011 mgon, limit 0.011 mgon",
             ..TURNED
         },
     ]

@@ -17,31 +17,31 @@ so_ok (Err e) next p = tt
 pub returns-in_err-push_sign-clause-begun : goal.returns-in_err-push_sign-clause-begun
 returns-in_err-push_sign-clause-begun c =
     let begun : IsBegun (spec.sign_text c.args.units) c.args.text.now.items c.push_sign.new.text.items =
-      search rules in
+    search rules in
     on_err c.from_residual.result
     (of_first (spec.sign_text c.args.units) (spec.thousandths_text (unsigned_abs c.args.units))
-      c.args.text.now.items c.push_sign.new.text.items begun)
+    c.args.text.now.items c.push_sign.new.text.items begun)
 
 pub returns-clause-added : goal.returns-clause-added
 returns-clause-added c =
     let e : c.unsigned_abs.result ≡ unsigned_abs c.args.units = search rules in
     let first : c.push_sign.new.text.items ≡ c.args.text.now.items ++ spec.sign_text c.args.units =
-      search rules in
+    search rules in
     so_ok c.push_thousandths.result
     (λ (h : c.push_thousandths.new.text.items ≡ c.push_sign.new.text.items ++ spec.thousandths_text c.unsigned_abs.result).
-      h ∙ (ap (λ (n : ℕ). c.push_sign.new.text.items ++ spec.thousandths_text n) e
-      ∙ (ap (λ (l : List ℕ). l ++ spec.thousandths_text (unsigned_abs c.args.units)) first
-      ∙ append_assoc c.args.text.now.items (spec.sign_text c.args.units) (spec.thousandths_text (unsigned_abs c.args.units)))))
+    h ∙ (ap (λ (n : ℕ). c.push_sign.new.text.items ++ spec.thousandths_text n) e
+    ∙ (ap (λ (l : List ℕ). l ++ spec.thousandths_text (unsigned_abs c.args.units)) first
+    ∙ append_assoc c.args.text.now.items (spec.sign_text c.args.units) (spec.thousandths_text (unsigned_abs c.args.units)))))
     c.push_thousandths.ensures.added
 
 pub returns-clause-begun : goal.returns-clause-begun
 returns-clause-begun c =
     let e : c.unsigned_abs.result ≡ unsigned_abs c.args.units = search rules in
     let first : c.push_sign.new.text.items ≡ c.args.text.now.items ++ spec.sign_text c.args.units =
-      search rules in
+    search rules in
     so_err c.push_thousandths.result
     (λ (rest : IsBegun (spec.thousandths_text c.unsigned_abs.result) c.push_sign.new.text.items c.push_thousandths.new.text.items).
-      of_second (spec.sign_text c.args.units) (spec.thousandths_text (unsigned_abs c.args.units))
-      c.args.text.now.items c.push_sign.new.text.items c.push_thousandths.new.text.items first
-      (subst (λ (n : ℕ). IsBegun (spec.thousandths_text n) c.push_sign.new.text.items c.push_thousandths.new.text.items) e rest))
+    of_second (spec.sign_text c.args.units) (spec.thousandths_text (unsigned_abs c.args.units))
+    c.args.text.now.items c.push_sign.new.text.items c.push_thousandths.new.text.items first
+    (subst (λ (n : ℕ). IsBegun (spec.thousandths_text n) c.push_sign.new.text.items c.push_thousandths.new.text.items) e rest))
     c.push_thousandths.ensures.begun

@@ -1,6 +1,7 @@
 use Rattle.std.proofs.Common.{[], refl}
 use Rattle.adjust_kernel.specs.declared.accepted.Accepted.{Accepted}
 use Rattle.byte_ends.proofs.Coming.{given_none}
+use Rattle.byte_ends.specs.Source.{given_then}
 use Rattle.station_check.proofs.Leaving.{left_alone, left_by, left_by_sheet}
 use Rattle.station_check.proofs.Promises.{promise_by_sheet, promise_by_file}
 use Rattle.station_check.proofs.Refusals.{of_check, file_of_check}
@@ -19,7 +20,8 @@ returns-in-Ok g c =
       sheet_bytes = q.given;
       sheet_reads = q.by_reads;
       promise = λ gsi_left sheet_left gsi_may sheet_may.
-          promise_by_sheet c.args.limits c.recall.ensures c.args.limit _ _ c.in-Ok.stations
+          promise_by_sheet c.args.limits c.recall.ensures c.args.limit (given_then s.given gsi_left)
+          (given_then q.given sheet_left) c.in-Ok.stations
           answer (s.so gsi_left gsi_may) of_sheet (q.so sheet_left sheet_may);
       of_check = of_check answer of_sheet;
       gsi_reader = left_by_sheet Accepted answer _ of_sheet file.left;
@@ -38,7 +40,8 @@ returns-in-Err g c =
       sheet_bytes = [];
       sheet_reads = given_none g.Q.Source.told g.Q.Source.failed g.Q.Source.gave c.args.sheet.now;
       promise = λ gsi_left sheet_left gsi_may sheet_may.
-          promise_by_file c.args.limits c.recall.ensures c.args.limit _ _ fault of_file
+          promise_by_file c.args.limits c.recall.ensures c.args.limit (given_then s.given gsi_left)
+          (given_then [] sheet_left) fault of_file
           (s.so gsi_left gsi_may);
       of_check = file_of_check fault of_file;
       gsi_reader = left_by Accepted c.stations_of_file-surveyed.result.0 fault _ c.in-Err.is

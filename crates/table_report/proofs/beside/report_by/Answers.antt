@@ -1,3 +1,4 @@
+use Rattle.std.proofs.Common.{refl}
 use Rattle.directions_apart.specs.Apart.{stated_by}
 use Rattle.least_directions.proofs.LeastLaws.{are_apart}
 use Rattle.station_differences.proofs.LeastLaws.{are_compared}
@@ -19,9 +20,10 @@ returns c =
         rows = rows;
         compared = are_compared its.station a stated rows valid tied exact limited
             (rw (c.targets.ensures.value, c.station-station.ensures) at c.in_ok-rows.ensures);
-        apart = c.apart_of-apart.result;
+        how_far = record { apart = c.apart_of.result; limit = c.args.limit };
         are_apart = are_apart its.station valid a tied exact limited (stated_by stated)
-            c.apart_of-apart.result (rw c.requires.each at c.apart_of-apart.ensures.apart);
+            c.apart_of.result (rw c.requires.each at c.apart_of.ensures.apart);
+        held_to = refl;
         section_is = rw (c.station-station.ensures, c.deref.ensures.value) at
             c.in_ok-section.ensures;
         beyond_is = c.beyond.ensures;

@@ -1,0 +1,34 @@
+/* The two calls that are told whether a limit is stated. The proved exports take it as a `bool`,
+ * which is 0 or 1 and nothing else: of another value they would see the lowest bit. These take any
+ * number, of which 0 alone says that none is stated, and hand on 0 or 1. link.sh links them. */
+#include "station_check.h"
+
+#include <stdbool.h>
+
+uint8_t station_page_check(const void *gsi, size_t gsi_length,
+                           const void *sheet, size_t sheet_length,
+                           uint32_t two_c, uint32_t two_i, bool is_stated, uint32_t residual,
+                           char *text, size_t room, size_t *length);
+
+uint8_t station_page_compare(const void *gsi, size_t gsi_length,
+                             const void *table, size_t table_length,
+                             const char *station, size_t station_length,
+                             uint32_t two_c, uint32_t two_i, bool is_stated, uint32_t within,
+                             char *text, size_t room, size_t *length);
+
+uint8_t station_check_check(const void *gsi, size_t gsi_length,
+                            const void *sheet, size_t sheet_length,
+                            uint32_t two_c, uint32_t two_i, uint32_t is_stated, uint32_t residual,
+                            char *text, size_t room, size_t *length) {
+    return station_page_check(gsi, gsi_length, sheet, sheet_length, two_c, two_i,
+                              is_stated != 0, residual, text, room, length);
+}
+
+uint8_t station_check_compare(const void *gsi, size_t gsi_length,
+                              const void *table, size_t table_length,
+                              const char *station, size_t station_length,
+                              uint32_t two_c, uint32_t two_i, uint32_t is_stated, uint32_t within,
+                              char *text, size_t room, size_t *length) {
+    return station_page_compare(gsi, gsi_length, table, table_length, station, station_length,
+                                two_c, two_i, is_stated != 0, within, text, room, length);
+}

@@ -1,0 +1,174 @@
+-- What each call answers, of the very bytes that it was given. `room` is how many bytes there is
+-- room for, `answered` the status, and `shown` what was handed out.
+use Rattle.std.specs.Prelude.{◌≡◌, ◌≢◌, ◌<◌, ◌≤◌, ◌+◌, ◌*◌, ℕ, Bool, List, [], length, Some}
+use Rattle.std.specs.Prelude.{Result, Err, IfErr, ⊤}
+use Rattle.std.specs.Borrow.{Bor}
+use Rattle.byte_digests.specs.DigestLines.{digest_line}
+use Rattle.byte_digests.specs.declared.put_line.TheConstants.{MOST_BESIDE_NAME}
+use Rattle.direction_table.specs.declared.unit.AngleUnit.TheVariants.{Gon}
+use Rattle.gsi_file.specs.FileAnswers.{file_answers}
+use Rattle.adjust_kernel.specs.declared.accepted.Accepted.{Accepted}
+use Rattle.station_book.specs.Limits.{FaceLimits}
+use Rattle.set_marks.specs.Markings.{AnswersMark}
+use Rattle.set_marks.specs.declared.fault.MarkFault.{MarkFault}
+use Rattle.set_marks.specs.declared.marked.Marked.{Marked}
+use Rattle.station_check.specs.Came.{source_of}
+use Rattle.station_check.specs.Answerable.{IsOfCheck}
+use Rattle.sha2.specs.Sha256.{sha256}
+use Rattle.station_check.specs.declared.fault.Fault.{Fault}
+use Rattle.station_check.specs.declared.fault.Fault.TheVariants.{Memory, Write}
+use Rattle.station_check.specs.RunEndings.{status_of}
+use Rattle.station_check.specs.Listing.{WritesList}
+use Rattle.station_check.specs.Means.{WritesMeans}
+use Rattle.station_check.specs.Promise.{KeepsPromise}
+use Rattle.station_check.specs.Words.{WritesWords}
+use Rattle.station_check.specs.declared.runs.TheConstants.{ACCEPTED}
+use Rattle.station_check.specs.declared.verdict_line.TheConstants.{LONGEST_VERDICT_LINE}
+use Rattle.station_compare.specs.Answers.{Compares}
+use Rattle.station_compare.specs.Directions.{TellsDirections}
+use Rattle.station_compare.specs.declared.agreement.Agreement.{Agreement}
+use Rattle.station_compare.specs.declared.fault.CompareFault.{CompareFault}
+use Rattle.station_differences.specs.Answers.{TellsDifferences}
+use Rattle.station_explain.specs.Table.{Explanation, IsTheTable}
+use Rattle.station_report.specs.Answers.{TellsReport}
+use Rattle.station_residuals.specs.Answers.{TellsResiduals}
+use Rattle.page_calls.specs.Explained.{AnswersLine, explanation_or_refusal}
+use Rattle.page_calls.specs.HandedOut.{HandsOut, verdict_line, text_or_refusal, refusal_text}
+use Rattle.page_calls.specs.HandedOut.{comparison_line, table_or_refusal, copy_text}
+use Rattle.page_calls.specs.HandedOut.{notes_or_refusal}
+use Rattle.page_calls.specs.Limits.{States, stated_limit, stated_name}
+use Rattle.page_calls.specs.declared.explain.Unexplained.{Unexplained}
+
+-- The status and the line are those of the verdict on these bytes, of which the whole promise is
+-- kept; with room for the longest line of one it is answered.
+pub record IsCheckOf (two_c two_i : ℕ) (is_stated : Bool) (residual : ℕ) (gsi sheet : List ℕ)
+    (room answered : ℕ) (shown : List ℕ) : Type 0 where
+  pub limits : FaceLimits
+  pub states : States two_c two_i limits
+  pub verdict : Result Accepted Fault
+  pub promise : KeepsPromise limits (stated_limit is_stated residual)
+      (source_of gsi) (source_of sheet) verdict
+  pub of_check : IfErr verdict IsOfCheck
+  pub hands_out : HandsOut (status_of verdict) (verdict_line verdict) room answered shown
+  pub answers : LONGEST_VERDICT_LINE ≤ room → answered < 2
+
+-- The status and the text are those of the list of these bytes; no write fails.
+pub record IsListOf (two_c two_i : ℕ) (gsi : List ℕ) (room answered : ℕ) (shown : List ℕ)
+    : Type 0 where
+  pub limits : FaceLimits
+  pub states : States two_c two_i limits
+  pub answer : Result ⊤ Fault
+  pub text : List ℕ
+  pub writes : WritesList limits (file_answers (source_of gsi)) answer (Some []) (Some text)
+  pub unfailed : answer ≢ Err Write
+  pub hands_out : HandsOut (status_of answer) (text_or_refusal text answer) room answered shown
+
+-- The status and the text are those of the sheet of means of the station of this name; no write
+-- fails.
+pub record IsMeansOf (two_c two_i : ℕ) (gsi name : List ℕ) (room answered : ℕ) (shown : List ℕ)
+    : Type 0 where
+  pub limits : FaceLimits
+  pub states : States two_c two_i limits
+  pub answer : Result ⊤ Fault
+  pub text : List ℕ
+  pub writes : WritesMeans limits (file_answers (source_of gsi)) name answer
+      (Some []) (Some text)
+  pub unfailed : answer ≢ Err Write
+  pub hands_out : HandsOut (status_of answer) (text_or_refusal text answer) room answered shown
+
+-- The status, the text and the line of a refusal are those of the words of these bytes; no write
+-- fails. At a fault of the file its line stands beside the words of the blocks before it; where
+-- memory ran out it stands alone.
+pub record IsWordsOf (gsi : List ℕ) (refusal_room : ℕ) (refusal : List ℕ) (room answered : ℕ)
+    (shown : List ℕ) : Type 0 where
+  pub answer : Result ℕ Fault
+  pub text : List ℕ
+  pub writes : WritesWords answer (Some []) (Some text) (file_answers (source_of gsi))
+  pub unfailed : answer ≢ Err Write
+  pub alone : answer ≡ Err Memory → text ≡ []
+  pub status : ℕ
+  pub hands_text_out : HandsOut (status_of answer) text room status shown
+  pub hands_line_out : HandsOut status (refusal_text answer) refusal_room answered refusal
+
+-- The status and the table are those of the least-squares directions of the station of this name in
+-- these bytes, with so many decimals.
+pub record IsDirectionsOf (two_c two_i : ℕ) (gsi name : List ℕ) (decimals room answered : ℕ)
+    (shown : List ℕ) : Type 0 where
+  pub limits : FaceLimits
+  pub states : States two_c two_i limits
+  pub answer : Result (List ℕ) CompareFault
+  pub tells : TellsDirections limits (file_answers (source_of gsi)) name decimals answer
+  pub hands_out : HandsOut (status_of answer) (table_or_refusal answer) room answered shown
+
+-- The status and the text are those of the residuals of the station of this name in these bytes,
+-- observation by observation.
+pub record IsResidualsOf (two_c two_i : ℕ) (gsi name : List ℕ) (room answered : ℕ)
+    (shown : List ℕ) : Type 0 where
+  pub limits : FaceLimits
+  pub states : States two_c two_i limits
+  pub answer : Result (List ℕ) CompareFault
+  pub tells : TellsResiduals limits (file_answers (source_of gsi)) name answer
+  pub hands_out : HandsOut (status_of answer) (table_or_refusal answer) room answered shown
+
+-- The status and the text are those of the report of the station of this name in these bytes, which
+-- names the field file by these bytes of a path.
+pub record IsReportOf (two_c two_i : ℕ) (gsi path name : List ℕ) (room answered : ℕ)
+    (shown : List ℕ) : Type 0 where
+  pub limits : FaceLimits
+  pub states : States two_c two_i limits
+  pub answer : Result (List ℕ) CompareFault
+  pub tells : TellsReport path limits (file_answers (source_of gsi)) name answer
+  pub hands_out : HandsOut (status_of answer) (table_or_refusal answer) room answered shown
+
+-- The status and the line are those of the comparison of these bytes of a table with the station of
+-- this name in these bytes of a field file, of which the whole promise is kept; with room for the
+-- longest line of a verdict it is answered.
+pub record IsComparisonOf (two_c two_i : ℕ) (is_stated : Bool) (within : ℕ)
+    (gsi table name : List ℕ) (room answered : ℕ) (shown : List ℕ) : Type 0 where
+  pub limits : FaceLimits
+  pub states : States two_c two_i limits
+  pub answer : Result Agreement CompareFault
+  pub compares : Compares Gon limits (file_answers (source_of gsi)) (source_of table) name
+      (stated_limit is_stated within) answer
+  pub hands_out : HandsOut (status_of answer) (comparison_line answer) room answered shown
+  pub answers : LONGEST_VERDICT_LINE ≤ room → answered < 2
+
+-- The status and the text are those of the differences of these bytes of a table from the station
+-- of this name in these bytes of a field file, target by target.
+pub record IsDifferencesOf (two_c two_i : ℕ) (gsi table name : List ℕ) (room answered : ℕ)
+    (shown : List ℕ) : Type 0 where
+  pub limits : FaceLimits
+  pub states : States two_c two_i limits
+  pub answer : Result (List ℕ) CompareFault
+  pub tells : TellsDifferences Gon limits (file_answers (source_of gsi))
+      (source_of table) name answer
+  pub hands_out : HandsOut (status_of answer) (table_or_refusal answer) room answered shown
+
+-- The status, the copy and what is told of it, or the line of the refusal, are those of putting
+-- codes into these bytes, by the name that is stated.
+pub record IsMarkOf (gsi name : List ℕ) (notes_room : ℕ) (notes : List ℕ) (room answered : ℕ)
+    (shown : List ℕ) : Type 0 where
+  pub answer : Result Marked MarkFault
+  pub marks : AnswersMark (stated_name name) gsi (file_answers (source_of gsi)) answer
+  pub status : ℕ
+  pub hands_copy_out : HandsOut (status_of answer) (copy_text gsi answer) room status shown
+  pub hands_notes_out : HandsOut status (notes_or_refusal answer) notes_room answered notes
+
+-- The line of these bytes' digest and of this name is handed out; with so much room it always is.
+pub record IsDigestOf (file name : List ℕ) (room answered : ℕ) (shown : List ℕ) : Type 0 where
+  pub hands_out : HandsOut ACCEPTED (digest_line (sha256 file) name) room answered shown
+  pub answers : MOST_BESIDE_NAME + 2 * length name ≤ room → answered ≡ ACCEPTED
+
+-- The status and the text are those of the explanation that a line asks for, of the faults of a
+-- table.
+pub record IsExplanationFrom (table : List (Bor (List Explanation))) (line : List ℕ)
+    (room answered : ℕ) (shown : List ℕ) : Type 0 where
+  pub answer : Result (List ℕ) Unexplained
+  pub answers : AnswersLine table line answer
+  pub hands_out : HandsOut (status_of answer) (explanation_or_refusal answer) room answered shown
+
+-- The same of the faults of the program's own table.
+pub record IsExplanationOf (line : List ℕ) (room answered : ℕ) (shown : List ℕ) : Type 0 where
+  pub table : List (Bor (List Explanation))
+  pub is_the_table : IsTheTable table
+  pub explains : IsExplanationFrom table line room answered shown

@@ -1,0 +1,55 @@
+//! The calls of the library for a page in a browser: bytes in, bytes out, and no files.
+//!
+//! | Call | Does |
+//! |---|---|
+//! | `page_check` | checks a sheet against a field file: the line of the verdict |
+//! | `page_list` | hands out the list of a field file's stations |
+//! | `page_means` | hands out the sheet of means of a station |
+//! | `page_words` | hands out the words of a field file |
+//! | `page_directions` | hands out the table of a station's least-squares directions |
+//! | `page_residuals` | hands out the residuals of a station, observation by observation |
+//! | `page_report` | hands out the report of a station's sets |
+//! | `page_compare` | compares a table of directions: the line of the answer |
+//! | `page_differences` | hands out the differences of a table, target by target |
+//! | `page_mark` | hands out a copy with codes put in, and what was recognized |
+//! | `page_digest` | hands out the line of a file's SHA-256 digest |
+//! | `page_explain` | hands out what the fault means that a text names |
+//!
+//! Each is given whole files as slices, and numbers in the place of options. It hands out its text
+//! at the front of a slice, and how long that is. Its answer is the status of the program's
+//! command, 0 or 1; where it could answer nothing it is one of its own: 2 for a number or a name
+//! out of its range, 3 for a slice with too little room.
+//!
+//! `station_page` exports each of them. What a page does is these calls and what makes a module of
+//! them, which no contract speaks of.
+#![tactic(auto)]
+
+mod check;
+mod compare;
+mod differences;
+mod digest;
+mod directions;
+mod explain;
+mod hand_out;
+pub mod laws;
+mod list;
+mod mark;
+mod means;
+mod report;
+mod residuals;
+mod text;
+mod words;
+
+pub use check::page_check;
+pub use compare::page_compare;
+pub use differences::page_differences;
+pub use digest::page_digest;
+pub use directions::page_directions;
+pub use explain::page_explain;
+pub use hand_out::{OUT_OF_RANGE, TOO_LITTLE_ROOM};
+pub use list::page_list;
+pub use mark::page_mark;
+pub use means::page_means;
+pub use report::page_report;
+pub use residuals::page_residuals;
+pub use words::page_words;

@@ -1,9 +1,0 @@
-use Rattle.std.proofs.Common.{Some, ap}
-use Rattle.direction_table.specs.declared.unit.AngleUnit.TheVariants.{Gon}
-use Rattle.station_compare.proofs.Comparisons.{comparison_as_told}
-use Rattle.station_page.proofs.compare.compare_slices.Goals as goal
-
-pub returns : goal.returns
-returns c =
-    comparison_as_told Gon c.args.limits c.args.within _ _ c.args.name.now c.compare_bytes.result
-    c.compare_bytes.ensures.1 _ _ (ap Some c.source_of.ensures) (ap Some c.source_of-2.ensures)
