@@ -416,6 +416,21 @@ class CompareTest(ProgramTest):
             answer = answer_in_shell(f'{rows} | "$@"', "compare", EXAMPLE, "S1", "/dev/stdin")
             self.assertEqual((1, b"", refused("table: TooLong")), answer)
 
+    def test_what_directions_printed_is_taken_back_where_no_limit_is_stated(self):
+        field, table = self.folder / "field.gsi", self.folder / "table.csv"
+        for place in range(STATIONS):
+            file = station_to_adjust(Random(f"{SEED} own {place}"))
+            field.write_bytes(file)
+            name = model.survey_of(file, model.Limits())[0].name
+            for decimals in range(1, 9):
+                args = ["directions", field, name, "--decimals", str(decimals)]
+                status, printed, said = answer_of(args)
+                table.write_bytes(printed)
+                if said.startswith(b"refused: adjust: Residual"):
+                    continue
+                again = answer_of(["compare", field, name, table])
+                self.assertEqual((0, 0), (status, again[0]), (place, decimals, printed))
+
     def test_the_largest_station(self):
         """Its directions in reverse, each but the last off by 40 units upward."""
         _, sets, *_ = largest()

@@ -3,7 +3,7 @@
 -- that states a direction of each of its targets, the text has a row of titles and a row for each
 -- target, with its stated direction, its least-squares direction, least over all directions,
 -- orientations and full turns, and the difference of the two after the rotation that makes the
--- largest difference smallest, each rounded once.
+-- largest difference smallest, each rounded once; and that difference less the lower median of all.
 use Rattle.std.specs.Prelude.{◌≡◌, ℕ, List, ℤ}
 use Rattle.adjust_kernel.specs.Stations.{StationValue}
 use Rattle.byte_ends.specs.Input.{input_within, Ended}

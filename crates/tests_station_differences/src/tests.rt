@@ -204,7 +204,8 @@ fn four_targets_have_one_rotation(rt: HostRuntime) -> Result<(), Fail> {
 #[test]
 fn one_target_has_no_difference(rt: HostRuntime) -> Result<(), Fail> {
     let station = station_of(rt.alloc(), 1, b",", &[(0, 0, 7)])?;
-    let want: &[u8] = b"target,stated,least squares,difference,from the median\n\",\",399.000000,0.000000,0.000,0.000\n";
+    let want: &[u8] =
+        b"target,stated,least squares,difference,from the median\n\",\",399.000000,0.000000,0.000,0.000\n";
     assert_eq!(rt;
         text(&rt, rt.alloc(), &station, &[399 * GON])?.as_slice(),
         want
