@@ -19,7 +19,7 @@ fn word_at<'a>(rt: &impl Abort, line: &'a [u8], place: usize) -> Word<'a> {
 #[test]
 fn a_line_is_a_block_of_its_words(rt: HostRuntime) {
     // The line, the width and the number of words.
-    let rows: [(&[u8], u8, usize); 10] = [
+    const ROWS: [(&[u8], u8, usize); 10] = [
         (b"410001+00000010 42....+000000S1", 8, 2),
         (b"110003+0000000A 21.102+00000000 22.102+10000000", 8, 3),
         (b"110003+0000000A 21.102+00000000 22.102+10000000 ", 8, 3),
@@ -40,7 +40,7 @@ fn a_line_is_a_block_of_its_words(rt: HostRuntime) {
         // Blanks are content: these 16 bytes of content end with the line.
         (b"*110001+0000000A 21.102+", 16, 1),
     ];
-    for (row, (line, width, count)) in rows.iter().enumerate() {
+    for (row, (line, width, count)) in ROWS.iter().enumerate() {
         let found = read_block(line).map(|block| (block.width(), block.len()));
         assert_eq!(rt; found, Ok((*width, *count)), "row {row}");
     }
@@ -48,7 +48,7 @@ fn a_line_is_a_block_of_its_words(rt: HostRuntime) {
 
 #[test]
 fn a_line_that_is_no_block_has_a_first_fault(rt: HostRuntime) {
-    let rows: [(&[u8], LineFault); 33] = [
+    const ROWS: [(&[u8], LineFault); 33] = [
         // No word at all.
         (b"", LineFault::Word(1)),
         (b"   ", LineFault::Word(1)),
@@ -93,14 +93,14 @@ fn a_line_that_is_no_block_has_a_first_fault(rt: HostRuntime) {
         (b"510001+00000000 21.102+000000", LineFault::Word(2)),
         (b"510001+00000000 11", LineFault::Word(2)),
     ];
-    for (row, (line, fault)) in rows.iter().enumerate() {
+    for (row, (line, fault)) in ROWS.iter().enumerate() {
         assert_eq!(rt; read_block(line).err(), Some(*fault), "row {row}");
     }
 }
 
 #[test]
 fn a_line_is_a_reading_as_most_are_written(rt: HostRuntime) {
-    let rows: [(&[u8], bool); 20] = [
+    const ROWS: [(&[u8], bool); 20] = [
         (b"110003+0000000A 21.102+00000000 22.102+10000000", true),
         (b"110003+0000000A 21.102+00000000 22.102+10000000 ", true),
         (b"11~!!~+ pillar7 21~!32+39999999 22...2+00000000", true),
@@ -125,7 +125,7 @@ fn a_line_is_a_reading_as_most_are_written(rt: HostRuntime) {
         (b"110003+0000000A 21.102+0000000A 22.102+10000000", false),
         (b"110003+0000000A 21.102+40000000 22.102+10000000", false),
     ];
-    for (row, (line, reading)) in rows.iter().enumerate() {
+    for (row, (line, reading)) in ROWS.iter().enumerate() {
         assert_eq!(rt; is_plain_reading(line), *reading, "row {row}");
     }
 }
@@ -150,7 +150,7 @@ fn a_cut_line_is_whole_only_where_a_word_ends(rt: HostRuntime) {
 #[test]
 fn the_parts_of_a_word_are_parts_of_the_line(rt: HostRuntime) {
     // The line, the place of a word in it, and the word's index, information, sign and content.
-    let rows: [(&[u8], usize, u8, &[u8], bool, &[u8]); 7] = [
+    const ROWS: [(&[u8], usize, u8, &[u8], bool, &[u8]); 7] = [
         (
             b"410001+00000010 42....+000000S1",
             0,
@@ -208,7 +208,7 @@ fn the_parts_of_a_word_are_parts_of_the_line(rt: HostRuntime) {
             b"00000000000000S1",
         ),
     ];
-    for (row, (line, place, index, info, negative, content)) in rows.iter().enumerate() {
+    for (row, (line, place, index, info, negative, content)) in ROWS.iter().enumerate() {
         let word = word_at(&rt, line, *place);
         assert_eq!(rt; word.index(), *index, "row {row}");
         assert_eq!(rt; word.info(), *info, "row {row}");
@@ -219,7 +219,7 @@ fn the_parts_of_a_word_are_parts_of_the_line(rt: HostRuntime) {
 
 #[test]
 fn a_name_is_a_content_without_its_leading_zeros(rt: HostRuntime) {
-    let rows: [(&[u8], &[u8]); 12] = [
+    const ROWS: [(&[u8], &[u8]); 12] = [
         (b"110003+0000000A", b"A"),
         (b"110003+000000S1", b"S1"),
         (b"110003+00000000", b"0"),
@@ -233,7 +233,7 @@ fn a_name_is_a_content_without_its_leading_zeros(rt: HostRuntime) {
         (b"*110003+00000000000000S1", b"S1"),
         (b"*110003+ABCDEFGHIJKLMNOP", b"ABCDEFGHIJKLMNOP"),
     ];
-    for (row, (line, name)) in rows.iter().enumerate() {
+    for (row, (line, name)) in ROWS.iter().enumerate() {
         let word = word_at(&rt, line, 0);
         assert_eq!(rt; word.name(), *name, "row {row}");
     }
@@ -241,7 +241,7 @@ fn a_name_is_a_content_without_its_leading_zeros(rt: HostRuntime) {
 
 #[test]
 fn an_angle_is_a_number_of_units_or_its_first_fault(rt: HostRuntime) {
-    let rows: [(&[u8], Result<u32, AngleFault>); 22] = [
+    const ROWS: [(&[u8], Result<u32, AngleFault>); 22] = [
         (b"110003+0000000A 21.102+00000000", Ok(0)),
         (b"110003+0000000A 21.102+25000010", Ok(25_000_010)),
         (b"110003+0000000A 22.102+39999999", Ok(39_999_999)),
@@ -281,7 +281,7 @@ fn an_angle_is_a_number_of_units_or_its_first_fault(rt: HostRuntime) {
         (b"110003+0000000A 21.102-9999999A", Err(AngleFault::Sign)),
         (b"110003+0000000A 21.102+9999999A", Err(AngleFault::Digits)),
     ];
-    for (row, (line, want)) in rows.iter().enumerate() {
+    for (row, (line, want)) in ROWS.iter().enumerate() {
         let word = word_at(&rt, line, 1);
         assert_eq!(rt; word.angle(), *want, "row {row}");
     }
@@ -342,7 +342,7 @@ fn the_words_come_in_order(rt: HostRuntime) {
 #[test]
 fn a_load_begins_with_a_run_of_printable_bytes(rt: HostRuntime) {
     // The bytes, a place and the run.
-    let rows: [(&[u8], usize, usize); 8] = [
+    const ROWS: [(&[u8], usize, usize); 8] = [
         (b"0123456789ABCDEF", 0, 16),
         (b" ~ ~ ~ ~ ~ ~ ~ ~", 0, 16),
         (b"\r123456789ABCDEF", 0, 0),
@@ -352,7 +352,7 @@ fn a_load_begins_with_a_run_of_printable_bytes(rt: HostRuntime) {
         (b"\n0123456789ABCDEF\n", 2, 15),
         (b"0\xff23456789\x1fBCDEFGHI", 3, 7),
     ];
-    for (row, (bytes, at, run)) in rows.iter().enumerate() {
+    for (row, (bytes, at, run)) in ROWS.iter().enumerate() {
         if bytes.len() >= LANES && *at <= bytes.len() - LANES {
             assert_eq!(rt; printable_run(bytes, *at), *run, "row {row}");
         } else {
@@ -363,7 +363,7 @@ fn a_load_begins_with_a_run_of_printable_bytes(rt: HostRuntime) {
 
 #[test]
 fn digits_alone_are_a_number(rt: HostRuntime) {
-    let rows: [(&[u8], Option<u64>); 9] = [
+    const ROWS: [(&[u8], Option<u64>); 9] = [
         (b"0", Some(0)),
         (b"0012", Some(12)),
         (b"12345678", Some(12_345_678)),
@@ -374,7 +374,7 @@ fn digits_alone_are_a_number(rt: HostRuntime) {
         (b"1 ", None),
         (b":", None),
     ];
-    for (bytes, number) in &rows {
+    for (bytes, number) in &ROWS {
         assert_eq!(rt; decimal_number(bytes), *number);
     }
 }
