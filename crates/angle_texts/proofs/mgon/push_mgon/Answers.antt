@@ -1,47 +1,54 @@
-use Rattle.std.proofs.Common.{◌≡◌, ◌++◌, ◌∙◌, List, ℕ, Result, Ok, Err, OnOk, OnErr, ap, sym, append_assoc, rules, subst}
+use Rattle.std.proofs.Common.{◌≡◌, ◌++◌, ◌∙◌, List, ℕ, Result, Ok, Err, OnOk, ap}
+use Rattle.std.proofs.Common.{append_assoc, rules, subst}
 use Rattle.std.specs.Prelude.{unsigned_abs}
 use Rattle.direction_table.specs.Beginnings.{IsBegun}
 use Rattle.direction_table.proofs.Begun.{of_first, of_second}
-use Rattle.direction_table.proofs.FirstDecimals.{so_err}
+use Rattle.direction_table.proofs.FirstDecimals.{in_any_case, so_err}
 use Rattle.angle_texts.specs.MgonTexts as spec
 use Rattle.angle_texts.proofs.mgon.push_mgon.Goals as goal
 
-on_err : {T E P : Type 0} (r : Result T E) → P → OnErr r P
-on_err (Ok x) p = tt
-on_err (Err e) p = p
-
+-- What follows from what is so where there was memory.
 so_ok : {T E P Q : Type 0} (r : Result T E) → (P → Q) → OnOk r P → OnOk r Q
 so_ok (Ok x) next p = next p
 so_ok (Err e) next p = tt
 
+-- Memory was refused for the sign.
 pub returns-in_err-push_sign-clause-begun : goal.returns-in_err-push_sign-clause-begun
 returns-in_err-push_sign-clause-begun c =
-    let begun : IsBegun (spec.sign_text c.args.units) c.args.text.now.items c.push_sign.new.text.items =
-    search rules in
-    on_err c.from_residual.result
-    (of_first (spec.sign_text c.args.units) (spec.thousandths_text (unsigned_abs c.args.units))
-    c.args.text.now.items c.push_sign.new.text.items begun)
+    let old = c.args.text.now.items in
+    let new = c.push_sign.new.text.items in
+    let sign = spec.sign_text c.args.units in
+    let begun : IsBegun sign old new = search rules in
+    in_any_case c.from_residual.result
+    (of_first sign (spec.thousandths_text (unsigned_abs c.args.units)) old new begun)
 
 pub returns-clause-added : goal.returns-clause-added
 returns-clause-added c =
-    let e : c.unsigned_abs.result ≡ unsigned_abs c.args.units = search rules in
-    let first : c.push_sign.new.text.items ≡ c.args.text.now.items ++ spec.sign_text c.args.units =
-    search rules in
+    let old = c.args.text.now.items in
+    let signed = c.push_sign.new.text.items in
+    let new = c.push_thousandths.new.text.items in
+    let size = unsigned_abs c.args.units in
+    let sign = spec.sign_text c.args.units in
+    let is_size : c.unsigned_abs.result ≡ size = search rules in
+    let first : signed ≡ old ++ sign = search rules in
     so_ok c.push_thousandths.result
-    (λ (h : c.push_thousandths.new.text.items ≡ c.push_sign.new.text.items ++ spec.thousandths_text c.unsigned_abs.result).
-    h ∙ (ap (λ (n : ℕ). c.push_sign.new.text.items ++ spec.thousandths_text n) e
-    ∙ (ap (λ (l : List ℕ). l ++ spec.thousandths_text (unsigned_abs c.args.units)) first
-    ∙ append_assoc c.args.text.now.items (spec.sign_text c.args.units) (spec.thousandths_text (unsigned_abs c.args.units)))))
+    (λ (rest : new ≡ signed ++ spec.thousandths_text c.unsigned_abs.result).
+    rest ∙ (ap (λ (n : ℕ). signed ++ spec.thousandths_text n) is_size
+    ∙ (ap (λ (text : List ℕ). text ++ spec.thousandths_text size) first
+    ∙ append_assoc old sign (spec.thousandths_text size))))
     c.push_thousandths.ensures.added
 
 pub returns-clause-begun : goal.returns-clause-begun
 returns-clause-begun c =
-    let e : c.unsigned_abs.result ≡ unsigned_abs c.args.units = search rules in
-    let first : c.push_sign.new.text.items ≡ c.args.text.now.items ++ spec.sign_text c.args.units =
-    search rules in
+    let old = c.args.text.now.items in
+    let signed = c.push_sign.new.text.items in
+    let new = c.push_thousandths.new.text.items in
+    let size = unsigned_abs c.args.units in
+    let sign = spec.sign_text c.args.units in
+    let is_size : c.unsigned_abs.result ≡ size = search rules in
+    let first : signed ≡ old ++ sign = search rules in
     so_err c.push_thousandths.result
-    (λ (rest : IsBegun (spec.thousandths_text c.unsigned_abs.result) c.push_sign.new.text.items c.push_thousandths.new.text.items).
-    of_second (spec.sign_text c.args.units) (spec.thousandths_text (unsigned_abs c.args.units))
-    c.args.text.now.items c.push_sign.new.text.items c.push_thousandths.new.text.items first
-    (subst (λ (n : ℕ). IsBegun (spec.thousandths_text n) c.push_sign.new.text.items c.push_thousandths.new.text.items) e rest))
+    (λ (rest : IsBegun (spec.thousandths_text c.unsigned_abs.result) signed new).
+    of_second sign (spec.thousandths_text size) old signed new first
+    (subst (λ (n : ℕ). IsBegun (spec.thousandths_text n) signed new) is_size rest))
     c.push_thousandths.ensures.begun
