@@ -363,7 +363,7 @@ class EdgeTest(ProgramTest):
         self.assertIn(hashlib.sha256(STATION).hexdigest().encode(), digests)
         # 50.00006 degrees are 55.555622222 gon.
         table.write_bytes(TABLE_OFF)
-        far = b"A,0.000000000,0.000000,-2777.796\nB,55.555622222,50.000030,2777.796\n"
+        far = b"A,0.000000000,0.000000,-2777.796,0.000\nB,55.555622222,50.000030,2777.796,5555.592\n"
         for command, answer in [
             ("compare", refusal("compare: Apart 2777.797 mgon, limit 0.010 mgon")),
             ("differences", (0, DIFFERENCES_15.splitlines(keepends=True)[0] + far, b"")),
@@ -457,11 +457,12 @@ class EdgeTest(ProgramTest):
                     continue
                 no_unit, most, more = BOUNDS[option.name]
                 near = [] if option == WITHIN else [f"{WITHIN.name}={WITHIN.kept}"] * (WITHIN in options)
-                answers = {n: (0, stdout, b"") for n in most}
-                if command == "report":  # which shows the limit
-                    answers = {n: answer_by_model(command, {option.name: n}, table) for n in most}
+                answers = {n: option.answer for n in NOUGHTS} | {n: (0, stdout, b"") for n in most}
+                # The answer shows the limit: of a report, and of a comparison the one beside W.
+                shown = most if command == "report" else [*NOUGHTS, *most] * (option == WITHIN)
+                answers |= {n: answer_by_model(command, {option.name: n}, table) for n in shown}
                 self.assert_answers([
-                    *[([command, f"{option.name}={n}", *words], option.answer) for n in NOUGHTS],
+                    *[([command, f"{option.name}={n}", *words], answers[n]) for n in NOUGHTS],
                     *[([command, f"{option.name}={n}", *near, *words], answers[n]) for n in most],
                 ])  # fmt: skip
                 self.assert_no_limits(option.name, [*NO_LIMITS, *no_unit, *more], command, words)

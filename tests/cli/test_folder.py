@@ -285,7 +285,7 @@ class FolderTest(ProgramTest):
 
     def test_tables_in_degrees(self):
         for name, table, within, limit in zip(
-            ["job.directions.csv", "job.csv", "job.S1.csv"], IN_DEGREES, [0, 1, 1], [10, 17, 17]
+            ["job.directions.csv", "job.csv", "job.S1.csv"], IN_DEGREES, [0, 1, 1], [10, 21, 21]
         ):
             with self.subTest(table=table):
                 files = {"job.gsi": STATION, name: table}
