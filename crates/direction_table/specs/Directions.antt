@@ -31,8 +31,8 @@ abbrev pub last_unit : ℕ → ℕ
 last_unit decimals = if decimals == 0 then 0 else 10 ^ (9 - decimals)
 
 -- The step to which a number is rounded as it is written, in parts: one unit of its last decimal,
--- or of its seconds where these have none. Gon and degrees without decimals, and 0-00-00, tell none:
--- programs write the first direction so, whatever they round the others to. There it is 0.
+-- or of its seconds where these have none. Gon and degrees without decimals, and 0-00-00, tell
+-- none: programs write the first direction so, whatever they round the others to. There it is 0.
 abbrev pub angle_step : AngleUnit → List ℕ → ℕ
 angle_step Gon bytes = PARTS * last_unit (length (decimals_part bytes))
 angle_step Degrees bytes =

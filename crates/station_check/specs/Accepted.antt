@@ -29,8 +29,8 @@ pub record StatesSheet (source : Told) (sheet : SheetValue) : Type 0 where
   pub whole : input_within LONGEST_SHEET source ≡ Ended bytes
   pub states : IsSheetText bytes sheet
 
--- Of these bytes of a field file and of a sheet, and how they end, this is the acceptance; `limit` is
--- the residual limit in half units, where one is stated.
+-- Of these bytes of a field file and of a sheet, and how they end, this is the acceptance; `limit`
+-- is the residual limit in half units, where one is stated.
 pub record IsAccepted (limits : FaceLimits) (limit : Option ℕ) (gsi source : Told)
     (a : Accepted) : Type 0 where
   -- The field file was read to its end, and the numbered lines of its bytes are these blocks, the
