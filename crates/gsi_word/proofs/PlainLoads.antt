@@ -10,7 +10,8 @@ use Rattle.std.proofs.lemmas.List.{get_or-take, get_or-drop, length-drop, length
 use Rattle.std.proofs.lemmas.List.Elements.{All-nil, All-cons, All-from_get_or}
 use Rattle.gsi_word.specs.Words.{IsLineByte}
 use Rattle.gsi_word.specs.PlainLines.{are_within, load, is_later, is_plain_length, is_direction}
-use Rattle.gsi_word.specs.PlainLines.{is_zenith}
+use Rattle.gsi_word.specs.PlainLines.{is_zenith, is_content, is_wide_second, is_wide_direction}
+use Rattle.gsi_word.specs.PlainLines.{is_wide_zenith, is_wide_angle}
 use Rattle.gsi_word.proofs.PrintableLaws.{all_of_both}
 
 -- The byte at a place lies within the bounds of the place.
@@ -154,3 +155,17 @@ direction_is_later bytes e = wider (codes " 21!!.2+00000000") (codes " 21~~32+39
 pub zenith_is_later : (bytes : List ℕ) → is_zenith bytes ≡ true → is_later bytes ≡ true
 zenith_is_later bytes e = wider (codes " 22!!.2+00000000") (codes " 22~~32+39999999")
     (codes " 20!!!!+        ") (codes " 39~~~~+~~~~~~~~") bytes refl refl refl refl e
+
+pub wide_direction_is_second : (bytes : List ℕ) → is_wide_direction bytes ≡ true
+    → is_wide_second bytes ≡ true
+wide_direction_is_second bytes e = wider (codes "         21!!.2+") (codes "~~~~~~~~ 21~~32+")
+    (codes "         20!!!!+") (codes "~~~~~~~~ 39~~~~+") bytes refl refl refl refl e
+
+pub wide_zenith_is_later : (bytes : List ℕ) → is_wide_zenith bytes ≡ true → is_later bytes ≡ true
+wide_zenith_is_later bytes e = wider (codes " 22!!.2+00000000") (codes " 22~~32+00000000")
+    (codes " 20!!!!+        ") (codes " 39~~~~+~~~~~~~~") bytes refl refl refl refl e
+
+pub wide_angle_is_content : (bytes : List ℕ) → is_wide_angle bytes ≡ true
+    → is_content bytes ≡ true
+wide_angle_is_content bytes e = wider (codes "0000000000000000") (codes "0000000039999999")
+    (codes "                ") (codes "~~~~~~~~~~~~~~~~") bytes refl refl refl refl e

@@ -3,7 +3,8 @@
 -- alone, so that such a line is told by comparing bytes, 16 at a time. No rule of the format: other
 -- lines are read too, the long way. In the bounds `!` and `~` are the lowest and the highest
 -- visible bytes, and a blank is the lowest of a content.
-use Rattle.std.specs.Prelude.{ℕ, ◌+◌, Bool, true, ◌&&◌, ◌||◌, ◌==◌, List, [], ◌∷◌, codes, length}
+use Rattle.std.specs.Prelude.{ℕ, zero, suc, ◌+◌, ◌-◌, ◌/◌, Bool, true, ◌&&◌, ◌||◌, not, ◌==◌, nat_le}
+use Rattle.std.specs.Prelude.{List, [], ◌∷◌, codes, length}
 use Rattle.std.specs.Prelude.{take, drop, slice_index, ◌≡◌, Ok}
 use Rattle.std.specs.Int.{is_in_range}
 use Rattle.gsi_word.specs.Bytes.{blank}
@@ -69,12 +70,59 @@ is_direction bytes = are_within (codes " 21!!.2+00000000") (codes " 21~~32+39999
 abbrev pub is_zenith : List ℕ → Bool
 is_zenith bytes = are_within (codes " 22!!.2+00000000") (codes " 22~~32+39999999") bytes
 
--- A reading as most are written: a line of GSI-8 that is a point number, a direction and a zenith
--- angle, all with plus signs, and at most one blank after them.
+-- The end of a content, a blank, and a word 21 up to its sign, in gon with a plus sign.
+abbrev pub is_wide_direction : List ℕ → Bool
+is_wide_direction bytes = are_within (codes "         21!!.2+") (codes "~~~~~~~~ 21~~32+") bytes
+
+-- A blank and the front of a word 22 of GSI-16, in gon with a plus sign and eight zeros.
+abbrev pub is_wide_zenith : List ℕ → Bool
+is_wide_zenith bytes = are_within (codes " 22!!.2+00000000") (codes " 22~~32+00000000") bytes
+
+-- The content of an angle of GSI-16: eight zeros and eight digits, of which the first is at most 3.
+abbrev pub is_wide_angle : List ℕ → Bool
+is_wide_angle bytes = are_within (codes "0000000000000000") (codes "0000000039999999") bytes
+
+-- A blank and a further word of GSI-8 from a place on, with a plus sign; its index begins with 3,
+-- or with 5 to 9: so it is none of an angle, and none that a line begins with.
+abbrev pub is_more : ℕ → List ℕ → Bool
+is_more at line = are_within (codes " 30!!!!+        ") (codes " 99~~~~+~~~~~~~~") (load at line)
+    && not (slice_index line (at + 1) == 52)
+
+-- So many of them from a place on, and then at most one blank.
+unfoldable pub are_more : ℕ → ℕ → List ℕ → Bool
+are_more zero at line = is_plain_length at line
+are_more (suc n) at line = is_more at line && are_more n (at + 16) line
+
+-- How many words stand after the third in a line of GSI-8, with a blank before each.
+abbrev pub more_words : List ℕ → ℕ
+more_words line = (length line - 47) / 16
+
+-- All words after the third are such, and at most one blank comes after them.
+unfoldable pub goes_on : List ℕ → Bool
+goes_on line = are_more (more_words line) 47 line
+
+-- A line of GSI-8 begins with a point number, a direction and a zenith angle, all with plus signs.
+unfoldable pub begins_reading : List ℕ → Bool
+begins_reading line = is_first (load 0 line) && (is_direction (load 15 line)
+    && (is_zenith (load 31 line)
+    && (is_input_mode (slice_index line 20) && is_input_mode (slice_index line 36))))
+
+-- A line of GSI-8 that is these three words, perhaps further words, and at most one blank.
+unfoldable pub is_narrow_reading : List ℕ → Bool
+is_narrow_reading line = nat_le 47 (length line) && (begins_reading line && goes_on line)
+
+-- A line of GSI-16 that is a point number, a direction and a zenith angle, all with plus signs, and
+-- at most one blank after them.
+unfoldable pub is_wide_reading : List ℕ → Bool
+is_wide_reading line = is_plain_length 72 line
+    && (is_wide_first (load 0 line) && (is_wide_direction (load 16 line)
+    && (is_wide_angle (load 32 line) && (is_wide_zenith (load 48 line)
+    && (is_wide_angle (load 56 line)
+    && (is_input_mode (slice_index line 29) && is_input_mode (slice_index line 53)))))))
+
+-- A reading as most are written.
 unfoldable pub is_plain_reading : List ℕ → Bool
-is_plain_reading line = is_plain_length 47 line
-    && (is_first (load 0 line) && (is_direction (load 15 line) && (is_zenith (load 31 line)
-    && (is_input_mode (slice_index line 20) && is_input_mode (slice_index line 36)))))
+is_plain_reading line = is_narrow_reading line || is_wide_reading line
 
 -- There is one word of this index, and it holds this angle.
 pub record HasAngle (index : ℕ) (words : List GsiWord) (units : ℕ) : Type 0 where

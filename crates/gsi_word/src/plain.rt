@@ -4,10 +4,10 @@
 //! each compared with the lowest and with the highest bytes of its places, and neither the ends of
 //! the words nor their parts are looked for.
 
-ghost use Rattle.std.specs.Prelude.{◌≡◌, ◌≤◌, ◌+◌, length, take, drop, true, IfSome};
+ghost use Rattle.std.specs.Prelude.{◌≡◌, ◌≤◌, ◌⊎◌, ◌+◌, length, take, drop, true, IfSome};
 ghost use Rattle.std.specs.Char.{is_ascii_digit};
 ghost use Rattle.std.specs.List.{list_all};
-ghost use Rattle.std.specs.Bool.{OnTrue};
+ghost use Rattle.std.specs.Bool.{OnTrue, OnFalse};
 ghost use Rattle.gsi_word.specs.Angles.{decimal_value};
 ghost use Rattle.gsi_word.specs.Blocks.{GsiBlock, IsBlock};
 ghost use Rattle.gsi_word.specs.BlockViews.{block_of};
@@ -15,12 +15,16 @@ ghost use Rattle.gsi_word.specs.Shapes.{IsShape};
 ghost use Rattle.gsi_word.specs.PlainLines.{are_within, load, is_first, is_later, is_wide_first};
 ghost use Rattle.gsi_word.specs.PlainLines.{is_wide_second, is_content, is_plain_length, is_plain};
 ghost use Rattle.gsi_word.specs.PlainLines.{is_plain_wide, is_direction, is_zenith};
+ghost use Rattle.gsi_word.specs.PlainLines.{is_wide_direction, is_wide_zenith, is_wide_angle};
+ghost use Rattle.gsi_word.specs.PlainLines.{is_more, goes_on, begins_reading, is_narrow_reading};
+ghost use Rattle.gsi_word.specs.PlainLines.{is_wide_reading};
 ghost use Rattle.gsi_word.specs.PlainLines.{is_plain_reading, HasAngle};
 ghost use Rattle.gsi_word.specs.declared.index.TheConstants.{HORIZONTAL_DIRECTION};
 ghost use Rattle.gsi_word.specs.declared.index.TheConstants.{VERTICAL_ANGLE};
 
 use crate::block::Block;
 use crate::decimal::value_of_eight;
+use crate::line::block_in;
 use crate::printable::LANES;
 use crate::shape::Shape;
 use crate::word::{GSI_8, GSI_16, is_input_mode};
@@ -32,8 +36,11 @@ const WORDS: usize = 3;
 /// How many bytes they take in GSI-8, with the blanks between them.
 pub const PLAIN_LENGTH: usize = 47;
 
+/// How many bytes each further word takes in GSI-8, with the blank before it.
+pub const WORD_LENGTH: usize = 16;
+
 /// How many bytes they take in GSI-16, with the `*` and the blanks between them.
-const WIDE_LENGTH: usize = 72;
+pub const WIDE_LENGTH: usize = 72;
 
 /// Whether each byte of the load at a place lies between the lowest and the highest of its place.
 #[inline(always)]
@@ -97,7 +104,7 @@ fn is_content(line: &[u8], at: usize) -> bool
 /// Whether the line has so many bytes, or one more, a blank.
 #[inline(always)]
 fn is_plain_length(line: &[u8], size: usize) -> bool
-    requires { size ≤ WIDE_LENGTH }
+    requires { (size ≤ WIDE_LENGTH) ⊎ (size ≤ length line.now) }
     ensures value { result ≡ is_plain_length size line.now }
     ensures long { OnTrue result (size ≤ length line.now) }
 {
@@ -151,19 +158,138 @@ fn is_zenith(line: &[u8], at: usize) -> bool
     is_within(line, at, *b" 22!!.2+00000000", *b" 22~~32+39999999")
 }
 
+/// Whether the end of a content, a blank, and a word 21 up to its sign stand there, in gon with a
+/// plus sign.
+#[inline(always)]
+fn is_wide_direction(line: &[u8], at: usize) -> bool
+    requires { at + LANES ≤ length line.now }
+    ensures { result ≡ is_wide_direction (load at line.now) }
+{
+    is_within(line, at, *b"         21!!.2+", *b"~~~~~~~~ 21~~32+")
+}
+
+/// Whether a blank and the front of a word 22 stand there, in gon with a plus sign and eight zeros.
+#[inline(always)]
+fn is_wide_zenith(line: &[u8], at: usize) -> bool
+    requires { at + LANES ≤ length line.now }
+    ensures { result ≡ is_wide_zenith (load at line.now) }
+{
+    is_within(line, at, *b" 22!!.2+00000000", *b" 22~~32+00000000")
+}
+
+/// Whether an angle's content stands there: eight zeros and eight digits, below a full turn.
+#[inline(always)]
+fn is_wide_angle(line: &[u8], at: usize) -> bool
+    requires { at + LANES ≤ length line.now }
+    ensures { result ≡ is_wide_angle (load at line.now) }
+{
+    is_within(line, at, *b"0000000000000000", *b"0000000039999999")
+}
+
+/// Whether a blank and a further word stand there: of GSI-8, with a plus sign and an index that
+/// begins with 3, or with 5 to 9.
+#[inline(always)]
+fn is_more(line: &[u8], at: usize) -> bool
+    requires { at + LANES ≤ length line.now }
+    ensures { result ≡ is_more at line.now }
+{
+    is_within(line, at, *b" 30!!!!+        ", *b" 99~~~~+~~~~~~~~") && line[at + 1] != b'4'
+}
+
+/// Whether all words after the third are such, and at most one blank comes after them.
+#[inline(always)]
+#[tactic(auto, unfolding(crate::specs::PlainLines::goes_on))]
+fn goes_on(line: &[u8]) -> bool
+    requires { PLAIN_LENGTH ≤ length line.now }
+    ensures { result ≡ goes_on line.now }
+{
+    let mut at = PLAIN_LENGTH;
+    'words: while at + WORD_LENGTH <= line.len() {
+        if !is_more(line, at) {
+            return false;
+        }
+        at += WORD_LENGTH;
+    }
+    is_plain_length(line, at)
+}
+
+/// Whether a line of GSI-8 begins with a point number, a direction and a zenith angle in gon, with
+/// plus signs.
+#[inline(always)]
+#[tactic(auto, unfolding(crate::specs::PlainLines::begins_reading))]
+fn begins_reading(line: &[u8]) -> bool
+    requires { PLAIN_LENGTH ≤ length line.now }
+    ensures { result ≡ begins_reading line.now }
+{
+    is_first(line)
+        && is_direction(line, 15)
+        && is_zenith(line, 31)
+        && is_input_mode(line[20])
+        && is_input_mode(line[36])
+}
+
+/// Whether a line of GSI-8 is a point number, a direction and a zenith angle in gon, with plus
+/// signs, then perhaps further words, and at most one blank.
+#[inline(always)]
+#[tactic(auto, unfolding(crate::specs::PlainLines::is_narrow_reading))]
+fn is_narrow_reading(line: &[u8]) -> bool
+    ensures { result ≡ is_narrow_reading line.now }
+{
+    line.len() >= PLAIN_LENGTH && begins_reading(line) && goes_on(line)
+}
+
+/// Whether a line of GSI-16 is written so.
+#[inline(always)]
+#[tactic(auto, unfolding(crate::specs::PlainLines::is_wide_reading))]
+fn is_wide_reading(line: &[u8]) -> bool
+    ensures { result ≡ is_wide_reading line.now }
+{
+    is_plain_length(line, WIDE_LENGTH)
+        && is_wide_first(line)
+        && is_wide_direction(line, 16)
+        && is_wide_angle(line, 32)
+        && is_wide_zenith(line, 48)
+        && is_wide_angle(line, 56)
+        && is_input_mode(line[29])
+        && is_input_mode(line[53])
+}
+
 /// Whether a line is a reading as most are written: a point number, a direction and a zenith angle
-/// in gon, of GSI-8 and with plus signs, and at most one blank.
+/// in gon, with plus signs, and at most one blank.
 #[inline(always)]
 #[tactic(auto, unfolding(crate::specs::PlainLines::is_plain_reading))]
 pub fn is_plain_reading(line: &[u8]) -> bool
     ensures { result ≡ is_plain_reading line.now }
 {
-    is_plain_length(line, PLAIN_LENGTH)
-        && is_first(line)
-        && is_direction(line, 15)
-        && is_zenith(line, 31)
-        && is_input_mode(line[20])
-        && is_input_mode(line[36])
+    is_narrow_reading(line) || is_wide_reading(line)
+}
+
+/// Whether such a line is of GSI-16.
+#[inline(always)]
+fn is_wide(line: &[u8]) -> bool
+    requires { is_plain_reading line.now ≡ true }
+    ensures narrow { OnFalse result (is_narrow_reading line.now ≡ true) }
+    ensures wide { OnTrue result (is_wide_reading line.now ≡ true) }
+{
+    line[0] == b'*'
+}
+
+/// The shape of such a line.
+#[inline(always)]
+fn reading_shape(line: &[u8]) -> Shape
+    requires { is_plain_reading line.now ≡ true }
+    ensures { IsShape result line.now }
+{
+    if is_wide(line) {
+        return Shape {
+            width: GSI_16,
+            count: WORDS,
+        };
+    }
+    Shape {
+        width: GSI_8,
+        count: WORDS + (line.len() - PLAIN_LENGTH) / WORD_LENGTH,
+    }
 }
 
 /// The block that such a line is.
@@ -172,11 +298,7 @@ pub fn reading_block(line: &[u8]) -> Block<'_>
     requires { is_plain_reading line.now ≡ true }
     ensures { IsBlock line.now (block_of result) }
 {
-    Block {
-        bytes: line,
-        width: GSI_8,
-        count: WORDS,
-    }
+    block_in(line, reading_shape(line))
 }
 
 /// The number that the eight digits from a place on write.
@@ -198,7 +320,11 @@ pub fn reading_angles(line: &[u8]) -> (u32, u32)
     ensures zenith { (b : GsiBlock) → IsBlock line.now b
         → HasAngle VERTICAL_ANGLE b.words result.1 }
 {
-    (eight_at(line, 23), eight_at(line, 39))
+    if is_wide(line) {
+        (eight_at(line, 40), eight_at(line, 64))
+    } else {
+        (eight_at(line, 23), eight_at(line, 39))
+    }
 }
 
 /// The shape of a line that is written as most readings are, in GSI-8 or GSI-16.

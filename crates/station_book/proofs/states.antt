@@ -4,5 +4,4 @@ pub mod ClosedSets
 pub mod StationInvariant
 pub mod TargetMaps
 pub mod NewestState
-pub mod ClosingStates
 pub mod BookInvariant

@@ -1,6 +1,6 @@
 -- What a book keeps, and what each kind of block does to it.
 use Rattle.std.specs.Prelude.{ℕ, ◌+◌, Bool, true, false, if◌then◌else◌, Result, Ok, Err, List}
-use Rattle.std.specs.Prelude.{Option, Some, None, ◌<◌, length, ⊤}
+use Rattle.std.specs.Prelude.{Option, Some, None, ◌<◌, ⊤}
 use Rattle.station_book.specs.declared.fault.BookKind.{BookKind}
 use Rattle.station_book.specs.declared.fault.BookKind.TheVariants as kinds
 use Rattle.station_book.specs.Limits.{FaceLimits}
@@ -19,6 +19,7 @@ use Rattle.station_book.specs.Slots.{closing_faults}
 use Rattle.station_book.specs.StationState.{with_set, state_faults, with_reading}
 use Rattle.station_book.specs.StationStates.{StationStates, last_of, LastMayEnd, change_last}
 use Rattle.station_book.specs.StationStates.{with_station, first_set_faults, more_set_faults}
+use Rattle.station_book.specs.StationStates.{count_of}
 
 -- what a book keeps: its limits, how many blocks it took, where it stands, and its stations with
 -- sets
@@ -134,8 +135,8 @@ after b k = after_as (role_of b) b (record k { taken = k.taken + 1 })
 abbrev pub HasLast : Stage → StationStates → Type 0
 HasLast Outside s = ⊤
 HasLast (Station name) s = ⊤
-HasLast BetweenSets s = 0 < length s
-HasLast InSet s = 0 < length s
+HasLast BetweenSets s = 0 < count_of s
+HasLast InSet s = 0 < count_of s
 
 -- Where no set is open, the last one may end.
 abbrev pub RestMayEnd : Stage → StationStates → Type 0

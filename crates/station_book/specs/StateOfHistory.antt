@@ -1,7 +1,7 @@
 -- What is kept of the stations, and where the book stands, by the blocks before: station by
 -- station, from the sets and the readings that are the station's.
 use Rattle.std.specs.Prelude.{◌≡◌, ℕ, true, false, List, [], ◌∷◌, ◌++◌, length, filter, map, Option}
-use Rattle.std.specs.Prelude.{Some, ⊤}
+use Rattle.std.specs.Prelude.{Some, None, ⊤}
 use Rattle.std.specs.Option.{option_map}
 use Rattle.adjust_kernel.specs.declared.obs.Obs.{Obs}
 use Rattle.station_book.specs.declared.face.Face.TheVariants.{One, Two}
@@ -92,12 +92,24 @@ pub record IsComputed (st : Place) (sets readings : List Place) (s : SurveyedSta
   pub obs : s.station.obs ≡ obs_in (targets_in readings) readings sets
   pub faces : s.faces ≡ faces_in (targets_in readings) readings sets
 
--- Each station that has sets is kept; both lists come the newest first.
+-- what is kept, by its name, of an earlier station that this block with code 10 opened
+pub record IsEarlierAt (h : History) (st : Place) (e : List ℕ × SurveyedStation) : Type 0 where
+  pub named_so : name_at st ≡ Some e.0
+  pub computed : IsComputed st (sets_of st h) (station_readings st h) e.1
+
+-- Each earlier station that has sets is kept; both lists come the newest first.
+abbrev pub AreEarlier : History → List Place → List (List ℕ × SurveyedStation) → Type 0
+AreEarlier h [] [] = ⊤
+AreEarlier h [] (e ∷ es) = ⊥
+AreEarlier h (st ∷ sts) [] = ⊥
+AreEarlier h (st ∷ sts) (e ∷ es) = IsEarlierAt h st e × AreEarlier h sts es
+
+-- Each station that has sets is kept; the list comes the newest first.
 abbrev pub AreStates : History → List Place → StationStates → Type 0
-AreStates h [] [] = ⊤
-AreStates h [] (e ∷ es) = ⊥
-AreStates h (st ∷ sts) [] = ⊥
-AreStates h (st ∷ sts) (e ∷ es) = IsStateAt h st e × AreStates h sts es
+AreStates h [] None = ⊤
+AreStates h [] (Some s) = ⊥
+AreStates h (st ∷ sts) None = ⊥
+AreStates h (st ∷ sts) (Some s) = IsStateAt h st s.0 × AreEarlier h sts s.1
 
 -- where the book stands in the file
 abbrev pub IsStage : Stage → History → Type 0

@@ -22,7 +22,7 @@ use adjust_kernel::{MOST_SETS, Obs};
 use std::alloc::AllocError;
 
 /// The readings of one target in a set.
-#[derive(Clone, Copy, Debug, PartialEq, Eq, Drop)]
+#[derive(Clone, Copy, Drop)]
 pub(crate) struct Slot {
     /// In face I.
     pub one: Option<Angles>,
@@ -225,8 +225,8 @@ pub(crate) fn push_pairs(
     ensures kept_obs { OnErr result (obs.new.items ≡ obs.old.items) }
     ensures kept_faces { OnErr result (faces.new.items ≡ faces.old.items) }
 {
-    obs.reserve(slots.len())?;
-    faces.reserve(slots.len())?;
+    obs.reserve_exact(slots.len())?;
+    faces.reserve_exact(slots.len())?;
     'slots: for (place, slot) in slots.iter().enumerate() {
         push_pair(set, place as u32, *slot, obs, faces);
     }

@@ -1,10 +1,12 @@
 //! A station that has sets.
 
-ghost use Rattle.std.specs.Prelude.{◌≡◌, ◌<◌, None, length, IfOk, IfErr, OnOk, OnErr, false, ◌==◌};
+ghost use Rattle.std.specs.Prelude.{◌≡◌, ◌<◌, ◌∷◌, [], None, length, IfOk, IfErr, OnOk, OnErr};
+ghost use Rattle.std.specs.Prelude.{false, ◌==◌};
 ghost use Rattle.std.specs.List.{list_any};
+ghost use Rattle.adjust_kernel.specs.Names.{IsName};
 ghost use Rattle.adjust_kernel.specs.Sheets.{IsSetNumber};
 ghost use Rattle.adjust_kernel.specs.declared.bounds.TheConstants.{MOST_SETS};
-ghost use Rattle.station_book.specs.StationStates.{more_set_faults};
+ghost use Rattle.station_book.specs.StationStates.{more_set_faults, survey_of};
 ghost use Rattle.station_book.specs.Faults.{first_of};
 ghost use Rattle.station_book.specs.Slots.{closing_faults};
 ghost use Rattle.station_book.specs.TwoFaces.{AreOnCircle};
@@ -13,16 +15,19 @@ ghost use Rattle.station_book.specs.StationState.{with_reading};
 ghost use Rattle.station_book.specs.declared.fault.BookKind.TheVariants as kinds;
 
 use crate::angles::Reading;
-use crate::earlier_station::EarlierStation;
 use crate::faces::Faces;
 use crate::fault::BookKind;
 use crate::limits::Limits;
 use crate::slot::{end_fault, make_room, push_pairs, slot_fault};
+use crate::surveyed::Surveyed;
 use crate::targets::{Placed, Targets};
-use adjust_kernel::{MOST_SETS, Obs};
+use adjust_kernel::{MOST_SETS, Name, Obs, Station};
 use std::alloc::{AllocError, Global};
 use std::marker::Model;
 use std::mem;
+
+/// For how many sets there is room at first.
+const ROOM_FOR_SETS: usize = 4;
 
 /// What a book keeps of a station that has sets. The readings of its last set are kept by target;
 /// those of all earlier sets have become observations.
@@ -56,17 +61,24 @@ impl Model for StationSoFar {
     }) };
 }
 
+/// The first set of a station, with room for a few more.
+fn first_set(alloc: Global, number: u16) -> Result<Vec<u16>, AllocError>
+    ensures { IfOk result (λ sets. sets.items ≡ number ∷ []) }
+{
+    let mut sets = Vec::with_capacity(alloc, ROOM_FOR_SETS)?;
+    sets.push_reserved(number);
+    Ok(sets)
+}
+
 impl StationSoFar {
     /// The station of a first set.
     pub(crate) fn begun(alloc: Global, number: u16) -> Result<StationSoFar, AllocError>
         requires { IsSetNumber number }
         ensures { IfOk result (λ e. e ≡ begun number) }
     {
-        let mut sets = Vec::new(alloc);
-        sets.push(number)?;
         Ok(StationSoFar {
             targets: Targets::new(alloc)?,
-            sets,
+            sets: first_set(alloc, number)?,
             obs: Vec::new(alloc),
             faces: Vec::new(alloc),
         })
@@ -142,48 +154,53 @@ impl StationSoFar {
         Ok(())
     }
 
-    /// Becomes another station, with its first set, and gives what the station was. So one table of
-    /// targets serves all stations.
+    /// Becomes another station, with its first set, and gives what the station of this name gave. So
+    /// one table of targets serves all stations.
     pub(crate) fn become_another(
         &mut self,
+        name: Name,
         alloc: Global,
         number: u16,
-    ) -> Result<EarlierStation, AllocError>
-        requires { IsSetNumber number }
-        ensures earlier { IfOk result (λ e. e ≡ self.old) }
+    ) -> Result<Surveyed, AllocError>
+        requires may_end { MayEnd self.old }
+        requires number { IsSetNumber number }
+        ensures surveyed { IfOk result (λ s. s ≡ survey_of (name, self.old)) }
+        ensures named { IfOk result (λ s. IsName s.station.name) }
         ensures begun { OnOk result (self.new ≡ begun number) }
         ensures unchanged { OnErr result (self.new ≡ self.old) }
     {
+        // For the proof alone: a name keeps the rules of names.
+        name.recall();
         let targets = self.targets.names(alloc)?;
-        let slots = self.targets.slots().to_vec(alloc)?;
-        let mut sets = Vec::new(alloc);
-        sets.push(number)?;
+        let sets = first_set(alloc, number)?;
+        let last = self.sets.len() as u32 - 1;
+        push_pairs(last, self.targets.slots(), &mut self.obs, &mut self.faces)?;
         self.targets.clear();
-        Ok(EarlierStation {
-            targets,
-            slots,
-            sets: mem::replace(&mut self.sets, sets),
-            obs: mem::replace(&mut self.obs, Vec::new(alloc)),
-            faces: mem::replace(&mut self.faces, Vec::new(alloc)),
-        })
+        let sets = mem::replace(&mut self.sets, sets);
+        let obs = mem::replace(&mut self.obs, Vec::new(alloc));
+        let faces = mem::replace(&mut self.faces, Vec::new(alloc));
+        let station = Station::from_valid(name, targets, sets, obs);
+        Ok(Surveyed { station, faces })
     }
 
-    /// What the station was, where no more comes to it.
-    pub(crate) fn ended(self, alloc: Global) -> Result<EarlierStation, AllocError>
-        ensures { IfOk result (λ e. e ≡ self) }
+    /// What the station of this name gives, where no more comes to it.
+    pub(crate) fn close(self, name: Name, alloc: Global) -> Result<Surveyed, AllocError>
+        requires { MayEnd self }
+        ensures surveyed { IfOk result (λ s. s ≡ survey_of (name, self)) }
+        ensures named { IfOk result (λ s. IsName s.station.name) }
     {
+        // For the proof alone: a name keeps the rules of names.
+        name.recall();
         let StationSoFar {
             targets,
             sets,
-            obs,
-            faces,
+            mut obs,
+            mut faces,
         } = self;
-        Ok(EarlierStation {
-            targets: targets.names(alloc)?,
-            slots: targets.slots().to_vec(alloc)?,
-            sets,
-            obs,
-            faces,
-        })
+        let names = targets.names(alloc)?;
+        let last = sets.len() as u32 - 1;
+        push_pairs(last, targets.slots(), &mut obs, &mut faces)?;
+        let station = Station::from_valid(name, names, sets, obs);
+        Ok(Surveyed { station, faces })
     }
 }

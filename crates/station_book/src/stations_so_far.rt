@@ -1,11 +1,12 @@
 //! The stations that have sets, by name.
 
-ghost use Rattle.std.specs.Prelude.{◌≡◌, ◌<◌, ◌+◌, ◌++◌, ◌∷◌, [], false, length, None, IfErr};
-ghost use Rattle.std.specs.Prelude.{IfOk, OnOk, OnErr, reverse};
+ghost use Rattle.std.specs.Prelude.{◌≡◌, ◌<◌, ◌+◌, ◌++◌, ◌∷◌, [], false, None, IfErr, IfOk};
+ghost use Rattle.std.specs.Prelude.{OnOk, OnErr};
 ghost use Rattle.adjust_kernel.specs.Sheets.{IsSetNumber};
 ghost use Rattle.station_book.specs.StationStates.{none_so_far, surveys_of, with_station};
 ghost use Rattle.station_book.specs.StationStates.{LastMayEnd, first_set_faults, last_of};
-ghost use Rattle.station_book.specs.StationStates.{change_last, is_known, more_set_faults};
+ghost use Rattle.station_book.specs.StationStates.{change_last, is_among, is_known, count_of};
+ghost use Rattle.station_book.specs.StationStates.{more_set_faults};
 ghost use Rattle.station_book.specs.Faults.{first_of};
 ghost use Rattle.station_book.specs.Slots.{closing_faults};
 ghost use Rattle.station_book.specs.TwoFaces.{AreOnCircle};
@@ -15,7 +16,6 @@ ghost use Rattle.indexmap.specs.IndexMap.{spare};
 
 use crate::angles::Reading;
 use crate::bounds::MOST_STATIONS;
-use crate::earlier_station::EarlierStation;
 use crate::fault::{BookKind, Refusal};
 use crate::limits::Limits;
 use crate::station_so_far::StationSoFar;
@@ -28,29 +28,51 @@ use std::marker::Model;
 use std::mem;
 
 /// The stations that have sets, in the order of their first sets. Blocks add to the last one, which
-/// alone has a table of its targets.
+/// alone has a table of its targets; the others are kept as they are answered.
 #[derive(Drop)]
 pub(crate) struct StationsSoFar {
     alloc: Global,
-    earlier: IndexMap<Name, EarlierStation>,
+    earlier: IndexMap<Name, Surveyed>,
     last: Option<(Name, StationSoFar)>,
 }
 
 impl Model for StationsSoFar {
-    ghost use Rattle.station_book.specs.StationStates.{StationStates, OlderMayEnd, states_of};
-    ghost use Rattle.station_book.specs.StationStates.{IsAfter};
+    ghost use Rattle.station_book.specs.StationStates.{StationStates, states_of, IsAfter};
+    ghost use Rattle.station_book.specs.StationStates.{AreByName};
 
     ghost Value = { StationStates };
 
     ghost view = { λ s. states_of s.last s.earlier.entries };
 
-    ghost invariant = { λ s. OlderMayEnd (states_of s.last s.earlier.entries)
-        × IsAfter s.last s.earlier.entries };
+    ghost invariant = { λ s. AreByName s.earlier.entries × IsAfter s.last s.earlier.entries };
+}
+
+/// How many stations a small file has at most. There is room for so many at once, and then for as
+/// many as a file may have: so few are moved as more come, and small files take little memory.
+const FEW_STATIONS: usize = 16;
+
+/// Makes room for a station more.
+fn reserve_station(stations: &mut IndexMap<Name, Surveyed>) -> Result<(), AllocError>
+    ensures entries { stations.new.entries ≡ stations.old.entries }
+    ensures room { OnOk result (0 < spare stations.new) }
+{
+    let count = stations.len();
+    if count < stations.capacity() {
+        return Ok(());
+    }
+    let more = if count < FEW_STATIONS {
+        FEW_STATIONS
+    } else {
+        MOST_STATIONS
+    };
+    stations.reserve(more)
 }
 
 /// Adds a station of a new name, for which there is room.
-fn push_station(stations: &mut IndexMap<Name, EarlierStation>, name: Name, station: EarlierStation)
-    requires new { is_known name stations.old.entries ≡ false }
+// Within its two callers: a call moves what the station gave once more.
+#[inline(always)]
+fn push_station(stations: &mut IndexMap<Name, Surveyed>, name: Name, station: Surveyed)
+    requires new { is_among name stations.old.entries ≡ false }
     requires room { 0 < spare stations.old }
     ensures { stations.new.entries ≡ stations.old.entries ++ (name, station) ∷ [] }
 {
@@ -71,7 +93,7 @@ impl StationsSoFar {
 
     /// How many stations there are.
     fn len(&self) -> usize
-        ensures { result ≡ length self.now }
+        ensures { result ≡ count_of self.now }
     {
         match self.last {
             Some(_) => self.earlier.len() + 1,
@@ -92,7 +114,7 @@ impl StationsSoFar {
     /// The last station.
     #[inline(always)]
     fn last(&self) -> &StationSoFar
-        requires { 0 < length self.now }
+        requires { 0 < count_of self.now }
         ensures { result.now ≡ last_of self.now }
     {
         &self.last.as_ref().unwrap().1
@@ -100,7 +122,7 @@ impl StationsSoFar {
 
     /// The fault of the last set, if it ends here.
     pub(crate) fn end_fault(&self) -> Option<BookKind>
-        requires { 0 < length self.now }
+        requires { 0 < count_of self.now }
         ensures { result ≡ first_of (closing_faults (last_of self.now).slots) }
     {
         self.last().end_fault()
@@ -120,10 +142,10 @@ impl StationsSoFar {
                 self.last = Some((name, begun));
             }
             Some((last, station)) => {
-                self.earlier.reserve(1)?;
-                let ended = station.become_another(self.alloc, number)?;
+                reserve_station(&mut self.earlier)?;
+                let surveyed = station.become_another(*last, self.alloc, number)?;
                 let before = mem::replace(last, name);
-                push_station(&mut self.earlier, before, ended);
+                push_station(&mut self.earlier, before, surveyed);
             }
         }
         Ok(())
@@ -150,7 +172,7 @@ impl StationsSoFar {
 
     /// Opens a further set of the last station.
     pub(crate) fn open_further(&mut self, number: u16) -> Result<(), Refusal>
-        requires some { 0 < length self.old }
+        requires some { 0 < count_of self.old }
         requires may_end { MayEnd (last_of self.old) }
         requires number { IsSetNumber number }
         ensures clean { OnOk result (first_of (more_set_faults (last_of self.old) number) ≡ None) }
@@ -170,7 +192,7 @@ impl StationsSoFar {
     /// A reading in the last set of the last station.
     #[inline(always)]
     pub(crate) fn take_reading(&mut self, limits: Limits, reading: Reading) -> Result<(), BookKind>
-        requires some { 0 < length self.old }
+        requires some { 0 < count_of self.old }
         requires angle { AreOnCircle reading.angles }
         ensures clean { OnOk result
             (first_of (state_faults limits (last_of self.old) reading) ≡ None) }
@@ -183,9 +205,10 @@ impl StationsSoFar {
         station.take_reading(limits, reading)
     }
 
-    /// All stations by name, the last one among them.
-    fn ended(self) -> Result<IndexMap<Name, EarlierStation>, AllocError>
-        ensures { IfOk result (λ stations. stations.entries ≡ reverse self) }
+    /// The stations, with the observations of all sets.
+    pub(crate) fn finish(self) -> Result<Stations, AllocError>
+        requires { LastMayEnd self }
+        ensures { IfOk result (λ s. s ≡ surveys_of self) }
     {
         let StationsSoFar {
             alloc,
@@ -193,26 +216,10 @@ impl StationsSoFar {
             mut last,
         } = self;
         let Some((name, station)) = last.take() else {
-            return Ok(earlier);
+            return Ok(Stations { surveyed: earlier });
         };
         earlier.reserve(1)?;
-        push_station(&mut earlier, name, station.ended(alloc)?);
-        Ok(earlier)
-    }
-
-    /// The stations, with the observations of all sets.
-    pub(crate) fn finish(self) -> Result<Stations, AllocError>
-        requires { LastMayEnd self }
-        ensures { IfOk result (λ s. s ≡ surveys_of self) }
-    {
-        let alloc = self.alloc;
-        let stations = self.ended()?;
-        let mut surveyed = IndexMap::with_capacity(alloc, stations.len())?;
-        let mut rest = stations.into_iter();
-        'stations: while let Some((name, ended)) = rest.next() {
-            let station = ended.close(name)?;
-            surveyed.insert(name, station)?;
-        }
-        Ok(Stations { surveyed })
+        push_station(&mut earlier, name, station.close(name, alloc)?);
+        Ok(Stations { surveyed: earlier })
     }
 }

@@ -193,11 +193,12 @@ impl Targets {
         self.last = place;
     }
 
-    /// Lets all targets go, and keeps the room.
+    /// Lets all targets go, and keeps the room. Few are taken out one by one: that costs less than to
+    /// clear a table for as many as a station may have.
     pub(crate) fn clear(&mut self)
         ensures { self.new ≡ record { names = []; slots = [] } }
     {
-        self.slots.clear();
+        self.slots.truncate(0);
     }
 
     /// Takes all readings out.

@@ -1,6 +1,6 @@
 //! Worked lines, words, names and angles.
 
-use gsi_word::steps::{LANES, is_plain_reading, printable_run};
+use gsi_word::steps::{LANES, is_plain_reading, printable_run, reading_angles, reading_block};
 use gsi_word::{
     AngleFault, CODE_INFORMATION, CODE_NUMBER, Found, HORIZONTAL_DIRECTION, LineFault,
     POINT_NUMBER, VERTICAL_ANGLE, Word, decimal_number, laws, read_block,
@@ -100,7 +100,7 @@ fn a_line_that_is_no_block_has_a_first_fault(rt: HostRuntime) {
 
 #[test]
 fn a_line_is_a_reading_as_most_are_written(rt: HostRuntime) {
-    const ROWS: [(&[u8], bool); 20] = [
+    const ROWS: [(&[u8], bool); 42] = [
         (b"110003+0000000A 21.102+00000000 22.102+10000000", true),
         (b"110003+0000000A 21.102+00000000 22.102+10000000 ", true),
         (b"11~!!~+ pillar7 21~!32+39999999 22...2+00000000", true),
@@ -124,9 +124,130 @@ fn a_line_is_a_reading_as_most_are_written(rt: HostRuntime) {
         (b"110003+0000000A 21.102+00000000 22.1/2+10000000", false),
         (b"110003+0000000A 21.102+0000000A 22.102+10000000", false),
         (b"110003+0000000A 21.102+40000000 22.102+10000000", false),
+        // Further words.
+        (
+            b"110003+0000000A 21.102+00000000 22.102+10000000 31..00+00045678",
+            true,
+        ),
+        (
+            b"110003+0000000A 21.102+00000000 22.102+10000000 31..00+00045678 ",
+            true,
+        ),
+        (
+            b"110003+0000000A 21.102+00000000 22.102+10000000 51....+0010+000 87..10+00001500",
+            true,
+        ),
+        (
+            b"110003+0000000A 21.102+00000000 22.102+10000000 31..00+00045678  ",
+            false,
+        ),
+        (
+            b"110003+0000000A 21.102+00000000 22.102+10000000 31..00+0004567",
+            false,
+        ),
+        (
+            b"110003+0000000A 21.102+00000000 22.102+10000000 31..00-00045678",
+            false,
+        ),
+        (
+            b"110003+0000000A 21.102+00000000 22.102+10000000 21.102+00000000",
+            false,
+        ),
+        (
+            b"110003+0000000A 21.102+00000000 22.102+10000000 22.102+10000000",
+            false,
+        ),
+        (
+            b"110003+0000000A 21.102+00000000 22.102+10000000 110003+0000000A",
+            false,
+        ),
+        (
+            b"110003+0000000A 21.102+00000000 22.102+10000000 410003+0000000A",
+            false,
+        ),
+        (
+            b"110003+0000000A 21.102+00000000 22.102+10000000 31..00+00045678 410003+0000000A",
+            false,
+        ),
+        // GSI-16.
+        (
+            b"*110003+000000000000000A 21.102+0000000000000000 22.102+0000000010000000",
+            true,
+        ),
+        (
+            b"*110003+000000000000000A 21.102+0000000039999999 22.102+0000000010000000 ",
+            true,
+        ),
+        (
+            b"*11~!!~+a pillar of iron 21~!32+0000000039999999 22...2+0000000000000000",
+            true,
+        ),
+        (
+            b"*110003+000000000000000A 21.102+0000000000000000 22.102+0000000010000000  ",
+            false,
+        ),
+        (
+            b"*110003+000000000000000A 21.102+0000000000000000 22.102+000000001000000",
+            false,
+        ),
+        (
+            b"*110003+000000000000000A 21.102+0000000000000000 31..00+0000000010000000",
+            false,
+        ),
+        (
+            b"*110003+000000000000000A 21.102+0000000040000000 22.102+0000000010000000",
+            false,
+        ),
+        (
+            b"*110003+000000000000000A 21.102+0000000100000000 22.102+0000000010000000",
+            false,
+        ),
+        (
+            b"*110003+000000000000000A 21.102+0000000000000000 22.102+0000000100000000",
+            false,
+        ),
+        (
+            b"*110003+000000000000000A 21.1/2+0000000000000000 22.102+0000000010000000",
+            false,
+        ),
+        (
+            b"110003+000000000000000A 21.102+0000000000000000 22.102+0000000010000000 ",
+            false,
+        ),
     ];
     for (row, (line, reading)) in ROWS.iter().enumerate() {
         assert_eq!(rt; is_plain_reading(line), *reading, "row {row}");
+    }
+}
+
+#[test]
+fn such_a_reading_is_read_as_its_block(rt: HostRuntime) {
+    const ROWS: [&[u8]; 5] = [
+        b"110003+0000000A 21.102+01234567 22.102+39999999",
+        b"110003+0000000A 21.102+39999999 22.102+07654321 ",
+        b"110003+0000000A 21.102+01234567 22.102+39999999 31..00+00045678",
+        b"110003+0000000A 21.102+01234567 22.102+39999999 31..00+00045678 87..10+00001500 ",
+        b"*110003+000000000000000A 21.102+0000000001234567 22.102+0000000039999999",
+    ];
+    for (row, line) in ROWS.iter().enumerate() {
+        assert!(rt; is_plain_reading(line), "row {row}");
+        let block = read_block(line).expect(&rt, "it is a block");
+        let found = reading_block(line);
+        assert_eq!(rt; found.len(), block.len(), "row {row}");
+        assert_eq!(rt; found.width(), block.width(), "row {row}");
+        assert_eq!(rt; found.first().name(), block.first().name(), "row {row}");
+        let (hz, zenith) = reading_angles(line);
+        let (direction, vertical) = block.find_two(HORIZONTAL_DIRECTION, VERTICAL_ANGLE);
+        assert_eq!(rt; angle_in(direction), Some(hz), "row {row}");
+        assert_eq!(rt; angle_in(vertical), Some(zenith), "row {row}");
+    }
+}
+
+/// The angle of a word that was found.
+fn angle_in(found: Found<'_>) -> Option<u32> {
+    match found {
+        Found::One(word) => word.angle().ok(),
+        _ => None,
     }
 }
 

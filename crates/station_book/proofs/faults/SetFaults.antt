@@ -3,7 +3,6 @@ use Rattle.std.proofs.Common.{◌≡◌, ℕ, suc, Bool, true, false, leb, eqb, 
 use Rattle.std.proofs.Common.{◌++◌, length, map, Option, Some, None, is_none, refl, sym, ap, ◌∙◌}
 use Rattle.std.proofs.Common.{inl, inr}
 use Rattle.std.specs.List.{list_any}
-use Rattle.std.specs.Str.{bytes_eq}
 use Rattle.std.proofs.lemmas.Bool.{cases_Bool, false≢true}
 use Rattle.std.proofs.lemmas.List.{length-map}
 use Rattle.std.proofs.lemmas.List.Folds.{list_any-append}
@@ -18,15 +17,15 @@ use Rattle.station_book.specs.Faults.{when, first_of, open_sets, had_sets, same_
 use Rattle.station_book.specs.Faults.{has_set_number, end_faults, set_faults, fault_at_end}
 use Rattle.station_book.specs.Faults.{IsWithoutFault, name_at}
 use Rattle.station_book.specs.State.{then_fault}
-use Rattle.station_book.specs.StationState.{StationState}
+use Rattle.station_book.specs.Stations.{SurveyedStation}
 use Rattle.station_book.specs.StationStates.{StationStates, last_of, is_known, first_set_faults}
-use Rattle.station_book.specs.StationStates.{more_set_faults}
+use Rattle.station_book.specs.StationStates.{more_set_faults, is_among, count_of, surveyed_so_far}
 use Rattle.station_book.specs.State as states
 use Rattle.gsi_word.specs.Blocks.{GsiBlock}
 use Rattle.station_book.specs.Blocks.{opens_station, opens_set, has_two, number}
 use Rattle.station_book.specs.Places.{number_at, History, Place, before, station, is_empty}
-use Rattle.station_book.specs.Places.{first_sets, sets_of, station_readings}
-use Rattle.station_book.specs.StateOfHistory.{numbers_in, IsStateWith, AreStates, IsStage}
+use Rattle.station_book.specs.Places.{first_sets}
+use Rattle.station_book.specs.StateOfHistory.{numbers_in, AreEarlier, AreStates, IsStage}
 use Rattle.station_book.specs.StateOfHistory.{stations_in}
 use Rattle.station_book.specs.StandsFor.{StandsFor}
 use Rattle.station_book.proofs.lists.Elements.{same_bytes}
@@ -34,7 +33,7 @@ use Rattle.station_book.proofs.places.Steps.{sets-other}
 use Rattle.station_book.proofs.readings.CleanBlocks.{clean_set}
 use Rattle.station_book.proofs.places.StationSets.{had_sets_by_names}
 use Rattle.station_book.proofs.histories.StateHistories.{open_has_set, length_numbers, HasOpenState}
-use Rattle.station_book.proofs.histories.StateHistories.{open_state}
+use Rattle.station_book.proofs.histories.StateHistories.{open_state, all_earlier}
 use Rattle.station_book.proofs.names.FirstOfName.{no_had_sets}
 use Rattle.station_book.proofs.histories.FileEnd.{same_end}
 use Rattle.station_book.proofs.faults.FaultOrder.{first_append}
@@ -61,25 +60,19 @@ any_last : {X : Type 0} (p : X → Bool) (xs : List X) (x : X)
     → list_any p (xs ++ x ∷ []) ≡ (p x || list_any p xs)
 any_last p xs x = list_any-append p xs (x ∷ []) ∙ or_turned (list_any p xs) (p x)
 
--- what is kept of a station has its name
-kept_name : (st : Place) (sets readings : List Place) (e : List ℕ × StationState)
-    → IsStateWith st sets readings e → name_at st ≡ Some e.0
-kept_name st [] readings e k = absurd k
-kept_name st (set ∷ rest) readings e k = k.named_so
-
 -- a station with sets has a name exactly where one that is kept has it
-known_names : (past : History) (name : List ℕ) (sts : List Place) (es : StationStates)
-    → AreStates past sts es
-    → list_any (λ st. same_name (name_at st) (Some name)) sts ≡ list_any (λ e. bytes_eq name e.0) es
+known_names : (past : History) (name : List ℕ) (sts : List Place)
+    (es : List (List ℕ × SurveyedStation)) → AreEarlier past sts es
+    → list_any (λ st. same_name (name_at st) (Some name)) sts ≡ is_among name es
 known_names past name [] [] h = refl
 known_names past name (st ∷ sts) (e ∷ es) h =
     λ i. (ap (λ n. same_name n (Some name))
-    (kept_name st (sets_of st past) (station_readings st past) e h.0)
+    h.0.named_so
     ∙ same_bytes e.0 name) i || known_names past name sts es h.1 i
 known_names past name sts es h = absurd h
 
-one_each : (past : History) (sts : List Place) (es : StationStates) → AreStates past sts es
-    → length sts ≡ length es
+one_each : (past : History) (sts : List Place) (es : List (List ℕ × SurveyedStation))
+    → AreEarlier past sts es → length sts ≡ length es
 one_each past [] [] h = refl
 one_each past (st ∷ sts) (e ∷ es) h = ap suc (one_each past sts es h.1)
 one_each past sts es h = absurd h
@@ -87,9 +80,10 @@ one_each past sts es h = absurd h
 -- as many stations have sets as are kept
 count_stations : (so_far : StationStates) (past : History) → AreStates past
     (stations_in past) so_far
-    → length (first_sets past) ≡ length so_far
+    → length (first_sets past) ≡ count_of so_far
 count_stations so_far past h = sym (length-map (first_sets past) (λ s. station (before s)))
-    ∙ one_each past (stations_in past) so_far h
+    ∙ one_each past (stations_in past) (surveyed_so_far so_far)
+    (all_earlier past (stations_in past) so_far h)
 
 -- StationTwice before the first set of a station
 known_station : (so_far : StationStates) (past : History) (name : List ℕ) → open_sets past ≡ []
@@ -99,7 +93,8 @@ known_station so_far past name none is h =
     had_sets_by_names past none
     ∙ (λ i. list_any (λ s. same_name (name_at (station (before s))) (is i)) (first_sets past))
     ∙ sym (any_map (λ st. same_name (name_at st) (Some name)) (λ s. station (before s))
-    (first_sets past)) ∙ known_names past name (stations_in past) so_far h
+    (first_sets past)) ∙ known_names past name (stations_in past) (surveyed_so_far so_far)
+    (all_earlier past (stations_in past) so_far h)
 
 -- the numbers of a station's sets
 any_numbers : (n : ℕ) (sets : List Place)
@@ -162,7 +157,7 @@ first_opening : (so_far : StationStates) (past : History) (name : List ℕ) (n :
 first_opening so_far past name n inside is none h =
     let had = known_station so_far past name none is h in
     let count = count_stations so_far past h in
-    first_set_tests (is_known name so_far) (leb 1000 (length so_far))
+    first_set_tests (is_known name so_far) (leb 1000 (count_of so_far))
     ∙ sym (λ i. first_of (tests (inside i) false (had i)
     (list_any (λ s. same_number (number_at s) (Some n)) (none i))
     (is_empty (none i) && leb 1000 (count i)) (leb 40 (length (none i)))))

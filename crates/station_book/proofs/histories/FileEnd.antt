@@ -1,9 +1,10 @@
 -- The end of a set and of the file: the faults and the stations by what is kept are those by the
 -- blocks.
-use Rattle.std.proofs.Common.{◌≡◌, ℕ, true, false, ◌&&◌, ◌||◌, List, [], ◌∷◌, map, reverse, Option}
+use Rattle.std.proofs.Common.{◌≡◌, ℕ, true, false, ◌&&◌, ◌||◌, List, [], ◌∷◌, reverse, Option}
 use Rattle.std.proofs.Common.{Some, None, is_some, is_none, refl, sym, ap, ◌∙◌, inl, inr, subst}
 use Rattle.std.specs.List.{list_any, list_all, AllByRecursion}
 use Rattle.std.specs.Str.{bytes_eq}
+use Rattle.std.specs.Map.{values_of}
 use Rattle.std.proofs.lemmas.List.{reverse-reverse}
 use Rattle.std.proofs.lemmas.Slice.Eq.{bytes_eq-Decides}
 use Rattle.station_book.specs.declared.face.Face.{Face}
@@ -15,13 +16,14 @@ use Rattle.station_book.specs.declared.stage.Stage.TheVariants.{InSet}
 use Rattle.station_book.specs.Faults.{when, first_of, open_readings, has_one_face, fault_at_end}
 use Rattle.station_book.specs.Faults.{face_at}
 use Rattle.station_book.specs.Slots.{is_unread, is_single}
-use Rattle.station_book.specs.StationStates.{StationStates, last_of, survey_of, surveys_of}
+use Rattle.station_book.specs.StationStates.{StationStates, last_of, surveys_of}
+use Rattle.station_book.specs.StationStates.{surveyed_so_far}
 use Rattle.station_book.specs.Stations.{SurveyedStation}
 use Rattle.station_book.specs.State.{State, ending}
 use Rattle.station_book.specs.Places.{History, Place, station, opening, is_empty, is_open}
 use Rattle.station_book.specs.Places.{reading_in, sets_of, station_readings, target_at}
 use Rattle.station_book.specs.StateOfHistory.{in_set, angles_of, slot_of, slots_of, IsComputed}
-use Rattle.station_book.specs.StateOfHistory.{AreStates, stations_in, IsStage}
+use Rattle.station_book.specs.StateOfHistory.{AreStates, AreEarlier, stations_in, IsStage}
 use Rattle.station_book.specs.StandsFor.{StandsFor}
 use Rattle.station_book.proofs.lists.Elements.{In, any_to}
 use Rattle.station_book.proofs.places.Steps.{open_targets}
@@ -29,7 +31,7 @@ use Rattle.station_book.proofs.readings.FaceReadings as faces
 use Rattle.station_book.proofs.readings.FaceReadings.{IsKept, some_there}
 use Rattle.station_book.proofs.readings.CleanBlocks.{open_kept}
 use Rattle.station_book.proofs.readings.SetReadings.{open_in_set}
-use Rattle.station_book.proofs.histories.StateHistories.{open_set, open_has_set, survey_is}
+use Rattle.station_book.proofs.histories.StateHistories.{open_set, open_has_set, all_earlier}
 use Rattle.station_book.proofs.histories.StateHistories.{open_state}
 use Rattle.indexmap.proofs.ReorderLemmas.{map-reverse}
 use Rattle.std.proofs.lemmas.Bool.{and_left, and_right}
@@ -137,10 +139,10 @@ AreComputed h (st ∷ sts) [] = ⊥
 AreComputed h (st ∷ sts) (s ∷ ss) = IsComputed st (sets_of st h) (station_readings st h) s
     × AreComputed h sts ss
 
-answers : (h : History) (sts : List Place) (es : StationStates) → AreStates h sts es
-    → AreComputed h sts (map survey_of es)
+answers : (h : History) (sts : List Place) (es : List (List ℕ × SurveyedStation))
+    → AreEarlier h sts es → AreComputed h sts (values_of es)
 answers h [] [] k = k
-answers h (st ∷ sts) (e ∷ es) k = (survey_is h st e k.0, answers h sts es k.1)
+answers h (st ∷ sts) (e ∷ es) k = (k.0.computed, answers h sts es k.1)
 answers h sts es k = k
 
 -- THE LAW of the answer: what is kept gives the stations of the blocks
@@ -148,6 +150,8 @@ pub same_stations : (k : State) (past : History) → StandsFor k.limits k past
     → AreComputed past (stations_in past) (reverse (surveys_of k.stations))
 same_stations k past h =
     subst (λ (ss : List SurveyedStation). AreComputed past (stations_in past) ss)
-    (ap (map survey_of) (sym (reverse-reverse k.stations)) ∙ map-reverse survey_of
-    (reverse k.stations))
-    (answers past (stations_in past) k.stations h.stations)
+    (ap values_of (sym (reverse-reverse all)) ∙ map-reverse (λ e. e.1) (reverse all))
+    (answers past (stations_in past) all (all_earlier past (stations_in past) k.stations h.stations))
+  where
+    all : List (List ℕ × SurveyedStation)
+    all = surveyed_so_far k.stations

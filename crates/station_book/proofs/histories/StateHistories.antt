@@ -1,7 +1,7 @@
 -- What is kept of a station stands for it: after its first set, after a further set, and, where
 -- another station is open, after any block.
 use Rattle.std.proofs.Common.{◌≡◌, ℕ, suc, ◌-◌, ◌<◌, ◌≤◌, Bool, true, false, cond, ◌&&◌, List, []}
-use Rattle.std.proofs.Common.{◌∷◌, ◌++◌, length, map, filter, replicate, Some, refl, sym, ap, ◌∙◌}
+use Rattle.std.proofs.Common.{◌∷◌, ◌++◌, length, map, filter, replicate, Some, None, refl, sym, ap, ◌∙◌}
 use Rattle.std.proofs.Common.{inl, inr, ◌⊎◌, subst, arith}
 use Rattle.std.specs.List.{AllByRecursion}
 use Rattle.std.proofs.lemmas.Bool.{cases_Bool, false≢true, and_parts, ne_eqb, eq-eqb, and_left}
@@ -12,7 +12,9 @@ use Rattle.station_book.specs.StationState.{StationState, begun, with_set, with_
 use Rattle.station_book.specs.declared.angles.Reading.{Reading}
 use Rattle.station_book.proofs.histories.ReadingHistories.{Says, IsInNone, reading_state}
 use Rattle.station_book.proofs.histories.ReadingHistories.{all_filter}
+use Rattle.station_book.specs.Stations.{SurveyedStation}
 use Rattle.station_book.specs.StationStates.{StationStates, survey_of, with_station, last_of}
+use Rattle.station_book.specs.StationStates.{surveyed_so_far}
 use Rattle.station_book.proofs.readings.SetReadings.{none_in_later}
 use Rattle.station_book.proofs.states.NewestState.{HasNewest}
 use Rattle.gsi_word.specs.Blocks.{GsiBlock}
@@ -23,7 +25,8 @@ use Rattle.station_book.specs.Places.{sets_of, station_readings, first_sets}
 use Rattle.station_book.specs.Faults.{open_sets, name_at}
 use Rattle.station_book.specs.StateOfHistory.{in_set, slots_of, targets_in, obs_in, faces_in}
 use Rattle.station_book.specs.StateOfHistory.{numbers_in, IsStateOf, IsStateWith, IsStateAt}
-use Rattle.station_book.specs.StateOfHistory.{IsComputed, stations_in, AreStates}
+use Rattle.station_book.specs.StateOfHistory.{IsComputed, stations_in, AreStates, IsEarlierAt}
+use Rattle.station_book.specs.StateOfHistory.{AreEarlier}
 use Rattle.station_book.proofs.places.Owners.{length-last, belonging-more, belonging-same}
 use Rattle.station_book.proofs.places.Owners.{belonging-fresh, belonging-older, owners_in_order}
 use Rattle.station_book.proofs.places.Steps.{no_set_at_station, no_station_at_set}
@@ -113,12 +116,39 @@ stays : (st : Place) (e : List ℕ × StationState) (b : GsiBlock) (past : Histo
     → IsStateAt (b ∷ past) st e
 stays st e b past sets readings h = rw (sets, readings) h
 
+-- The same of an earlier station.
+earlier_stays : (st : Place) (e : List ℕ × SurveyedStation) (b : GsiBlock) (past : History)
+    → sets_of st (b ∷ past) ≡ sets_of st past
+    → station_readings st (b ∷ past) ≡ station_readings st past → IsEarlierAt past st e
+    → IsEarlierAt (b ∷ past) st e
+earlier_stays st e b past sets readings h =
+    record { named_so = h.named_so; computed = rw (sets, readings) h.computed }
+
+-- what is kept of a station has its name
+kept_name : (st : Place) (sets readings : List Place) (e : List ℕ × StationState)
+    → IsStateWith st sets readings e → name_at st ≡ Some e.0
+kept_name st [] readings e k = absurd k
+kept_name st (set ∷ rest) readings e k = k.named_so
+
+-- what all stations give, where the file ends here
+pub all_earlier : (h : History) (sts : List Place) (s : StationStates) → AreStates h sts s
+    → AreEarlier h sts (surveyed_so_far s)
+all_earlier h [] None k = k
+all_earlier h (st ∷ sts) (Some s) k = (
+  record {
+    named_so = kept_name st (sets_of st h) (station_readings st h) s.0 k.0;
+    computed = survey_is h st s.0 k.0;
+  },
+  k.1,
+)
+all_earlier h sts s k = k
+
 -- Whatever block comes, what is kept of the stations before the open one stays as it is.
-older_stay : (sts : List Place) (es : StationStates) (b : GsiBlock) (past : History)
-    → AllBefore (station past) sts → AreStates past sts es
-    → AreStates (b ∷ past) sts es
+older_stay : (sts : List Place) (es : List (List ℕ × SurveyedStation)) (b : GsiBlock)
+    (past : History) → AllBefore (station past) sts → AreEarlier past sts es
+    → AreEarlier (b ∷ past) sts es
 older_stay (st ∷ sts) (e ∷ es) b past all h = (
-  stays st e b past (belonging-older opens_station is_set st b past all.0)
+  earlier_stays st e b past (belonging-older opens_station is_set st b past all.0)
       (belonging-older opens_station is_reading st b past all.0) h.0,
   older_stay sts es b past all.1 h.1,
 )
@@ -190,15 +220,25 @@ idle : (p : GsiBlock → Bool) (kind : Place → Bool) (owner : Place) (b : GsiB
     ≡ filter (λ place. kind place && is_same (last p (before place)) owner) (places past)
 idle p kind owner b past e = rw e
 
-all_idle : (sts : List Place) (es : StationStates) (b : GsiBlock) (past : History)
-    → opens_set b ≡ false → is_reading (b ∷ past) ≡ false → AreStates past sts es
-    → AreStates (b ∷ past) sts es
-all_idle (st ∷ sts) (e ∷ es) b past n r h = (
-  stays st e b past (idle opens_station is_set st b past n)
+earlier_idle : (sts : List Place) (es : List (List ℕ × SurveyedStation)) (b : GsiBlock)
+    (past : History) → opens_set b ≡ false → is_reading (b ∷ past) ≡ false
+    → AreEarlier past sts es → AreEarlier (b ∷ past) sts es
+earlier_idle (st ∷ sts) (e ∷ es) b past n r h = (
+  earlier_stays st e b past (idle opens_station is_set st b past n)
       (idle opens_station is_reading st b past r) h.0,
-  all_idle sts es b past n r h.1,
+  earlier_idle sts es b past n r h.1,
 )
-all_idle sts es b past n r h = h
+earlier_idle sts es b past n r h = h
+
+all_idle : (sts : List Place) (s : StationStates) (b : GsiBlock) (past : History)
+    → opens_set b ≡ false → is_reading (b ∷ past) ≡ false → AreStates past sts s
+    → AreStates (b ∷ past) sts s
+all_idle (st ∷ sts) (Some s) b past n r h = (
+  stays st s.0 b past (idle opens_station is_set st b past n)
+      (idle opens_station is_reading st b past r) h.0,
+  earlier_idle sts s.1 b past n r h.1,
+)
+all_idle sts s b past n r h = h
 
 same_stations : (b : GsiBlock) (past : History) → opens_set b ≡ false
     → stations_in (b ∷ past) ≡ stations_in past
@@ -305,7 +345,8 @@ states_first so_far b past name n s set none named_so numbered h =
     subst (λ (sts : List Place). AreStates (b ∷ past) sts (with_station name n so_far))
     (sym stations) (
       head,
-      older_stay (stations_in past) so_far b past older h,
+      older_stay (stations_in past) (surveyed_so_far so_far) b past older
+          (all_earlier past (stations_in past) so_far h),
     )
   where
     stations : stations_in (b ∷ past) ≡ station past ∷ stations_in past
@@ -337,18 +378,18 @@ none_to_come b past st = none_in_later
     (λ place. is_reading place && is_same (station (before place)) st) (b ∷ past) past (omega arith)
 
 -- all stations after a further set of the open one
-pub states_further : (x : List ℕ × StationState) (es : StationStates) (b : GsiBlock)
-    (past : History) (n : ℕ)
+pub states_further : (x : List ℕ × StationState) (es : List (List ℕ × SurveyedStation))
+    (b : GsiBlock) (past : History) (n : ℕ)
     → opens_station b ≡ false → opens_set b ≡ true → is_empty (open_sets past) ≡ false
-    → number b ≡ Some n → AreStates past (stations_in past) (x ∷ es)
-    → AreStates (b ∷ past) (stations_in (b ∷ past)) ((x.0, with_set n x.1) ∷ es)
+    → number b ≡ Some n → AreStates past (stations_in past) (Some (x, es))
+    → AreStates (b ∷ past) (stations_in (b ∷ past)) (Some ((x.0, with_set n x.1), es))
 states_further x es b past n s set some numbered h =
     let p = open_last past some in
     let same : stations_in (b ∷ past) ≡ stations_in past = ap
     (λ v. map (λ t. station (before t))
     (cond v ((b ∷ past) ∷ first_sets past) (first_sets past))) (λ i. set i && some i) in
-    let k = subst (λ (sts : List Place). AreStates past sts (x ∷ es)) p.stations h in
-    subst (λ (sts : List Place). AreStates (b ∷ past) sts ((x.0, with_set n x.1) ∷ es))
+    let k = subst (λ (sts : List Place). AreStates past sts (Some (x, es))) p.stations h in
+    subst (λ (sts : List Place). AreStates (b ∷ past) sts (Some ((x.0, with_set n x.1), es)))
     (sym (same ∙ p.stations)) (head k.0, older_stay p.rest es b past p.older k.1)
   where
     further : (sets : List Place)
@@ -381,8 +422,8 @@ newest_there s past some h =
   where
     of_first : (sts : List Place) (es : StationStates) → AreStates past (station past ∷ sts) es
         → HasNewest es
-    of_first sts [] k = absurd k
-    of_first sts (x ∷ es) k = record { newest = x; older = es; is = refl }
+    of_first sts None k = absurd k
+    of_first sts (Some e) k = record { newest = e.0; older = e.1; is = refl }
 
 in_none : (b : GsiBlock) (past : History) (readings older : List Place)
     → AllBefore (opening past) older
@@ -396,15 +437,14 @@ in_none b past readings (s ∷ older) all = (
 )
 
 -- all stations after a reading
-pub states_reading : (x : List ℕ × StationState) (es : StationStates) (b : GsiBlock)
-    (past : History)
-    (s : Reading) → is_opening b ≡ false → is_reading (b ∷ past) ≡ true → is_open past ≡ true
-    → Says s (b ∷ past) → AreStates past (stations_in past) (x ∷ es)
-    → AreStates (b ∷ past) (stations_in (b ∷ past)) ((x.0, with_reading s x.1) ∷ es)
+pub states_reading : (x : List ℕ × StationState) (es : List (List ℕ × SurveyedStation))
+    (b : GsiBlock) (past : History) (s : Reading) → is_opening b ≡ false → is_reading (b ∷ past) ≡ true → is_open past ≡ true
+    → Says s (b ∷ past) → AreStates past (stations_in past) (Some (x, es))
+    → AreStates (b ∷ past) (stations_in (b ∷ past)) (Some ((x.0, with_reading s x.1), es))
 states_reading x es b past s o reading now says h =
     let p = open_last past (open_has_set past now) in
-    let k = subst (λ (sts : List Place). AreStates past sts (x ∷ es)) p.stations h in
-    subst (λ (sts : List Place). AreStates (b ∷ past) sts ((x.0, with_reading s x.1) ∷ es))
+    let k = subst (λ (sts : List Place). AreStates past sts (Some (x, es))) p.stations h in
+    subst (λ (sts : List Place). AreStates (b ∷ past) sts (Some ((x.0, with_reading s x.1), es)))
     (sym (same_stations b past no_set ∙ p.stations))
     (head k.0, older_stay p.rest es b past p.older k.1)
   where
@@ -457,15 +497,16 @@ open_state so_far past some h =
     let p = open_last past some in
     of_newest p.rest so_far (subst (λ (sts : List Place). AreStates past sts so_far) p.stations h)
   where
-    of_sets : (x : List ℕ × StationState) (es : StationStates) (sets : List Place)
+    of_sets : (x : List ℕ × StationState) (es : List (List ℕ × SurveyedStation))
+        (sets : List Place)
         → open_sets past ≡ sets
         → IsStateWith (station past) sets (station_readings (station past) past) x
-        → HasOpenState past (x ∷ es)
+        → HasOpenState past (Some (x, es))
     of_sets x es [] s k = absurd k
     of_sets x es (set ∷ rest) s k =
         record { newest = set; older = rest; sets = s; name = x.0; is = k }
 
     of_newest : (sts : List Place) (es : StationStates) → AreStates past (station past ∷ sts) es
         → HasOpenState past es
-    of_newest sts [] k = absurd k
-    of_newest sts (y ∷ es) k = of_sets y es (open_sets past) refl k.0
+    of_newest sts None k = absurd k
+    of_newest sts (Some y) k = of_sets y.0 y.1 (open_sets past) refl k.0

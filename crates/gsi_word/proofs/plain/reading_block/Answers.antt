@@ -1,8 +1,7 @@
-use Rattle.gsi_word.proofs.PlainLines.{reading_line}
+use Rattle.std.proofs.Common.{sym, subst}
+use Rattle.gsi_word.specs.Blocks.{IsBlock}
 use Rattle.gsi_word.proofs.plain.reading_block.Goals as goal
 
-pub invariant_of-result : goal.invariant_of-result
-invariant_of-result c = record { kept = (reading_line c.args.line.now c.requires).block.kept }
-
 pub returns : goal.returns
-returns c = (reading_line c.args.line.now c.requires).block.block
+returns c =
+    subst (IsBlock c.args.line.now) (sym c.block_in.ensures) c.reading_shape.ensures.block

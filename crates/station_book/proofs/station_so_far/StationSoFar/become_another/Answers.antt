@@ -1,49 +1,24 @@
-use Rattle.std.proofs.Common.{rules, ◌≡◌, ℕ, List, [], ◌∷◌, sym, subst, ◌∙◌}
-use Rattle.adjust_kernel.specs.declared.obs.Obs.{Obs}
-use Rattle.station_book.specs.declared.faces.Faces.{Faces}
-use Rattle.station_book.specs.declared.slot.Slot.{Slot}
-use Rattle.station_book.specs.StationState.{StationState, IsStationState, begun}
+use Rattle.std.proofs.Common.{rules, ◌≡◌, length, ap, sym, subst, ◌∙◌}
+use Rattle.adjust_kernel.specs.Stations.{IsStation, station_of}
+use Rattle.station_book.specs.StationState.{MayEnd, closed}
+use Rattle.station_book.proofs.states.StationInvariant.{state_of_parts, is_station, closed_paired}
 use Rattle.station_book.proofs.station_so_far.StationSoFar.become_another.Goals as goal
 
-abbrev state : List (List ℕ) → List Slot → List ℕ → List Obs → List Faces → StationState
-state names slots sets obs faces =
-    record { targets = names; slots = slots; sets = sets; obs = obs; faces = faces }
-
--- what is handed out is what the station was
-was : (c : goal.After-replace-3) → state c.in_ok-targets.targets.items c.in_ok-slots.slots.items
-    c.replace.result.items c.replace-2.result.items c.replace-3.result.items
-    ≡ state c.self.inside.targets.names c.self.inside.targets.slots c.self.inside.sets.items
-    c.self.inside.obs.items c.self.inside.faces.items
-was c =
-    let names : c.in_ok-targets.targets.items ≡ c.self.inside.targets.names = search rules in
-    let slots : c.in_ok-slots.slots.items ≡ c.self.inside.targets.slots = search rules in
-    let sets : c.replace.result.items ≡ c.self.inside.sets.items = search rules in
-    let obs : c.replace-2.result.items ≡ c.self.inside.obs.items = search rules in
-    let faces : c.replace-3.result.items ≡ c.self.inside.faces.items = search rules in
-    λ i. state (names i) (slots i) (sets i) (obs i) (faces i)
-
--- and what stays is a station with its first set
-is : (c : goal.After-replace-3) → state c.clear.new.self.names c.clear.new.self.slots
-    c.replace.new.dest.items c.replace-2.new.dest.items c.replace-3.new.dest.items
-    ≡ begun c.args.number
-is c =
-    let names : c.clear.new.self.names ≡ [] = search rules in
-    let slots : c.clear.new.self.slots ≡ [] = search rules in
-    let sets : c.replace.new.dest.items ≡ c.args.number ∷ [] = search rules in
-    let obs : c.replace-2.new.dest.items ≡ [] = search rules in
-    let faces : c.replace-3.new.dest.items ≡ [] = search rules in
-    λ i. state (names i) (slots i) (sets i) (obs i) (faces i)
+pub from_valid-station-requires : goal.from_valid-station-requires
+from_valid-station-requires c =
+    let e = state_of_parts c.self.inside.targets c.self.inside.sets.items c.self.inside.obs.items
+    c.self.inside.faces.items in
+    let may : MayEnd e = subst MayEnd (sym c.self.view_is) c.requires.may_end in
+    let names : c.in_ok-targets.targets.items ≡ e.targets = search rules in
+    let sets : c.replace-sets.result.items ≡ e.sets = search rules in
+    let obs : c.replace-obs.result.items ≡ (closed e).obs = search rules in
+    subst IsStation (λ i. station_of c.args.name (sym names i) (sym sets i) (sym obs i))
+    (is_station c.args.name e c.recall.ensures c.self.invariant may)
 
 pub invariant_of-result : goal.invariant_of-result
-invariant_of-result c = subst IsStationState (sym (was c)) c.self.invariant
-
-pub invariant_of-self : goal.invariant_of-self
-invariant_of-self c =
-    let first : IsStationState (begun c.args.number) = search rules in
-    subst IsStationState (sym (is c)) first
-
-pub returns-clause-earlier : goal.returns-clause-earlier
-returns-clause-earlier c = was c ∙ c.self.view_is
-
-pub returns-clause-begun : goal.returns-clause-begun
-returns-clause-begun c = is c
+invariant_of-result c =
+    let e = state_of_parts c.self.inside.targets c.self.inside.sets.items c.self.inside.obs.items
+    c.self.inside.faces.items in
+    let faces : c.replace-faces.result.items ≡ (closed e).faces = search rules in
+    let obs : c.from_valid-station.result.obs ≡ (closed e).obs = search rules in
+    ap length faces ∙ closed_paired e c.self.invariant ∙ sym (ap length obs)
