@@ -1,10 +1,12 @@
 -- Lists that agree at each place, or differ at a first one.
 use Rattle.std.proofs.Common.{◌≡◌, ◌≢◌, ℕ, suc, zero, ◌≤◌, ◌<◌, List, [], ◌∷◌, length, take}
 use Rattle.std.proofs.Common.{get_or, Option, Some, None, MatchOption, arith, ap, refl, sym, ◌∙◌}
-use Rattle.std.specs.Prelude.{IfNone, IfSome}
+use Rattle.std.specs.Prelude.{◌↔◌, map, IfNone, IfSome}
 use Rattle.std.specs.List.{slice_get}
+use Rattle.std.specs.Option.{option_map}
 use Rattle.std.proofs.lemmas.List.{take_all}
-use Rattle.std.proofs.lemmas.Option.{slice_get_past, slice_get-get_or}
+use Rattle.std.proofs.lemmas.Option.{slice_get_past, slice_get-get_or, slice_get-map}
+use Rattle.std.proofs.lemmas.Option.{slice_get_read}
 use Rattle.adjust_kernel.specs.Firsts.{IsFirstDifference}
 
 module _ {X : Type 0} where
@@ -43,6 +45,15 @@ module _ {X : Type 0} where
     record { before = agree_to xs ys i (λ k below. h.3 k (omega arith) below); differ = h.2 },
   )
 
+  -- Lists that have these elements at a place agree there exactly where the two are one.
+  pub agree_exactly : (xs ys : List X) (n : ℕ) (x y : X) → slice_get xs n ≡ Some x
+      → slice_get ys n ≡ Some y → {P : Type 0} → (P → x ≡ y) → (x ≡ y → P)
+      → P ↔ (slice_get xs n ≡ slice_get ys n)
+  agree_exactly xs ys n x y e f to from = (
+    λ p. e ∙ ap Some (to p) ∙ sym f,
+    λ same. let one : Some x ≡ Some y = sym e ∙ same ∙ f in from cc,
+  )
+
   -- Lists that agree at each place before both end are one.
   pub same_lists : (xs ys : List X) (n : ℕ) → length xs ≤ n → length ys ≤ n
       → ((k : ℕ) → k < n → slice_get xs k ≡ slice_get ys k) → xs ≡ ys
@@ -58,3 +69,9 @@ module _ {X : Type 0} where
       → slice_get xs n ≢ slice_get ys n
   ended_first xs ys n d a b e = let f : None ≡ Some (get_or ys n d) = sym (slice_get_past xs n a)
       ∙ e ∙ slice_get-get_or ys n d b in cc
+
+-- What a list of what each element says has at a place, where the list itself has this there.
+pub says_at : {X Y : Type 0} (says : X → Y) (xs : List X) (n : ℕ) (x : X) → n < length xs
+    → x ≡ get_or xs n x → slice_get (map says xs) n ≡ Some (says x)
+says_at says xs n x inside here = slice_get-map says xs n
+    ∙ ap (option_map says) (slice_get_read xs (length xs) n x refl inside here)

@@ -31,9 +31,14 @@ pub(crate) fn are_obs(obs: &[Obs], sets: usize, targets: usize) -> bool
     requires targets { targets ≤ MOST_TARGETS }
     ensures { IsTrue result ↔ AreObs sets targets obs.now }
 {
+    are_within(obs, sets, targets) && are_ordered(obs) && has_each(obs, sets, targets)
+}
+
+/// Whether each observation is of one of this many sets and targets, and on the circle.
+fn are_within(obs: &[Obs], sets: usize, targets: usize) -> bool
+    ensures { IsTrue result ↔ All (IsObs sets targets) obs.now }
+{
     obs.iter().all(|each| is_obs(each, sets, targets))
-        && are_ordered(obs)
-        && has_each(obs, sets, targets)
 }
 
 /// Whether the first observation is of an earlier set, or of the same set and an earlier target.

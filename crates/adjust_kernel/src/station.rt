@@ -1,7 +1,7 @@
 //! The station as it was measured.
 
-ghost use Rattle.std.specs.Prelude.{◌≡◌, ◌≢◌, ◌↔◌, ◌≤◌, All, AllPairs, IsTrue, IfSome, IfNone};
-ghost use Rattle.std.specs.Prelude.{length};
+ghost use Rattle.std.specs.Prelude.{◌≡◌, ◌≢◌, ◌↔◌, ◌≤◌, All, AllPairs, Any, IsTrue, IfSome};
+ghost use Rattle.std.specs.Prelude.{IfNone, length};
 ghost use Rattle.std.specs.Bool.{OnTrue};
 ghost use Rattle.adjust_kernel.specs.Names.{IsName};
 ghost use Rattle.adjust_kernel.specs.Stations.{IsStation, AreTargets, AreSets, station_of};
@@ -124,14 +124,20 @@ fn are_different_names(names: &[Name]) -> bool
     ensures valid { OnTrue result (All IsName names.now) }
 {
     for place in 0..names.len() {
-        let name = names[place];
         // For the proof alone: a name keeps the rules of names.
-        name.recall();
-        if names[..place].iter().any(|earlier| earlier.is_same(&name)) {
+        names[place].recall();
+        if is_among(&names[place], &names[..place]) {
             return false;
         }
     }
     true
+}
+
+/// Whether a name is one of these.
+fn is_among(name: &Name, names: &[Name]) -> bool
+    ensures { IsTrue result ↔ Any (λ each. each ≡ name.now) names.now }
+{
+    names.iter().any(|each| each.is_same(name))
 }
 
 /// Whether these are the numbers of a station's sets.
@@ -149,8 +155,7 @@ fn are_different_numbers(numbers: &[u16]) -> bool
     ensures { IsTrue result ↔ AllPairs (λ a b. a ≢ b) numbers.now }
 {
     for place in 0..numbers.len() {
-        let number = numbers[place];
-        if numbers[..place].iter().any(|earlier| *earlier == number) {
+        if numbers[..place].contains(&numbers[place]) {
             return false;
         }
     }

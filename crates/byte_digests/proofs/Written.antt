@@ -116,10 +116,10 @@ partly_all text rest old now p e =
     subst (λ (t : List ℕ). Appends old now t)
     (sym (append-nil p.done) ∙ ap (λ (r : List ℕ). p.done ++ r) (sym e) ∙ p.split) p.got
 
--- What is left of a name begins with its next byte.
-pub next_byte : (name : List ℕ) (i : ℕ) → i < length name
-    → flat_map escaped (drop i name)
-    ≡ escaped (slice_index name i) ++ flat_map escaped (drop (i + 1) name)
-next_byte name i lt =
-    ap (λ (rest : List ℕ). flat_map escaped rest)
+-- What is left of a name begins with its next byte, however a byte is written.
+pub next_byte : (written : ℕ → List ℕ) (name : List ℕ) (i : ℕ) → i < length name
+    → flat_map written (drop i name)
+    ≡ written (slice_index name i) ++ flat_map written (drop (i + 1) name)
+next_byte written name i lt =
+    ap (λ (rest : List ℕ). flat_map written rest)
     (drop-cons name i 0 lt ∙ ap (λ k. slice_index name i ∷ drop k name) (sym (add-one i)))

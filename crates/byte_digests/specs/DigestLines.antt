@@ -24,11 +24,6 @@ escaped byte =
 abbrev pub mark_of : List ℕ → List ℕ
 mark_of name = if list_any is_escaped name then BACKSLASH ∷ [] else []
 
--- The name of a file where it stands on a line of its own text: with its bytes escaped that have to
--- be, and then a backslash before it. So no name ends a line, and each is one text.
-abbrev pub name_text : List ℕ → List ℕ
-name_text name = mark_of name ++ flat_map escaped name
-
 -- The digits of a digest, and the blanks after them.
 abbrev pub digits_of : List ℕ → List ℕ
 digits_of digest = encode_lower digest ++ (BLANK ∷ BLANK ∷ [])

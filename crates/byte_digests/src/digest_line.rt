@@ -9,10 +9,10 @@ ghost use Rattle.byte_ends.specs.Sink.{AppendsSome, failed_after};
 use byte_ends::{Failed, Sink};
 
 /// The byte that an escaped byte of a name begins with, and the line of such a name.
-const BACKSLASH: u8 = b'\\';
+pub(crate) const BACKSLASH: u8 = b'\\';
 
 /// The byte that stands twice between the digits and the name.
-const BLANK: u8 = b' ';
+pub(crate) const BLANK: u8 = b' ';
 
 /// Bytes of the digits, 64, and of the two blanks.
 pub(crate) const BEFORE_NAME: usize = 66;
@@ -21,7 +21,7 @@ pub(crate) const BEFORE_NAME: usize = 66;
 pub(crate) const LINE_FEED: u8 = b'\n';
 
 /// A byte that is escaped in a name.
-const CARRIAGE_RETURN: u8 = b'\r';
+pub(crate) const CARRIAGE_RETURN: u8 = b'\r';
 
 /// What stands for a line feed of a name, after a backslash.
 const LETTER_N: u8 = b'n';
@@ -131,7 +131,7 @@ pub(crate) fn escape_of(byte: u8) -> Option<&'static [u8]>
 }
 
 /// Whether a name has a byte that is escaped.
-fn has_escapes(name: &[u8]) -> bool
+pub(crate) fn has_escapes(name: &[u8]) -> bool
     ensures { result ≡ list_any spec.is_escaped name.now }
 {
     name.iter().any(|&byte| byte == BACKSLASH || byte == LINE_FEED || byte == CARRIAGE_RETURN)

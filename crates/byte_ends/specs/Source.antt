@@ -98,7 +98,9 @@ reader_change told failed gave old new = record {
   is_unasked = new ≡ old;
 }
 
--- A reader was taken in, and what happened to it until it was dropped is so.
+-- A reader was taken in, and what happened to it until it was dropped is so: of some state in which
+-- it may have been dropped. So an answer that memory ran out tells nothing of its reads; a call that
+-- gives the reader back does.
 abbrev pub UntilDropped : {S : Type 0} → (S → Option Told) → (S → Bool)
     → (S → ℕ → List ℕ → Type 0) → S → (ReaderChange → Type 0) → Type 0
 UntilDropped {S} told failed gave taken P =

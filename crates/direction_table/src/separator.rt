@@ -12,7 +12,7 @@ use csv::ByteRecord;
 use std::alloc::{AllocError, Global};
 
 /// By what the fields of a row are separated.
-#[derive(Clone, Copy, Debug, PartialEq, Eq, Drop)]
+#[derive(Clone, Copy, Drop)]
 pub(crate) enum Separator {
     /// A comma.
     Comma,

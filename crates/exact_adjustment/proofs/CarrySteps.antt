@@ -1,16 +1,18 @@
 -- Marks on what has an angle, as they are kept in one list: first the sets, then the targets.
-use Rattle.std.proofs.Common.{◌≡◌, ℕ, zero, suc, ◌+◌, ◌<◌, ◌≤◌, Bool, true, false, List, length}
+use Rattle.std.proofs.Common.{◌≡◌, ℕ, zero, suc, ◌+◌, ◌-◌, ◌<◌, ◌≤◌, Bool, true, false, List, length}
 use Rattle.std.proofs.Common.{set, replicate, ℤ, pos, arith, below_more, refl, sym, ◌∙◌, ap, subst}
 use Rattle.std.proofs.Common.{◌==◌, ◌||◌}
 use Rattle.std.proofs.lemmas.Bool.Decides.{nat_tests}
 use Rattle.std.proofs.lemmas.List.{get_or-set_same, get_or-set_other, get_or-replicate, length-set}
 use Rattle.adjust_kernel.specs.Marks.{mark}
 use Rattle.adjust_kernel.specs.Residuals.{Choice, residual}
-use Rattle.adjust_kernel.specs.Stations.{IsStation, StationValue}
+use Rattle.adjust_kernel.specs.Stations.{IsObs, IsStation, StationValue}
 use Rattle.adjust_kernel.specs.declared.marks.TheConstants.{MOST_NODES}
-use Rattle.exact_adjustment.specs.Carrying.{AreMarked, GoesAlong}
-use Rattle.exact_adjustment.specs.Nearest.{AgreeWhereCarried, Carries, obs_of, place_of, reached}
-use Rattle.exact_adjustment.proofs.ObservedLaws.{nothing_seen, place_inside, seen_at, turned_at}
+use Rattle.exact_adjustment.specs.Carrying.{AgreesIfItCarries, AreMarked, MarksAlong}
+use Rattle.exact_adjustment.specs.Nearest.{AgreeWhereCarried, AreReached, Carries, obs_of}
+use Rattle.exact_adjustment.specs.Nearest.{place_of, reached, steps_of}
+use Rattle.exact_adjustment.proofs.ObservedLaws.{agrees, nothing_seen, place_inside, seen_at}
+use Rattle.exact_adjustment.proofs.ObservedLaws.{turned_at}
 use native.Mathlib.Decide.{dec_le, dec_lt}
 
 -- Before this step all observations that carried agree exactly with the angles.
@@ -54,18 +56,54 @@ or_true false y e = absurd cc
 module _ (station : StationValue) (is_station : IsStation station) (turns : List ℤ)
     (angles : Choice) (each : length turns ≡ length station.obs) (marks : List Bool) (step : ℕ)
     (to : IsCarriedTo station turns angles marks step) where
+  -- The ends of the observation of this step.
+  inside : IsObs (length station.sets) (length station.targets) (obs_of station step)
+  inside = is_station.obs.within (place_of station step)
+      (record { set = 0; target = 0; value = 0 }) (place_inside station is_station step)
+
+  set_marked : mark marks (obs_of station step).set
+      ≡ (reached station step).of_set (obs_of station step).set
+  set_marked = to.marked.of_sets (obs_of station step).set inside.set
+
+  target_marked : mark marks (length station.sets + (obs_of station step).target)
+      ≡ (reached station step).of_target (obs_of station step).target
+  target_marked = to.marked.of_targets (obs_of station step).target inside.target
+
+  -- The observation of this step agrees, if it carries.
+  abbrev pub AgreesHere : Type 0
+  AgreesHere = AgreesIfItCarries (length station.sets) marks angles
+      (turned_at station turns (place_of station step))
+
   -- One more step.
   pub one_step_more : (new : List Bool)
-      → GoesAlong (length station.sets) (length station.targets) marks new angles
-      (turned_at station turns (place_of station step))
-      → IsCarriedTo station turns angles new (step + 1)
-  one_step_more new h = record {
+      → MarksAlong (length station.sets) (length station.targets) marks new (obs_of station step)
+      → AgreesHere → IsCarriedTo station turns angles new (step + 1)
+  one_step_more new along here = record {
     marked = let e : suc step ≡ step + 1 = omega arith in
-        rw (← e) (h.marked (reached station step) to.marked);
+        rw (← e) (along (reached station step) to.marked);
     carried = below_more (λ n. Carries station n
         → residual angles (turned_at station turns (place_of station n)) ≡ pos 0) step to.carried
-        (h.agrees (reached station step) to.marked);
+        (λ carries. here (λ e. carries (sym set_marked ∙ e ∙ target_marked)));
   }
+
+  -- Where all that carry agree, that of this step does.
+  pub agrees_here : AgreeWhereCarried station turns angles → AgreesHere
+  agrees_here all differ = agrees station turns each is_station angles all step
+      (λ e. differ (set_marked ∙ e ∙ sym target_marked))
+
+  -- After the last step marks stand where an angle is.
+  pub all_marked : step ≡ steps_of station → AreReached station → (n : ℕ)
+      → n < length station.sets + length station.targets → mark marks n ≡ true
+  all_marked last all n h = by (dec_lt n (length station.sets))
+    where
+      by : Dec (n < length station.sets) → mark marks n ≡ true
+      by (yes l) = to.marked.of_sets n l ∙ rw (← last) at (all.sets n l)
+      by (no f) =
+          let m = n - length station.sets in
+          let l : m < length station.targets = omega (arith, h, f) in
+          let e : length station.sets + m ≡ n = omega (arith, f) in
+          subst (λ k. mark marks k ≡ true) e
+          (to.marked.of_targets m l ∙ rw (← last) at (all.targets m l))
 
   module _ (all : (n : ℕ) → n < length station.sets + length station.targets
       → mark marks n ≡ true) where
@@ -91,6 +129,11 @@ module _ (station : StationValue) (is_station : IsStation station) (turns : List
           λ t i. or_true _ _ ((before l).1 t i),
         )
         by (no f) before = let e : step ≡ suc n = omega arith in subst AllReached e here
+
+    -- So they are after the last step.
+    pub all_reached : step ≤ steps_of station → AreReached station
+    all_reached l =
+        let r = stay (steps_of station) l in record { sets = r.0; targets = r.1 }
 
     -- Then nothing carries any more, and all that carried agree.
     pub all_agree : AgreeWhereCarried station turns angles

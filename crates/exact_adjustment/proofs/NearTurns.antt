@@ -22,7 +22,7 @@ use Rattle.adjust_kernel.proofs.FirstLaws.{dec_not}
 use Rattle.adjust_kernel.proofs.NearLaws.{AllAreNear, all_near}
 use Rattle.adjust_kernel.proofs.ObservationLaws.{IsPlaced}
 use Rattle.exact_adjustment.specs.Nearest.{Carries, HasNearestTurns, Reached, after, obs_of}
-use Rattle.exact_adjustment.specs.Nearest.{place_of, reached}
+use Rattle.exact_adjustment.specs.Nearest.{place_of, reached, steps_of}
 use Rattle.exact_adjustment.proofs.ObservedLaws.{agrees, obs_at, place_inside, turned_at}
 use Rattle.exact_adjustment.proofs.Products.{none_of, products}
 use native.Mathlib.Decide.{dec_lt}
@@ -116,7 +116,7 @@ module _ (station : StationValue) (is_station : IsStation station) (ks ls : List
       (place_inside station is_station step) in
       let z : pos c.denominator *ℤ residual near.angles (turned_at station ks n) ≡ pos 0 =
       ap (λ y. pos c.denominator *ℤ y)
-      (agrees station ks each is_station near.angles near.carried step h) ∙ omega (arith, ints) in
+      (agrees station ks each is_station near.angles near.nearest.carried step h) ∙ omega (arith, ints) in
       let w = carried step h in
       (record { set_in = o.set; target_in = o.target }, omega (arith, ints, change n, z, w))
 
@@ -160,26 +160,26 @@ module _ (station : StationValue) (is_station : IsStation station) (ks ls : List
       by (no f) g before = one_further p q (q 0) (obs_of station step) (reached station step)
           (λ c. absurd (f c)) (before g)
 
-  not_divided : IsDivided sets targets (carriers near.reached.steps) → ⊥
+  not_divided : IsDivided sets targets (carriers (steps_of station)) → ⊥
   not_divided d =
       let e = in_one true d.first_part in let f = in_one false d.second_part in cc
     where
       all : LieIn d.part_of_set d.part_of_target (d.part_of_target 0)
-          (reached station near.reached.steps)
-      all = in_part d.part_of_set d.part_of_target near.reached.steps
+          (reached station (steps_of station))
+      all = in_part d.part_of_set d.part_of_target (steps_of station)
           (recursion_from_All (λ r. d.part_of_set r.set ≡ d.part_of_target r.target)
-          (carriers near.reached.steps) d.none_between)
+          (carriers (steps_of station)) d.none_between)
 
       in_one : (b : Bool) → HasMember sets targets d.part_of_set d.part_of_target b
           → d.part_of_target 0 ≡ b
-      in_one b (inl (s, h, e)) = sym (all.0 s (near.reached.sets s h)) ∙ e
-      in_one b (inr (t, h, e)) = sym (all.1 t (near.reached.targets t h)) ∙ e
+      in_one b (inl (s, h, e)) = sym (all.0 s (near.nearest.reached.sets s h)) ∙ e
+      in_one b (inr (t, h, e)) = sym (all.1 t (near.nearest.reached.targets t h)) ∙ e
 
   all_are_near : AllAreNear sets targets (c.denominator * TURN) (limit * c.denominator) direction
       orientation (sets + targets - 1)
   all_are_near = all_near sets targets (c.denominator * TURN) (limit * c.denominator) direction
-      orientation (carriers near.reached.steps) is_station.targets.some
-      (all_given near.reached.steps) not_divided
+      orientation (carriers (steps_of station)) is_station.targets.some
+      (all_given (steps_of station)) not_divided
 
   abbrev IsClose : ℤ → ℤ → Type 0
   IsClose z k = IsWithin (pos ((sets + targets - 1) * (limit * c.denominator)))

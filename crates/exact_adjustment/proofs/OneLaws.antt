@@ -44,11 +44,11 @@ module _ (station : StationValue) (is_station : IsStation station) (tied : AreTi
       let turned : TurnedBy station a.turns b.turns =
       turned_whole station is_station a.turns b.turns exact.each near c (omega (arith, by.whole)) 0
       79_999_999 (omega arith)
-      (λ step h. let z = agrees station b.turns other.each is_station c by.carried step h in
+      (λ step h. let z = agrees station b.turns other.each is_station c by.nearest.carried step h in
       omega (arith, ints, z))
       (λ m h. nearest_both c.denominator _ _ by.whole
-      (of_each station b.turns other.each (λ r. IsNearest (residual c r)) by.nearest m h)
-      (of_each station a.turns exact.each (λ r. IsNearest (residual near.angles r)) near.nearest m
+      (of_each station b.turns other.each (λ r. IsNearest (residual c r)) by.nearest.each m h)
+      (of_each station a.turns exact.each (λ r. IsNearest (residual near.angles r)) near.nearest.each m
       h)) in
       ap (λ m. b.denominator * m) (size_at_place station a n exact.each inside)
       ∙ same_size a.denominator b.denominator _ _ (same_residual station a is_station tied exact

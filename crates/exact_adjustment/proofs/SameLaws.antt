@@ -26,6 +26,31 @@ use Rattle.exact_adjustment.proofs.ExactLaws.{adjusted, again, count, placed}
 use Rattle.exact_adjustment.proofs.NearTurns.{TurnedBy}
 use Rattle.exact_adjustment.proofs.Products.{products}
 
+-- Directions and orientations of two choices differ by this rotation.
+pub record AreRotated (station : StationValue) (c other : Choice) (rotation : ℤ) : Type 0 where
+  pub directions : (t : ℕ) → t < length station.targets
+      → pos other.denominator *ℤ c.direction t -ℤ pos c.denominator *ℤ other.direction t
+      ≡ rotation
+  pub orientations : (s : ℕ) → s < length station.sets
+      → pos other.denominator *ℤ c.orientation s -ℤ pos c.denominator *ℤ other.orientation s
+      ≡ rotation
+
+-- Then the residuals are the same but for the denominators.
+pub rotated_residual : (station : StationValue) (a : AdjustmentValue) → IsStation station
+    → (c : Choice) (ls : List ℤ) (t : TurnedBy station a.turns ls) (rotation : ℤ)
+    → AreRotated station (choice_by a) (taken c t.of_target t.of_set) rotation → (n : ℕ)
+    → n < length station.obs
+    → pos c.denominator *ℤ residual (choice_by a) (turned_at station a.turns n)
+    ≡ pos a.denominator *ℤ residual c (turned_at station ls n)
+rotated_residual station a is_station c ls t rotation are n inside =
+    let o = obs_at station n in
+    let within = is_station.obs.within n (record { set = 0; target = 0; value = 0 }) inside in
+    let f = simp products at (are.directions o.target within.target) in
+    let g = simp products at (are.orientations o.set within.set) in
+    let k = simp products at (ap (λ z. pos (a.denominator * (c.denominator * TURN)) *ℤ z)
+    (t.each n inside)) in
+    simp products (omega (arith, ints))
+
 module _ (station : StationValue) (a : AdjustmentValue) (is_station : IsStation station)
     (tied : AreTied station) (exact : IsExact station a) (c : Choice) (ls : List ℤ)
     (each : length ls ≡ length station.obs) (some : 1 ≤ c.denominator)
@@ -96,11 +121,5 @@ module _ (station : StationValue) (a : AdjustmentValue) (is_station : IsStation 
   pub same_residual : (n : ℕ) → n < length station.obs
       → pos c.denominator *ℤ residual (choice_by a) (turned_at station a.turns n)
       ≡ pos a.denominator *ℤ residual c (turned_at station ls n)
-  same_residual n inside =
-      let o = obs_at station n in
-      let within = is_station.obs.within n (record { set = 0; target = 0; value = 0 }) inside in
-      let f = simp products at (differs.directions o.target within.target) in
-      let g = simp products at (differs.orientations o.set within.set) in
-      let k = simp products at (ap (λ z. pos (a.denominator * (c.denominator * TURN)) *ℤ z)
-      (t.each n inside)) in
-      simp products (omega (arith, ints))
+  same_residual = rotated_residual station a is_station c ls t differs.rotation
+      (record { directions = differs.directions; orientations = differs.orientations })

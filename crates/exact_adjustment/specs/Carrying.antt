@@ -13,15 +13,13 @@ pub record AreMarked (sets targets : ℕ) (marks : List Bool) (r : Reached) : Ty
   pub of_sets : (s : ℕ) → s < sets → mark marks s ≡ r.of_set s
   pub of_targets : (t : ℕ) → t < targets → mark marks (sets + t) ≡ r.of_target t
 
--- The observation without its turns.
-abbrev pub obs_in : TurnedObservation → Obs
-obs_in o = record { set = o.set; target = o.target; value = o.value }
+-- After a step along an observation the marks are those of what then has an angle.
+abbrev pub MarksAlong : (sets targets : ℕ) (old new : List Bool) → Obs → Type 0
+MarksAlong sets targets old new o =
+    (r : Reached) → AreMarked sets targets old r → AreMarked sets targets new (after o r)
 
--- A step along an observation: the marks are those of what has an angle afterwards, and if it
--- carries it agrees exactly with the angles.
-pub record GoesAlong (sets targets : ℕ) (old new : List Bool) (angles : Choice)
-    (o : TurnedObservation) : Type 0 where
-  pub marked : (r : Reached) → AreMarked sets targets old r
-      → AreMarked sets targets new (after (obs_in o) r)
-  pub agrees : (r : Reached) → AreMarked sets targets old r
-      → r.of_set o.set ≢ r.of_target o.target → residual angles o ≡ pos 0
+-- If an observation carries, where so many sets stand before the targets among the marks, it agrees
+-- exactly with the angles.
+abbrev pub AgreesIfItCarries : ℕ → List Bool → Choice → TurnedObservation → Type 0
+AgreesIfItCarries sets marks angles o =
+    mark marks o.set ≢ mark marks (sets + o.target) → residual angles o ≡ pos 0

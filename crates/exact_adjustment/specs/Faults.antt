@@ -4,11 +4,10 @@ use Rattle.adjust_kernel.specs.Residuals.{Choice}
 use Rattle.adjust_kernel.specs.Stations.{IsStation, StationValue}
 use Rattle.adjust_kernel.specs.Turns.{IsLimited}
 use Rattle.adjust_kernel.specs.Verdict.{AtNth}
-use Rattle.adjust_kernel.specs.declared.bounds.TheConstants.{LARGEST_RESIDUAL_LIMIT}
 use Rattle.exact_adjustment.specs.Adjustments.{AdjustmentValue, adjustment_of}
 use Rattle.exact_adjustment.specs.Exact.{AddsUp, IsExact, IsGreatestAbove, KeepsLimit}
 use Rattle.exact_adjustment.specs.LeastOf.{AreTied, observed_with}
-use Rattle.exact_adjustment.specs.Nearest.{HasNearestTurns}
+use Rattle.exact_adjustment.specs.Nearest.{AreNearestToBoth, HasNearestTurns}
 use Rattle.modular_solver.specs.Said.{WasSaid}
 use Rattle.modular_solver.specs.declared.found.Found.{Found}
 use Rattle.exact_adjustment.specs.declared.fault.AdjustFault.{AdjustFault}
@@ -38,31 +37,38 @@ pub record IsFar (station : StationValue) (limit place : ℕ) : Type 0 where
   pub nearest : HasNearestTurns station adjustment.turns
   pub greatest : IsGreatestAbove station adjustment limit place
 
--- These are an exact adjustment of the station, which keeps the largest residual limit.
-abbrev pub IsSolution : StationValue → Found → Type 0
-IsSolution station found =
-    IsExact station (parts_of found) × KeepsLimit station (parts_of found) LARGEST_RESIDUAL_LIMIT
+-- These are an exact adjustment of the station, which keeps the residual limit.
+abbrev pub IsSolution : StationValue → ℕ → Found → Type 0
+IsSolution station limit found =
+    IsExact station (parts_of found) × KeepsLimit station (parts_of found) limit
 
--- None was found: the solver was asked for this station, and what it said is nothing, or no exact
--- adjustment that keeps the largest residual limit.
-pub record IsNotFound (station : StationValue) : Type 0 where
+-- The full turns that the solver names are those nearest to the angles that it names beside them.
+abbrev pub HasTurnsOfItsAngles : StationValue → Found → Type 0
+HasTurnsOfItsAngles station found =
+    AreNearestToBoth station found.turns.items found.first_directions.items
+    found.first_orientations.items
+
+-- None was found: the solver was asked for this station, and what it said is nothing; or no exact
+-- adjustment; or one that doesn't keep the residual limit, nor has the full turns of its angles.
+pub record IsNotFound (station : StationValue) (limit : ℕ) : Type 0 where
   pub tied : AreTied station
   pub found : Option Found
   pub said : WasSaid (length station.sets) (length station.targets) station.obs found
-  pub refused : IfSome found (λ numbers. ¬ IsSolution station numbers)
+  pub refused : IfSome found (λ numbers. ¬ IsSolution station limit numbers)
+  pub not_nearest : IfSome found (λ numbers.
+      IsExact station (parts_of numbers) → ¬ HasTurnsOfItsAngles station numbers)
 
--- When each fault is answered.
-abbrev pub IsAdjustFault : StationValue → AdjustFault → Type 0
-IsAdjustFault station NotConnected = ¬ AreTied station
-IsAdjustFault station (Residual number) =
-    AreTied station × NoneKeepsLimit station LARGEST_RESIDUAL_LIMIT
-    × AtNth (IsFar station LARGEST_RESIDUAL_LIMIT) number
-IsAdjustFault station NotFound = IsNotFound station
+-- When each fault is answered of a station whose residuals are held to a limit, in half units.
+abbrev pub IsAdjustFault : StationValue → ℕ → AdjustFault → Type 0
+IsAdjustFault station limit NotConnected = ¬ AreTied station
+IsAdjustFault station limit (Residual number) =
+    AreTied station × NoneKeepsLimit station limit × AtNth (IsFar station limit) number
+IsAdjustFault station limit NotFound = IsNotFound station limit
 
 -- Why no adjustment is answered. Memory runs out only of a station that is held together.
-abbrev pub IsAdjustError : StationValue → AdjustError → Type 0
-IsAdjustError station (Fault fault) = IsAdjustFault station fault
-IsAdjustError station Memory = AreTied station
+abbrev pub IsAdjustError : StationValue → ℕ → AdjustError → Type 0
+IsAdjustError station limit (Fault fault) = IsAdjustFault station limit fault
+IsAdjustError station limit Memory = AreTied station
 
 -- The fault is the station's own, and not that no adjustment was found.
 abbrev pub IsOfStation : AdjustFault → Type 0

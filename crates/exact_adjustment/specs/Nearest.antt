@@ -1,9 +1,9 @@
 -- Full turns that are nearest to angles which the observations carry, in their order and again and
 -- again, from the first target to all sets and targets (profile).
-use Rattle.std.specs.Prelude.{◌≡◌, ◌≢◌, ℕ, zero, suc, ◌/◌, ◌%◌, ◌<◌, Bool, true, false, ◌==◌, ◌||◌}
-use Rattle.std.specs.Prelude.{◌&&◌}
+use Rattle.std.specs.Prelude.{◌≡◌, ◌≢◌, ℕ, zero, suc, ◌+◌, ◌*◌, ◌/◌, ◌%◌, ◌<◌, Bool, true, false}
+use Rattle.std.specs.Prelude.{◌==◌, ◌||◌, ◌&&◌}
 use Rattle.std.specs.Prelude.{All, length, slice_index_or, List, ℤ, pos, neg_ℤ, ◌≤ℤ◌, ◌<ℤ◌}
-use Rattle.adjust_kernel.specs.Residuals.{Choice, residual}
+use Rattle.adjust_kernel.specs.Residuals.{Choice, choice_of, residual}
 use Rattle.adjust_kernel.specs.Stations.{StationValue}
 use Rattle.adjust_kernel.specs.declared.bounds.TheConstants.{TURN}
 use Rattle.adjust_kernel.specs.declared.obs.Obs.{Obs}
@@ -61,17 +61,35 @@ AgreeWhereCarried station turns angles =
     (record { set = 0; target = 0; value = 0; turn = pos 0 }))
     ≡ pos 0
 
--- All sets and targets have an angle after some steps.
-pub record AreReached (station : StationValue) : Type 0 where
-  pub steps : ℕ
-  pub sets : (s : ℕ) → s < length station.sets → (reached station steps).of_set s ≡ true
-  pub targets : (t : ℕ) → t < length station.targets → (reached station steps).of_target t ≡ true
+-- The steps of as many rounds of the observations as there are sets and targets: each round gives
+-- one of them at least its angle, as long as one that has none can be reached.
+abbrev pub steps_of : StationValue → ℕ
+steps_of station = (length station.sets + length station.targets) * length station.obs
 
--- The full turns of the observations are those nearest to angles in whole half units, which the
--- observations carry to all sets and targets.
-pub record HasNearestTurns (station : StationValue) (turns : List ℤ) : Type 0 where
+-- All sets and targets have an angle after these steps.
+pub record AreReached (station : StationValue) : Type 0 where
+  pub sets : (s : ℕ) → s < length station.sets
+      → (reached station (steps_of station)).of_set s ≡ true
+  pub targets : (t : ℕ) → t < length station.targets
+      → (reached station (steps_of station)).of_target t ≡ true
+
+-- The full turns of the observations are those nearest to these angles, which the observations carry
+-- to all sets and targets.
+pub record AreNearestTo (station : StationValue) (turns : List ℤ) (angles : Choice) : Type 0 where
   pub reached : AreReached station
+  pub carried : AgreeWhereCarried station turns angles
+  pub each : All (λ r. IsNearest (residual angles r)) (observed_with station turns)
+
+-- They are those nearest to these directions, one of each target, and orientations, one of each set,
+-- in whole half units.
+pub record AreNearestToBoth (station : StationValue) (turns directions orientations : List ℤ) :
+    Type 0 where
+  pub each_target : length directions ≡ length station.targets
+  pub each_set : length orientations ≡ length station.sets
+  pub nearest : AreNearestTo station turns (choice_of 1 directions orientations)
+
+-- They are those nearest to angles in whole half units.
+pub record HasNearestTurns (station : StationValue) (turns : List ℤ) : Type 0 where
   pub angles : Choice
   pub whole : angles.denominator ≡ 1
-  pub carried : AgreeWhereCarried station turns angles
-  pub nearest : All (λ r. IsNearest (residual angles r)) (observed_with station turns)
+  pub nearest : AreNearestTo station turns angles

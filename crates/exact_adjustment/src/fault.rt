@@ -12,10 +12,10 @@ pub enum AdjustFault {
     /// says how the parts lie to each other: observe a target of one part in a set of another.
     #[error("the observations don't hold all sets and targets together")]
     NotConnected,
-    /// Some least-squares residual is above the limit of 2,000 half units; the number, from 1, is
-    /// that of the observation with the greatest, the first of them where several are: look whether
-    /// it is of another target, or was read wrongly.
-    #[error("observation {0} has the greatest residual, above 2000 half units")]
+    /// Some least-squares residual is above the limit; the number, from 1, is that of the
+    /// observation with the greatest, the first of them where several are: look whether it is of
+    /// another target, or was read wrongly.
+    #[error("observation {0} has the greatest residual, above the limit")]
     Residual(u32),
     /// No exact adjustment was found, though the observations hold all sets and targets together:
     /// no station is known of which this is answered.

@@ -1,15 +1,14 @@
 //! Whether full turns are nearest to angles that observations carry to all sets and targets.
 ghost use Rattle.std.specs.Prelude.{◌≡◌, ◌↔◌, ◌≤◌, ◌+ℤ◌, ◌-ℤ◌, ◌*ℤ◌, All, IsTrue, length, pos};
-ghost use Rattle.std.specs.Bool.{OnTrue};
 ghost use Rattle.adjust_kernel.specs.Pairs.{turned_by};
 ghost use Rattle.adjust_kernel.specs.Residuals.{choice_of, residual};
 ghost use Rattle.adjust_kernel.specs.Stations.{IsObs};
 ghost use Rattle.adjust_kernel.specs.Within.{IsWithin};
 ghost use Rattle.adjust_kernel.specs.declared.bounds.TheConstants.{LARGEST_TURN, TURN};
 ghost use Rattle.exact_adjustment.specs.LeastOf.{observed_with};
-ghost use Rattle.exact_adjustment.specs.Nearest.{AgreeWhereCarried, AreReached, HasNearestTurns};
+ghost use Rattle.exact_adjustment.specs.Nearest.{AgreeWhereCarried, AreNearestToBoth, AreReached};
 ghost use Rattle.exact_adjustment.specs.Nearest.{IsNearest};
-ghost use Rattle.exact_adjustment.specs.Carrying.{GoesAlong};
+ghost use Rattle.exact_adjustment.specs.Carrying.{AgreesIfItCarries, MarksAlong};
 ghost use Rattle.adjust_kernel.specs.declared.bounds.TheConstants.{MOST_SETS, MOST_TARGETS};
 
 use adjust_kernel::{MOST_NODES, Obs, Station, TURN, are_marked};
@@ -64,9 +63,9 @@ fn each_is_nearest(
     requires each_target { length directions.now ≡ length station.now.targets }
     requires each_set { length orientations.now ≡ length station.now.sets }
     requires turns { All (IsWithin LARGEST_TURN) turns.now }
-    ensures { OnTrue result
-        (All (λ r. IsNearest (residual (choice_of 1 directions.now orientations.now) r))
-        (observed_with station.now turns.now)) }
+    ensures { IsTrue result
+        ↔ All (λ r. IsNearest (residual (choice_of 1 directions.now orientations.now) r))
+        (observed_with station.now turns.now) }
 {
     let obs = station.obs();
     for place in 0..obs.len() {
@@ -89,8 +88,11 @@ fn is_carried(
     requires sets { length orientations.now ≤ MOST_SETS }
     requires targets { length directions.now ≤ MOST_TARGETS }
     requires obs { IsObs (length orientations.now) (length directions.now) obs.now }
-    ensures { OnTrue result (GoesAlong (length orientations.now) (length directions.now) marks.old
-        marks.new (choice_of 1 directions.now orientations.now) (turned_by obs.now turn)) }
+    ensures marked { MarksAlong (length orientations.now) (length directions.now) marks.old
+        marks.new obs.now }
+    ensures agrees { IsTrue result
+        ↔ AgreesIfItCarries (length orientations.now) marks.old
+        (choice_of 1 directions.now orientations.now) (turned_by obs.now turn) }
 {
     let set = obs.set as usize;
     let target = orientations.len() + obs.target as usize;
@@ -109,8 +111,8 @@ fn are_carried(station: &Station, turns: &[i8], directions: &[i64], orientations
     requires each_target { length directions.now ≡ length station.now.targets }
     requires each_set { length orientations.now ≡ length station.now.sets }
     requires turns { All (IsWithin LARGEST_TURN) turns.now }
-    ensures reached { OnTrue result (AreReached station.now) }
-    ensures carried { OnTrue result (AgreeWhereCarried station.now turns.now
+    ensures { IsTrue result
+        ↔ (AreReached station.now × AgreeWhereCarried station.now turns.now
         (choice_of 1 directions.now orientations.now)) }
 {
     let obs = station.obs();
@@ -133,7 +135,7 @@ fn are_carried(station: &Station, turns: &[i8], directions: &[i64], orientations
             return false;
         }
     }
-    false
+    are_marked(&marks, nodes)
 }
 
 /// Whether the full turns of a station's observations are nearest to these angles, in whole half
@@ -146,7 +148,8 @@ pub(crate) fn are_nearest(
 ) -> bool
     requires each { length turns.now ≡ length station.now.obs }
     requires turns { All (IsWithin LARGEST_TURN) turns.now }
-    ensures { OnTrue result (HasNearestTurns station.now turns.now) }
+    ensures { IsTrue result
+        ↔ AreNearestToBoth station.now turns.now directions.now orientations.now }
 {
     if directions.len() != station.targets().len() || orientations.len() != station.sets().len() {
         return false;

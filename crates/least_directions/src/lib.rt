@@ -1,16 +1,15 @@
 //! A station's least-squares directions: how far stated ones are apart from them, and these,
 //! rounded.
 //!
-//! `apart_from_least` takes the directions that a program printed, one for each target of a
-//! station, complete or not, and tells how near one rotation brings them to the least-squares
-//! directions: least over all directions, orientations, denominators and full turns.
-//! `rounded_directions` answers these directions themselves, rounded to steps. Both are exact.
+//! `apart_by` takes the directions that a program printed, one for each target of a station,
+//! complete or not, and tells how near one rotation brings them to the least-squares directions:
+//! least over all directions, orientations, denominators and full turns. `rounded_directions`
+//! answers these directions themselves, rounded to steps. Both are exact.
 #![tactic(auto)]
 
-mod adjusted;
 mod apart;
 pub mod laws;
 mod rounded;
 
-pub use apart::apart_from_least;
+pub use apart::apart_by;
 pub use rounded::rounded_directions;

@@ -1,16 +1,16 @@
 //! A station's least-squares directions, rounded as tables print them.
 ghost use Rattle.std.specs.Prelude.{◌≡◌, ◌≤◌, ◌<◌, ◌%◌, ℕ, All, length, slice_index_or, IfErr};
-ghost use Rattle.std.specs.Prelude.{IfOk};
+ghost use Rattle.std.specs.Prelude.{IfOk, OnOk};
 ghost use Rattle.directions_apart.specs.Rounding.{IsRounded};
 ghost use Rattle.adjust_kernel.specs.declared.units.TheConstants.{CIRCLE};
 ghost use Rattle.exact_adjustment.specs.Adjustments.{choice_by};
 ghost use Rattle.exact_adjustment.specs.Faults.{IsAdjustError};
+ghost use Rattle.exact_adjustment.specs.LeastOf.{HasResidualsWithin};
 ghost use Rattle.least_directions.specs.LeastDirections.{AreRounded};
 
-use crate::adjusted::adjusted;
-use adjust_kernel::{CIRCLE, Station};
+use adjust_kernel::{CIRCLE, ResidualLimit, Station};
 use directions_apart::rounded;
-use exact_adjustment::{AdjustError, Adjustment};
+use exact_adjustment::{AdjustError, Adjustment, adjust};
 use std::alloc::{AllocError, Global};
 
 /// The directions of an adjustment's targets, rounded to whole steps.
@@ -36,8 +36,8 @@ fn rounded_to_steps(
 
 /// The least-squares directions of a station's targets, in their order, rounded to whole steps, the
 /// middle of two upwards: the first is 0, and each is from 0 and below a full circle. Steps and
-/// directions are in units of 0.000000001 gon. No residual may be above 2,000 half units (0.005
-/// mgon each). Memory is linear in the observations.
+/// directions are in units of 0.000000001 gon. No residual is above the limit. Memory is linear in
+/// the observations.
 ///
 /// # Errors
 ///
@@ -46,6 +46,7 @@ pub fn rounded_directions(
     alloc: Global,
     station: &Station,
     step: u32,
+    limit: ResidualLimit,
 ) -> Result<Vec<u64>, AdjustError>
     requires some { 1 ≤ step }
     requires circle { CIRCLE % step ≡ 0 }
@@ -53,8 +54,11 @@ pub fn rounded_directions(
     ensures first { IfOk result (λ directions. slice_index_or directions.items 0 0 ≡ 0) }
     ensures whole { IfOk result (λ directions.
         All (λ direction. (direction < CIRCLE) × (direction % step ≡ 0)) directions.items) }
-    ensures fault { IfErr result (IsAdjustError station.now) }
+    ensures held { OnOk result (HasResidualsWithin station.now limit) }
+    ensures fault { IfErr result (IsAdjustError station.now limit) }
 {
-    let adjustment = adjusted(alloc, station)?;
+    // A station says of what it answers that it keeps the rules.
+    let _ = station.obs();
+    let adjustment = adjust(alloc, station, limit)?;
     Ok(rounded_to_steps(alloc, &adjustment, step)?)
 }

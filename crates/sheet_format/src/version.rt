@@ -17,7 +17,7 @@ pub(crate) const LARGEST_DENOMINATOR_OF_ONE: u64 = 1_000_000_000;
 pub(crate) const LARGEST_ANGLE_OF_ONE: i128 = 1_000_000_000_000_000_000;
 
 /// The version of a sheet, as its first row names it.
-#[derive(Clone, Copy, Debug, PartialEq, Eq)]
+#[derive(Clone, Copy)]
 pub(crate) enum Version {
     One,
     Two,

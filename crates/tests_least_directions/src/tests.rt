@@ -1,12 +1,17 @@
 //! Stated directions of stations worked by hand.
 
-use adjust_kernel::{CIRCLE, MOST_TARGETS, PARTS, Station};
-use exact_adjustment::{AdjustError, AdjustFault};
-use least_directions::{apart_from_least, rounded_directions};
+use adjust_kernel::{CIRCLE, LARGEST_RESIDUAL_LIMIT, MOST_TARGETS, PARTS, ResidualLimit, Station};
+use exact_adjustment::{AdjustError, AdjustFault, adjust};
+use least_directions::{apart_by, rounded_directions};
 use std::alloc::Global;
 use std::process::Abort;
 use std::test::Fail;
 use test_support::{Observed, station_of};
+
+/// A limit of residuals, in half units.
+fn limit(rt: &impl Abort, half_units: u32) -> ResidualLimit {
+    ResidualLimit::new(half_units).expect(rt, "a limit")
+}
 
 /// How far stated directions in units of 0.000000001 gon are apart.
 fn apart(
@@ -21,7 +26,8 @@ fn apart(
     for (part, direction) in parts.iter_mut().zip(stated) {
         *part = direction.saturating_mul(PARTS as i64);
     }
-    apart_from_least(alloc, station, &parts[..stated.len()])
+    let adjustment = adjust(alloc, station, limit(rt, LARGEST_RESIDUAL_LIMIT))?;
+    Ok(apart_by(station, &adjustment, &parts[..stated.len()]))
 }
 
 /// Two sets of two targets, 50 gon and some apart: 10,000,004 and 10,000,008 half units.
@@ -155,7 +161,7 @@ fn rounded(
 ) -> Result<Vec<u64>, AdjustError> {
     assert!(rt; step > 0);
     assert_eq!(rt; CIRCLE % u64::from(step), 0);
-    rounded_directions(alloc, station, step)
+    rounded_directions(alloc, station, step, limit(rt, LARGEST_RESIDUAL_LIMIT))
 }
 
 /// Whether an answer is these directions.
@@ -178,6 +184,21 @@ fn least_directions_are_rounded_to_steps(rt: HostRuntime) -> Result<(), Fail> {
     ];
     for (step, want) in cases {
         assert_rounded(&rt, rt.alloc(), &station, step, &want);
+    }
+    Ok(())
+}
+
+#[test]
+fn a_residual_at_the_limit_is_kept_and_above_it_refused(rt: HostRuntime) -> Result<(), Fail> {
+    // Each residual of the two sets is 1 half unit in size; of the ring 2,000.
+    let refused: Option<AdjustError> = Some(AdjustFault::Residual(1).into());
+    let two = station_of(rt.alloc(), 2, b"AB", &TWO_SETS)?;
+    let round = station_of(rt.alloc(), 3, b"ABC", &ring(0))?;
+    for (station, most) in [(&two, 1), (&round, 2_000)] {
+        let kept = rounded_directions(rt.alloc(), station, 1_000, limit(&rt, most));
+        assert_eq!(rt; kept.err(), None);
+        let above = rounded_directions(rt.alloc(), station, 1_000, limit(&rt, most - 1));
+        assert_eq!(rt; above.err(), refused);
     }
     Ok(())
 }

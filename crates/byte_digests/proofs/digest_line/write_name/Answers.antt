@@ -38,7 +38,7 @@ name-preserved g c =
     let inside : i < length name = search rules in
     record {
       text = partly_then _ _ (escaped (slice_index name i)) _ _ _ _ c.name.invariant.text
-          c.in_ok-write_byte.ensures.ok (next_byte name i inside);
+          c.in_ok-write_byte.ensures.ok (next_byte escaped name i inside);
       failed = c.in_ok-write_byte.ensures.failed ∙ c.name.invariant.failed;
     }
 
@@ -49,4 +49,4 @@ returns-in_err-write_byte-clause-cut_short g c =
     let inside : i < length name = search rules in
     in_any_case c.from_residual.result
     (partly_some _ _ (escaped (slice_index name i)) _ _ _ _ c.name.invariant.text
-    c.in_err-write_byte.ensures.cut_short (next_byte name i inside))
+    c.in_err-write_byte.ensures.cut_short (next_byte escaped name i inside))

@@ -1,5 +1,5 @@
 use Rattle.std.proofs.Common.{◌≡◌, ◌++◌, Some, rules, flat_map}
-use Rattle.byte_digests.specs.DigestLines.{escaped, mark_of}
+use Rattle.byte_digests.specs.NameTexts.{name_mark, shown}
 use Rattle.byte_digests.proofs.Written.{so_err, then_some}
 use Rattle.byte_digests.proofs.name_text.push_name.Goals as goal
 
@@ -7,9 +7,9 @@ pub returns-clause-begun : goal.returns-clause-begun
 returns-clause-begun c =
     let old = c.args.text.now.items in
     let now = c.extend_from_slice.new.self.items in
-    let new = c.push_escaped.new.text.items in
+    let new = c.push_shown.new.text.items in
     let name = c.args.name.now in
-    let marked : now ≡ old ++ mark_of name = search rules in
-    so_err c.push_escaped.result
-    (λ rest. then_some (Some old) (Some now) (Some new) (mark_of name) (flat_map escaped name)
-    marked rest) c.push_escaped.ensures.begun
+    let marked : now ≡ old ++ name_mark name = search rules in
+    so_err c.push_shown.result
+    (λ rest. then_some (Some old) (Some now) (Some new) (name_mark name) (flat_map shown name)
+    marked rest) c.push_shown.ensures.begun

@@ -1,6 +1,9 @@
-use Rattle.std.proofs.Common.{Some, refl, rules}
+use Rattle.std.proofs.Common.{◌≡◌, Some, true, false, refl, rules}
 use Rattle.adjust_kernel.specs.declared.bounds.TheConstants.{LARGEST_RESIDUAL_LIMIT}
-use Rattle.exact_adjustment.proofs.FarLaws.{keeps_limit_too}
+use Rattle.adjust_kernel.specs.Residuals.{choice_of}
+use Rattle.exact_adjustment.specs.Nearest.{HasNearestTurns}
+use Rattle.exact_adjustment.proofs.FarLaws.{keeps_limit_too, keeps_wider}
+use Rattle.exact_adjustment.proofs.HeldLaws.{held}
 use Rattle.exact_adjustment.proofs.ObservedLaws.{above_is_not_kept}
 use Rattle.exact_adjustment.proofs.adjusting.tested.Goals as goal
 
@@ -12,12 +15,18 @@ returns-clause-fault c =
     let is = c.obs.ensures.valid in
     let tied = c.requires.tied in
     let exact = c.if-not-is_exact.ensures.0 refl in
-    let greatest = rw c.largest_limit.ensures at c.in-Some-greatest_above.ensures.some in
-    let near = rw c.turns-turns.ensures.value at c.if-not-are_nearest.ensures in (
+    let greatest = c.in-Some-greatest_above.ensures.some in
+    let both = rw c.turns-turns.ensures.value at (c.if-not-are_nearest.ensures.0 refl) in
+    let near : HasNearestTurns station a.turns = record {
+      angles = choice_of 1 c.deref.result.now c.deref-2.result.now;
+      whole = refl;
+      nearest = both.nearest;
+    } in (
       tied,
       (λ other turns each some sums limited.
-          above_is_not_kept station a LARGEST_RESIDUAL_LIMIT place exact.each greatest
-          (keeps_limit_too station a is tied exact near other turns each some sums limited)),
+          above_is_not_kept station a c.args.limit place exact.each greatest
+          (keeps_limit_too station a c.args.limit c.half_units.ensures.valid is tied exact near
+          other turns each some sums limited)),
       (
         place,
         refl,
@@ -34,12 +43,34 @@ returns-clause-fault c =
 pub returns-then-not-are_nearest-clause-fault : goal.returns-then-not-are_nearest-clause-fault
 returns-then-not-are_nearest-clause-fault c =
     let exact = c.if-not-is_exact.ensures.0 refl in
-    let greatest = rw c.largest_limit.ensures at c.in-Some-greatest_above.ensures.some in
+    let greatest = c.in-Some-greatest_above.ensures.some in
     record {
       tied = c.requires.tied;
       found = Some c.in-Some.found;
       said = search rules;
       refused = λ answer. above_is_not_kept c.args.station.now c.in-Some-new.adjustment
-          LARGEST_RESIDUAL_LIMIT c.in-Some-greatest_above.place exact.each greatest
+          c.args.limit c.in-Some-greatest_above.place exact.each greatest
           (rw c.in-Some-new.ensures.some answer.1);
+      not_nearest = λ exact both.
+          let e : false ≡ true = c.if-not-are_nearest.ensures.1 (rw (
+            c.turns-turns.ensures.value,
+            c.in-Some-new.ensures.some,
+            c.deref.ensures.value,
+            c.deref-2.ensures.value,
+          ) both) in
+          absurd cc;
     }
+
+pub returns-in_default-greatest_above-clause-limited :
+    goal.returns-in_default-greatest_above-clause-limited
+returns-in_default-greatest_above-clause-limited c =
+    keeps_wider c.args.station.now c.in-Some-new.adjustment c.args.limit LARGEST_RESIDUAL_LIMIT
+    c.half_units.ensures.valid c.in_default-greatest_above.ensures.none
+
+pub returns-in_default-greatest_above-clause-held :
+    goal.returns-in_default-greatest_above-clause-held
+returns-in_default-greatest_above-clause-held c =
+    held c.args.station.now c.in-Some-new.adjustment c.obs.ensures.valid c.requires.tied
+    (c.if-not-is_exact.ensures.0 refl) (keeps_wider c.args.station.now c.in-Some-new.adjustment
+    c.args.limit LARGEST_RESIDUAL_LIMIT c.half_units.ensures.valid
+    c.in_default-greatest_above.ensures.none) c.args.limit c.in_default-greatest_above.ensures.none

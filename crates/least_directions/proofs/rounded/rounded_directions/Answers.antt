@@ -8,7 +8,7 @@ returns-clause-rounded c =
     let directions = c.in_ok-rounded_to_steps.field-0.items in
     let a = c.in_ok-adjustment.adjustment in
     let e = c.in_ok-adjustment.ensures in
-    are_rounded station e.valid a e.tied e.exact e.limited c.args.step directions c.requires.some
+    are_rounded station c.obs.ensures.valid a e.tied e.exact e.limited c.args.step directions c.requires.some
     (c.in_ok-rounded_to_steps.ensures.count ∙ e.exact.each_target)
     c.in_ok-rounded_to_steps.ensures.each
 

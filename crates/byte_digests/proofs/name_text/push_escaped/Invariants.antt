@@ -1,8 +1,0 @@
-use Rattle.std.proofs.Common.{Some, drop, flat_map}
-use Rattle.byte_digests.specs.DigestLines.{escaped}
-use Rattle.byte_digests.proofs.Written.{Partly}
-use Rattle.byte_digests.proofs.name_text.push_escaped.Given as goal
-
-abbrev pub invariant-bytes : goal.invariant-bytes
-invariant-bytes l = Partly (flat_map escaped l.fn.name)
-    (flat_map escaped (drop l.byte-index l.fn.name)) (Some l.fn.text.items) (Some l.text.items)
