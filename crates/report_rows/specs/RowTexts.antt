@@ -8,7 +8,7 @@ use Rattle.sheet_format.specs.Texts.{rows_text}
 use Rattle.station_book.specs.Stations.{SurveyedStation}
 use Rattle.station_book.specs.declared.faces.Faces.{Faces}
 use Rattle.station_report.specs.Readings.{reading_one, reading_two}
-use Rattle.station_residuals.specs.declared.adjusted.AdjustedObs.{AdjustedObs}
+use Rattle.station_results.specs.declared.adjusted.AdjustedObs.{AdjustedObs}
 
 -- the titles
 abbrev pub titles : List (List ℕ)

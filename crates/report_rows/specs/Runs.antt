@@ -2,7 +2,7 @@
 use Rattle.std.specs.Prelude.{ℕ, List, Result}
 use Rattle.byte_ends.specs.Sink.{WriterChange}
 use Rattle.byte_ends.specs.Source.{ReaderChange}
-use Rattle.station_book.specs.Limits.{FaceLimits}
+use Rattle.station_book.specs.declared.result_limits.ResultLimits.{ResultLimits}
 use Rattle.station_check.specs.RunEndings.{PrintsAnswer}
 use Rattle.station_compare.specs.Runs.{ReadsFieldFile}
 use Rattle.station_compare.specs.declared.fault.CompareFault.{CompareFault}
@@ -10,7 +10,7 @@ use Rattle.station_compare.specs.declared.fault.CompareFault.TheVariants.{Write}
 use Rattle.report_rows.specs.Answers.{TellsReportRows}
 
 -- A run of the rows: all that it promises of its answer, and how the text was written.
-pub record IsReportRowsRun {A : Type 0} (limits : FaceLimits) (gsi : ReaderChange) (name : List ℕ)
+pub record IsReportRowsRun {A : Type 0} (limits : ResultLimits) (gsi : ReaderChange) (name : List ℕ)
     (r : Result A CompareFault) (out : WriterChange) : Type 0 where
   pub answer : Result (List ℕ) CompareFault
   pub tells : ReadsFieldFile gsi answer (λ file. TellsReportRows limits file name answer)

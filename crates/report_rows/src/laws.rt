@@ -2,7 +2,8 @@
 ghost use Rattle.std.specs.Prelude.{◌≡◌, ℕ, List, Result};
 ghost use Rattle.gsi_file.specs.FileAnswers.{FileAnswers};
 ghost use Rattle.report_rows.specs.Answers.{TellsReportRows};
-ghost use Rattle.station_book.specs.Limits.{AreLimits, FaceLimits};
+ghost use Rattle.station_book.specs.Limits.{AreLimits};
+ghost use Rattle.station_book.specs.declared.result_limits.ResultLimits.{ResultLimits};
 ghost use Rattle.station_compare.specs.OneAnswer.{IsSettled};
 ghost use Rattle.station_compare.specs.declared.fault.CompareFault.{CompareFault};
 
@@ -10,8 +11,8 @@ ghost use Rattle.station_compare.specs.declared.fault.CompareFault.{CompareFault
 /// each printed digit. Two answers alone may stand in the place of another: out of memory in that
 /// of any, and that no adjustment was found in that of those from the adjustment on.
 pub fn one_answer()
-    ensures { (limits : FaceLimits) (file : FileAnswers) (name : List ℕ)
-        (r s : Result (List ℕ) CompareFault) → AreLimits limits
+    ensures { (limits : ResultLimits) (file : FileAnswers) (name : List ℕ)
+        (r s : Result (List ℕ) CompareFault) → AreLimits limits.faces
         → IsSettled r → IsSettled s
         → TellsReportRows limits file name r → TellsReportRows limits file name s → r ≡ s }
 {}

@@ -1,18 +1,20 @@
 //! The rows of the report of a station of a field file.
-ghost use Rattle.std.specs.Prelude.{MatchResult};
+ghost use Rattle.std.specs.Prelude.{MatchResult, OnOk};
 ghost use Rattle.byte_ends.specs.Writers.{writer_change};
 ghost use Rattle.byte_ends.specs.Source.{UntilDropped};
+ghost use Rattle.exact_adjustment.specs.LeastOf.{HasResidualsWithin};
 ghost use Rattle.report_rows.specs.Runs.{IsReportRowsRun};
 ghost use Rattle.report_rows.specs.Stating.{AreReportRows, StatesReportRows};
 ghost use Rattle.station_compare.specs.Directions.{HasNoDirections, HasNoTable};
 ghost use Rattle.station_compare.specs.Runs.{ReadsFieldFile};
 
 use crate::text::text_of;
+use adjust_kernel::ResidualLimit;
 use byte_ends::{Sink, Source};
-use station_book::{Limits, Surveyed};
+use station_book::{ResultLimits, Surveyed};
 use station_check::{Fault, stations_of_file, write_whole};
 use station_compare::CompareFault;
-use station_residuals::adjusted_observations;
+use station_results::adjusted_observations;
 use std::alloc::Global;
 
 /// The text of the rows of the station of this name: titles, and a row for each of its two-face
@@ -20,8 +22,8 @@ use std::alloc::Global;
 /// the residual.
 ///
 /// The last two are exactly rounded, the middle of two upwards, and those of the least-squares
-/// directions: least over all directions, orientations and full turns. No residual may be above 10
-/// mgon.
+/// directions: least over all directions, orientations and full turns. No residual is above the
+/// limit of residuals.
 ///
 /// # Errors
 ///
@@ -31,7 +33,7 @@ pub fn report_rows_text<R: Source>(
     alloc: Global,
     gsi: R,
     name: &[u8],
-    limits: Limits,
+    limits: ResultLimits,
 ) -> Result<Vec<u8>, CompareFault>
     ensures { UntilDropped R.told R.failed R.gave gsi (λ gsi. ReadsFieldFile gsi result
         (λ file. MatchResult result
@@ -39,13 +41,13 @@ pub fn report_rows_text<R: Source>(
         (HasNoDirections limits file name.now))) }
 {
     // For the proof alone: limits keep their bounds.
-    limits.recall();
-    let (surveyed, _gsi) = stations_of_file(alloc, gsi, limits);
+    limits.faces.recall();
+    let (surveyed, _gsi) = stations_of_file(alloc, gsi, limits.faces);
     let stations = surveyed?;
     let Some(surveyed) = stations.get(name) else {
         return Err(CompareFault::File(Fault::NoStation));
     };
-    text_of_surveyed(alloc, surveyed)
+    text_of_surveyed(alloc, surveyed, limits.residual)
 }
 
 /// Writes that text, and flushes once.
@@ -58,7 +60,7 @@ pub fn write_report_rows<R: Source, W: Sink>(
     alloc: Global,
     gsi: R,
     name: &[u8],
-    limits: Limits,
+    limits: ResultLimits,
     writer: &mut W,
 ) -> Result<(), CompareFault>
     ensures { UntilDropped R.told R.failed R.gave gsi (λ gsi. IsReportRowsRun limits gsi name.now
@@ -70,11 +72,16 @@ pub fn write_report_rows<R: Source, W: Sink>(
 }
 
 /// The text of the rows of a station.
-fn text_of_surveyed(alloc: Global, surveyed: &Surveyed) -> Result<Vec<u8>, CompareFault>
-    ensures { MatchResult result
+fn text_of_surveyed(
+    alloc: Global,
+    surveyed: &Surveyed,
+    residual: ResidualLimit,
+) -> Result<Vec<u8>, CompareFault>
+    ensures text { MatchResult result
         (λ text. AreReportRows surveyed.now text.items)
-        (HasNoTable surveyed.now.station) }
+        (HasNoTable surveyed.now.station residual) }
+    ensures held { OnOk result (HasResidualsWithin surveyed.now.station residual) }
 {
-    let rows = adjusted_observations(alloc, surveyed.station())?;
+    let rows = adjusted_observations(alloc, surveyed.station(), residual)?;
     Ok(text_of(alloc, surveyed, &rows)?)
 }

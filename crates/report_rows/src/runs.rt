@@ -9,7 +9,7 @@ ghost use Rattle.station_compare.specs.FaultTexts.{refusal_line};
 
 use crate::rows::write_report_rows;
 use byte_ends::{Sink, Source};
-use station_book::Limits;
+use station_book::ResultLimits;
 use station_check::ACCEPTED;
 use station_compare::refuse;
 use std::alloc::Global;
@@ -21,7 +21,7 @@ pub fn run_report_rows<R: Source, W: Sink, E: Sink>(
     alloc: Global,
     gsi: R,
     name: &[u8],
-    limits: Limits,
+    limits: ResultLimits,
     out: &mut W,
     err: &mut E,
 ) -> u8

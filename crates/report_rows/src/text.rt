@@ -15,7 +15,7 @@ use csv::{Writer, WriterBuilder};
 use itoa::Buffer;
 use station_book::{Faces, Surveyed};
 use station_report::{READ_UNIT, reading_one, reading_two};
-use station_residuals::AdjustedObs;
+use station_results::AdjustedObs;
 use std::alloc::{AllocError, Global};
 use std::io::Write;
 

@@ -8,12 +8,13 @@ use Rattle.byte_ends.specs.Came.{IsLeftAs, IsReadOut, IsUnasked, Leaves}
 use Rattle.byte_ends.proofs.Coming.{given_as_told, some_left}
 use Rattle.byte_ends.specs.Source.{Told, ReaderChange, given_then}
 use Rattle.direction_table.specs.declared.reading.TheConstants.{LONGEST_TABLE}
-use Rattle.exact_adjustment.proofs.LawLemmas.{never_both}
+use Rattle.exact_adjustment.proofs.LawLemmas.{never_held}
 use Rattle.exact_adjustment.specs.Faults.{IsAdjustFault, IsOfStation}
+use Rattle.exact_adjustment.specs.LeastOf.{HasResidualsWithin}
 use Rattle.exact_adjustment.specs.declared.fault.AdjustFault.{AdjustFault}
 use Rattle.gsi_file.specs.FileAnswers.{FileAnswers, file_answers}
 use Rattle.least_directions.specs.LeastDirections.{IsAdjustable}
-use Rattle.station_book.specs.Limits.{FaceLimits}
+use Rattle.station_book.specs.declared.result_limits.ResultLimits.{ResultLimits}
 use Rattle.station_book.specs.Stations.{SurveyedStation}
 use Rattle.station_check.specs.Answerable.{IsOfFile, file_left}
 use Rattle.station_check.specs.StationOfFile.{IsStationOfFile}
@@ -31,29 +32,32 @@ use Rattle.station_compare.specs.declared.fault.CompareFault.TheVariants.{File, 
 use Rattle.direction_table.specs.declared.unit.AngleUnit.{AngleUnit}
 
 -- A table that agrees was read to its end.
-ended_by : (unit : AngleUnit) (station : StationValue) (within : Option ℕ) (a : Agreement)
-    (input : Input)
-    → ByInput unit station within input (Ok a)
-    → (bytes : List ℕ) × (input ≡ Ended bytes) × IsAgreement unit station bytes within a
-ended_by unit station within a (Ended bytes) h = (bytes, refl, h)
-ended_by unit station within a (BrokeOff bytes) h = elim h [ inl e ↦ cc | inr e ↦ cc ]
-ended_by unit station within a RanPast h = elim h [ inl e ↦ cc | inr e ↦ cc ]
+ended_by : (unit : AngleUnit) (station : StationValue) (residual : ℕ) (within : Option ℕ)
+    (a : Agreement) (input : Input)
+    → ByInput unit station residual within input (Ok a)
+    → (bytes : List ℕ) × (input ≡ Ended bytes) × IsAgreement unit station residual bytes within a
+ended_by unit station residual within a (Ended bytes) h = (bytes, refl, h)
+ended_by unit station residual within a (BrokeOff bytes) h = elim h [ inl e ↦ cc | inr e ↦ cc ]
+ended_by unit station residual within a RanPast h = elim h [ inl e ↦ cc | inr e ↦ cc ]
 
--- A station that can be adjusted has no fault of its own.
-pub no_adjust_fault : (station : StationValue) (fault : AdjustFault) → IsAdjustable station
-    → IsOfStation fault → IsAdjustFault station fault → ⊥
-no_adjust_fault station fault has own h =
-    never_both station has.adjustment fault has.tied has.exact has.limited own h
+-- A station that can be adjusted, all of whose residuals keep the limit, has no fault of its own.
+pub no_adjust_fault : (station : StationValue) (residual : ℕ) (fault : AdjustFault)
+    → IsAdjustable station → HasResidualsWithin station residual → IsOfStation fault
+    → IsAdjustFault station residual fault → ⊥
+no_adjust_fault station residual fault has held own h =
+    never_held station has.adjustment residual fault has.rules has.tied has.exact has.limited held
+    own h
 
 -- No fault of the field file comes of the table.
-no_file_fault : (unit : AngleUnit) (its : SurveyedStation) (within : Option ℕ) (fault : Fault)
-    (input : Input)
-    → ByInput unit its.station within input (Err (File fault)) → ⊥
-no_file_fault unit its within fault (Ended bytes) h = h
-no_file_fault unit its within fault (BrokeOff bytes) h = elim h [ inl e ↦ cc | inr e ↦ cc ]
-no_file_fault unit its within fault RanPast h = elim h [ inl e ↦ cc | inr e ↦ cc ]
+no_file_fault : (unit : AngleUnit) (its : SurveyedStation) (residual : ℕ) (within : Option ℕ)
+    (fault : Fault) (input : Input)
+    → ByInput unit its.station residual within input (Err (File fault)) → ⊥
+no_file_fault unit its residual within fault (Ended bytes) h = h
+no_file_fault unit its residual within fault (BrokeOff bytes) h =
+    elim h [ inl e ↦ cc | inr e ↦ cc ]
+no_file_fault unit its residual within fault RanPast h = elim h [ inl e ↦ cc | inr e ↦ cc ]
 
-module _ (unit : AngleUnit) (limits : FaceLimits) (lines : FileAnswers) (stated : Told)
+module _ (unit : AngleUnit) (limits : ResultLimits) (lines : FileAnswers) (stated : Told)
     (name : List ℕ) (within : Option ℕ) where
   -- A table that agrees is compared.
   pub compared_of : (a : Agreement) (h : Agrees unit limits lines stated name within a)
@@ -72,12 +76,12 @@ module _ (unit : AngleUnit) (limits : FaceLimits) (lines : FileAnswers) (stated 
 
   -- What is answered, where the station was found.
   pub compares_by_table : (its : SurveyedStation) (r : Result Agreement CompareFault)
-      → IsStationOfFile limits lines name its
-      → ByInput unit its.station within (input_within LONGEST_TABLE stated) r
+      → IsStationOfFile limits.faces lines name its
+      → ByInput unit its.station limits.residual within (input_within LONGEST_TABLE stated) r
       → Compares unit limits lines stated name within r
   compares_by_table its (Ok a) station h =
       let (bytes, whole, is) =
-      ended_by unit its.station within a (input_within LONGEST_TABLE stated) h in
+      ended_by unit its.station limits.residual within a (input_within LONGEST_TABLE stated) h in
       record {
         its = its;
         station = station;
@@ -86,37 +90,41 @@ module _ (unit : AngleUnit) (limits : FaceLimits) (lines : FileAnswers) (stated 
         directions = is.how_far.compared.directions;
         states = is.how_far.compared.states;
         adjustable = is.how_far.compared.are_apart.adjustable;
+        held = is.how_far.held;
         brought = λ c turns least. (is.how_far.compared.are_apart.from_each c turns least).brought;
         no_nearer = λ n fewer c turns least.
             (is.how_far.compared.are_apart.from_each c turns least).no_nearer n fewer;
         agrees = is.agrees;
+        greatest = is.greatest;
         limit = is.how_far.limit;
         named = is.named;
+        counted_sets = is.counted_sets;
         counted = is.counted;
       }
   compares_by_table its (Err (File fault)) station h =
-      absurd (no_file_fault unit its within fault (input_within LONGEST_TABLE stated) h)
+      absurd (no_file_fault unit its limits.residual within fault
+      (input_within LONGEST_TABLE stated) h)
   compares_by_table its (Err Memory) station h = tt
   compares_by_table its (Err fault) station h =
       record { its = its; station = station; by_input = h }
 
   -- What is answered of a fault of the field file.
-  pub compares_by_file : (fault : Fault) → IsOfFile fault → Surveys limits lines (Err fault)
+  pub compares_by_file : (fault : Fault) → IsOfFile fault → Surveys limits.faces lines (Err fault)
       → Compares unit limits lines stated name within (Err (of_file fault))
   compares_by_file file.NoStation o h = absurd o
   compares_by_file file.Memory o h = tt
   compares_by_file fault o h = h
 
 -- An answer from the table on leaves the field file's reader read to its end.
-pub left_by_table : (unit : AngleUnit) (its : SurveyedStation) (within : Option ℕ)
-    (r : Result Agreement CompareFault)
-    (input : Input) (gsi : ReaderChange) → ByInput unit its.station within input r → IsReadOut gsi
+pub left_by_table : (unit : AngleUnit) (its : SurveyedStation) (residual : ℕ) (within : Option ℕ)
+    (r : Result Agreement CompareFault) (input : Input) (gsi : ReaderChange)
+    → ByInput unit its.station residual within input r → IsReadOut gsi
     → Leaves field_file_left r gsi
-left_by_table unit its within (Ok a) input gsi h out = out
-left_by_table unit its within (Err (File fault)) input gsi h out =
-    absurd (no_file_fault unit its within fault input h)
-left_by_table unit its within (Err Memory) input gsi h out = out.unfailed
-left_by_table unit its within (Err fault) input gsi h out = out
+left_by_table unit its residual within (Ok a) input gsi h out = out
+left_by_table unit its residual within (Err (File fault)) input gsi h out =
+    absurd (no_file_fault unit its residual within fault input h)
+left_by_table unit its residual within (Err Memory) input gsi h out = out.unfailed
+left_by_table unit its residual within (Err fault) input gsi h out = out
 
 -- A fault of the field file leaves the table's reader as it was, and its own as it says.
 pub left_alone : (A : Type 0) (fault : Fault) (table : ReaderChange) → IsUnasked table
@@ -135,17 +143,18 @@ pub left_by_file : {A B : Type 0} (s : Result A Fault) (fault : Fault) (r : Resu
 left_by_file s fault r gsi e f h = rw f (left_with fault gsi (rw e at h))
 
 -- So does a station that has no table.
-pub left_by_no_table : {T : Type 0} (items : T → List ℕ) (its : SurveyedStation) (count : ℕ)
-    (r : Result T CompareFault) (gsi : ReaderChange)
-    → MatchResult r (λ t. IsDirectionsText its.station count (items t)) (HasNoTable its.station)
+pub left_by_no_table : {T : Type 0} (items : T → List ℕ) (its : SurveyedStation)
+    (residual count : ℕ) (r : Result T CompareFault) (gsi : ReaderChange)
+    → MatchResult r (λ t. IsDirectionsText its.station count (items t))
+    (HasNoTable its.station residual)
     → IsReadOut gsi → Leaves field_file_left r gsi
-left_by_no_table items its count (Ok text) gsi h out = out
-left_by_no_table items its count (Err (Adjust fault)) gsi h out = out
-left_by_no_table items its count (Err Memory) gsi h out = out.unfailed
-left_by_no_table items its count (Err fault) gsi h out = absurd h
+left_by_no_table items its residual count (Ok text) gsi h out = out
+left_by_no_table items its residual count (Err (Adjust fault)) gsi h out = out
+left_by_no_table items its residual count (Err Memory) gsi h out = out.unfailed
+left_by_no_table items its residual count (Err fault) gsi h out = absurd h
 
 -- Of two readers that tell, the answer is of what they tell.
-pub comparison_as_told : (unit : AngleUnit) (limits : FaceLimits) (within : Option ℕ)
+pub comparison_as_told : (unit : AngleUnit) (limits : ResultLimits) (within : Option ℕ)
     (gsi table : ReaderChange)
     (name : List ℕ) (r : Result Agreement CompareFault)
     → IsComparison unit limits within gsi table name r → (file stated : Told)

@@ -6,3 +6,4 @@ pub mod OneAnswer
 pub mod OneText
 pub mod SomeAnswer
 pub mod OwnDirections
+pub mod StationTexts

@@ -5,9 +5,11 @@ use Rattle.direction_table.specs.TableTexts.{names_of, table_text}
 use Rattle.direction_table.specs.Texts.{AreDecimals, step_of}
 use Rattle.direction_table.specs.declared.table.TargetDirection.{TargetDirection}
 use Rattle.exact_adjustment.proofs.LawLemmas.{one_fault}
+use Rattle.exact_adjustment.specs.LeastOf.{HasResidualsWithin}
 use Rattle.gsi_file.specs.FileAnswers.{FileAnswers}
 use Rattle.least_directions.proofs.LawLemmas.{one_list}
-use Rattle.station_book.specs.Limits.{AreLimits, FaceLimits}
+use Rattle.station_book.specs.Limits.{AreLimits}
+use Rattle.station_book.specs.declared.result_limits.ResultLimits.{ResultLimits}
 use Rattle.station_book.specs.Stations.{SurveyedStation}
 use Rattle.station_check.specs.declared.fault.Fault.TheVariants.{NoStation}
 use Rattle.station_compare.proofs.Comparisons.{no_adjust_fault}
@@ -32,7 +34,7 @@ same_rows (x ∷ xs) (y ∷ ys) e f =
     let numbers : numbers_of xs ≡ numbers_of ys = cc in
     λ i. record { name = n i; direction = d i } ∷ same_rows xs ys names numbers i
 
-module _ (station : StationValue) (count : ℕ) (decimals : AreDecimals count) where
+module _ (station : StationValue) (residual count : ℕ) (decimals : AreDecimals count) where
   one_text : (a b : List ℕ) → IsDirectionsText station count a → IsDirectionsText station count b
       → a ≡ b
   one_text a b p q =
@@ -45,40 +47,41 @@ module _ (station : StationValue) (count : ℕ) (decimals : AreDecimals count) w
 
   -- What is answered of a station.
   abbrev Fits : Result (List ℕ) CompareFault → Type 0
-  Fits (Ok text) = IsDirectionsText station count text
-  Fits (Err fault) = HasNoTable station fault
+  Fits (Ok text) = HasResidualsWithin station residual × IsDirectionsText station count text
+  Fits (Err fault) = HasNoTable station residual fault
 
   one_of_station : (r s : Result (List ℕ) CompareFault) → IsSettled r → IsSettled s
       → Fits r → Fits s → r ≡ s
-  one_of_station (Ok a) (Ok b) set also p h = ap Ok (one_text a b p h)
+  one_of_station (Ok a) (Ok b) set also p h = ap Ok (one_text a b p.1 h.1)
   one_of_station (Ok a) (Err (Adjust g)) set also p h =
-      absurd (no_adjust_fault station g p.rounded.adjustable also h)
+      absurd (no_adjust_fault station residual g p.1.rounded.adjustable p.0 also h)
   one_of_station (Err (Adjust f)) (Ok b) set also p h =
-      absurd (no_adjust_fault station f h.rounded.adjustable set p)
+      absurd (no_adjust_fault station residual f h.1.rounded.adjustable h.0 set p)
   one_of_station (Err (Adjust f)) (Err (Adjust g)) set also p h =
-      ap (λ k. Err (Adjust k)) (one_fault station f g set also p h)
+      ap (λ k. Err (Adjust k)) (one_fault station residual f g set also p h)
   one_of_station r s set also p h = absurd (assumption)
 
-module _ (limits : FaceLimits) (small : AreLimits limits) (file : FileAnswers) (name : List ℕ)
+module _ (limits : ResultLimits) (small : AreLimits limits.faces) (file : FileAnswers) (name : List ℕ)
     (count : ℕ) (decimals : AreDecimals count) where
   -- What is said of an answer's station.
   abbrev So : SurveyedStation → Result (List ℕ) CompareFault → Type 0
-  So its r = IsSettled r × Fits its.station count decimals r
+  So its r = IsSettled r × Fits its.station limits.residual count decimals r
 
   stands : (r : Result (List ℕ) CompareFault) → IsSettled r
-      → TellsDirections limits file name count r → IsOf limits small file name So r
+      → TellsDirections limits file name count r → IsOf limits.faces small file name So r
   stands (Ok text) set h =
-      of_station limits small file name So h.its (Ok text) h.station (set, h.directions)
-  stands (Err (File NoStation)) set h = of_none limits small file name So h
-  stands (Err (File fault)) set h = of_fault limits small file name So fault h
+      of_station limits.faces small file name So h.its (Ok text) h.station
+      (set, (h.held, h.directions))
+  stands (Err (File NoStation)) set h = of_none limits.faces small file name So h
+  stands (Err (File fault)) set h = of_fault limits.faces small file name So fault h
   stands (Err Memory) set h = absurd set
   stands (Err fault) set h =
-      of_station limits small file name So h.its (Err fault) h.station (set, h.none)
+      of_station limits.faces small file name So h.its (Err fault) h.station (set, h.none)
 
   -- The directions of a station have one answer.
   pub one_text_of_file : (r s : Result (List ℕ) CompareFault) → IsSettled r → IsSettled s
       → TellsDirections limits file name count r → TellsDirections limits file name count s
       → r ≡ s
-  one_text_of_file r s set also p h = one_of_each limits small file name So
-      (λ its x y a b. one_of_station its.station count decimals x y a.0 b.0 a.1 b.1) r s
+  one_text_of_file r s set also p h = one_of_each limits.faces small file name So
+      (λ its x y a b. one_of_station its.station limits.residual count decimals x y a.0 b.0 a.1 b.1) r s
       (stands r set p) (stands s also h)

@@ -1,5 +1,5 @@
 -- A comparison of what was written as the station's own directions.
-use Rattle.std.proofs.Common.{◌≡◌, ℕ, ◌-◌, ◌^◌, ◌≤◌, ◌<◌, Bool, false, List, [], ◌∷◌}
+use Rattle.std.proofs.Common.{◌≡◌, ℕ, ◌-◌, ◌^◌, ◌≤◌, ◌<◌, Bool, false, List}
 use Rattle.std.proofs.Common.{length, map, pos, Err, arith, ap, sym, subst, ◌∙◌}
 use Rattle.std.proofs.Common.{if◌then◌else◌, Option, Some, None, ◌*◌}
 use Rattle.std.proofs.Math.Nat.{pow-le-pow_right}
@@ -17,10 +17,12 @@ use Rattle.direction_table.specs.declared.reading.TheConstants.{LONGEST_TABLE}
 use Rattle.direction_table.specs.declared.table.TargetDirection.{TargetDirection}
 use Rattle.gsi_file.specs.FileAnswers.{FileAnswers}
 use Rattle.directions_apart.specs.Apart.{stated_by}
+use Rattle.exact_adjustment.specs.LeastOf.{HasResidualsWithin}
 use Rattle.exact_adjustment.specs.declared.fault.AdjustFault.TheVariants.{NotFound}
 use Rattle.least_directions.proofs.LawLemmas.{rounded}
 use Rattle.least_directions.specs.LeastDirections.{AreApart}
-use Rattle.station_book.specs.Limits.{AreLimits, FaceLimits}
+use Rattle.station_book.specs.Limits.{AreLimits}
+use Rattle.station_book.specs.declared.result_limits.ResultLimits.{ResultLimits}
 use Rattle.station_book.specs.Stations.{SurveyedStation}
 use Rattle.station_check.specs.StationOfFile.{IsStationOfFile}
 use Rattle.station_check.specs.declared.fault.Fault.TheVariants.{NoStation}
@@ -83,20 +85,20 @@ module _ (count : ℕ) (text : List ℕ) (many : 6 ≤ count) where
         let some = usual_some (rows_of station.targets text) in
         absurd (omega (arith, more, few, some))
 
-    by_table : (within : Option ℕ) (fault : CompareFault)
-        → ByTable Gon station within text (Err fault)
+    by_table : (residual : ℕ) → HasResidualsWithin station residual → (within : Option ℕ)
+        (fault : CompareFault) → ByTable Gon station residual within text (Err fault)
         → MayRefuse within fault
-    by_table within (Table fault) h =
+    by_table residual held within (Table fault) h =
         absurd (never_both Gon station.targets text (directions_of own.stated) fault own.reads h)
-    by_table within (Adjust NotFound) h = tt
-    by_table within (Adjust fault) h =
-        absurd (no_adjust_fault station fault own.rounded.adjustable tt h.fault_stands)
-    by_table within (Apart n) h =
+    by_table residual held within (Adjust NotFound) h = tt
+    by_table residual held within (Adjust fault) h =
+        absurd (no_adjust_fault station residual fault own.rounded.adjustable held tt h.fault_stands)
+    by_table residual held within (Apart n) h =
         no_more within n.apart (rw h.1.limit at h.0) (own_apart n.apart h.1.compared)
-    by_table within Memory h = tt
-    by_table within fault h = h
+    by_table residual held within Memory h = tt
+    by_table residual held within fault h = h
 
-  module _ (limits : FaceLimits) (small : AreLimits limits) (file : FileAnswers) (name : List ℕ)
+  module _ (limits : ResultLimits) (small : AreLimits limits.faces) (file : FileAnswers) (name : List ℕ)
       (own : StatesDirections limits file name count text) where
     abbrev whole : Told
     whole = record { bytes = text; fails = false }
@@ -105,11 +107,14 @@ module _ (count : ℕ) (text : List ℕ) (many : 6 ≤ count) where
     read = read_whole text own.directions.reads.short
 
     -- The station that a comparison finds is that of the directions.
-    its : (other : SurveyedStation) → IsStationOfFile limits file name other
-        → IsDirectionsText other.station count text
+    its : (other : SurveyedStation) → IsStationOfFile limits.faces file name other
+        → HasResidualsWithin other.station limits.residual
+        × IsDirectionsText other.station count text
     its other s =
-        subst (λ (o : SurveyedStation). IsDirectionsText o.station count text)
-        (same_station limits small file name own.its other own.station s) own.directions
+        subst (λ (o : SurveyedStation). HasResidualsWithin o.station limits.residual
+        × IsDirectionsText o.station count text)
+        (same_station limits.faces small file name own.its other own.station s)
+        (own.held, own.directions)
 
     -- Where own directions agree with their file, they are apart by 1 unit at most.
     pub agrees_by_1 : (within : Option ℕ) (a : Agreement)
@@ -118,7 +123,7 @@ module _ (count : ℕ) (text : List ℕ) (many : 6 ≤ count) where
     agrees_by_1 within a h =
         let ended : Ended text ≡ Ended h.bytes = sym read ∙ h.whole in
         let same : text ≡ h.bytes = cc in
-        own_apart h.its.station (its h.its h.station) a.how_far.apart
+        own_apart h.its.station (its h.its h.station).1 a.how_far.apart
         (subst (λ bytes. IsComparedWith Gon h.its.station bytes a.how_far.apart) (sym same)
         (compared_of Gon limits file whole name within a h))
 
@@ -126,11 +131,12 @@ module _ (count : ℕ) (text : List ℕ) (many : 6 ≤ count) where
     pub may_refuse : (within : Option ℕ) (fault : CompareFault)
         → Compares Gon limits file whole name within (Err fault) → MayRefuse within fault
     may_refuse within (File NoStation) h =
-        absurd (never_none limits small file name own.its own.station h)
+        absurd (never_none limits.faces small file name own.its own.station h)
     may_refuse within (File fault) h =
-        absurd (no_file_fault limits small file name own.its own.station fault h)
+        absurd (no_file_fault limits.faces small file name own.its own.station fault h)
     may_refuse within Memory h = tt
     may_refuse within fault h =
-        by_table h.its.station (its h.its h.station) within fault
+        let own_too = its h.its h.station in
+        by_table h.its.station own_too.1 limits.residual own_too.0 within fault
         (subst (λ (input : Input).
-        ByInput Gon h.its.station within input (Err fault)) read h.by_input)
+        ByInput Gon h.its.station limits.residual within input (Err fault)) read h.by_input)

@@ -24,6 +24,7 @@ use Rattle.gsi_file.specs.declared.file_fault.FileKind.{FileKind}
 use Rattle.station_book.proofs.LawLemmas as book
 use Rattle.station_book.specs.Faults.{fault_at_end}
 use Rattle.station_book.specs.Limits.{AreLimits, FaceLimits}
+use Rattle.station_book.specs.declared.result_limits.ResultLimits.{ResultLimits}
 use Rattle.station_book.specs.Places.{History}
 use Rattle.station_book.specs.Stations.{SurveyedStation, station_named}
 use Rattle.station_book.specs.declared.fault.BookKind.{BookKind}
@@ -120,7 +121,7 @@ module _ (limits : FaceLimits) (small : AreLimits limits) (file : FileAnswers) (
   of_file : Answer
   of_file = let came = some_outcome limits file in by_outcome came.0 came.1
 
-module _ (unit : AngleUnit) (limits : FaceLimits) (small : AreLimits limits) (file : FileAnswers)
+module _ (unit : AngleUnit) (limits : ResultLimits) (small : AreLimits limits.faces) (file : FileAnswers)
     (stated : Told) (name : List ℕ) (within : Option ℕ) where
   abbrev AnAnswer : Type 0
   AnAnswer =
@@ -128,19 +129,19 @@ module _ (unit : AngleUnit) (limits : FaceLimits) (small : AreLimits limits) (fi
       × IsNoMemory r)
       ⊎ IsUpToAdjustment unit limits file stated name
 
-  by_fault : (fault : Fault) → FileComesTo limits file (Err fault) → AnAnswer
-  by_fault NoStation h = absurd (never_no_station limits [] file.lines file.last h)
+  by_fault : (fault : Fault) → FileComesTo limits.faces file (Err fault) → AnAnswer
+  by_fault NoStation h = absurd (never_no_station limits.faces [] file.lines file.last h)
   by_fault fault h = inl (Err (File fault), h, tt)
 
   -- Where the station was found, what comes of the table has an answer, or comes to an adjustment.
-  module _ (its : SurveyedStation) (of : IsStationOfFile limits file name its) where
+  module _ (its : SurveyedStation) (of : IsStationOfFile limits.faces file name its) where
     answered : (input : Input) → input_within LONGEST_TABLE stated ≡ input
-        → (r : Result Agreement CompareFault) → ByInput unit its.station within input r
+        → (r : Result Agreement CompareFault) → ByInput unit its.station limits.residual within input r
         → IsNoMemory r → AnAnswer
     answered input e r h settled = inl (
       r,
       compares_by_table unit limits file stated name within its
-          r of (subst (λ i. ByInput unit its.station within i r) (sym e) h),
+          r of (subst (λ i. ByInput unit its.station limits.residual within i r) (sym e) h),
       settled,
     )
 
@@ -165,22 +166,22 @@ module _ (unit : AngleUnit) (limits : FaceLimits) (small : AreLimits limits) (fi
     ]
 
   pub some_answer : AnAnswer
-  some_answer = of_file limits small file name AnAnswer by_fault
+  some_answer = of_file limits.faces small file name AnAnswer by_fault
       (λ h. inl (Err (File NoStation), h, tt))
       (λ its of. by_input its of (input_within LONGEST_TABLE stated) refl)
 
-module _ (limits : FaceLimits) (small : AreLimits limits) (file : FileAnswers) (name : List ℕ)
+module _ (limits : ResultLimits) (small : AreLimits limits.faces) (file : FileAnswers) (name : List ℕ)
     (count : ℕ) where
   abbrev AText : Type 0
   AText =
       ((r : Result (List ℕ) CompareFault) × TellsDirections limits file name count r × IsNoMemory r)
       ⊎ IsHeldTogether limits file name
 
-  no_text : (fault : Fault) → FileComesTo limits file (Err fault) → AText
-  no_text NoStation h = absurd (never_no_station limits [] file.lines file.last h)
+  no_text : (fault : Fault) → FileComesTo limits.faces file (Err fault) → AText
+  no_text NoStation h = absurd (never_no_station limits.faces [] file.lines file.last h)
   no_text fault h = inl (Err (File fault), h, tt)
 
-  by_station : (its : SurveyedStation) → IsStationOfFile limits file name its → AText
+  by_station : (its : SurveyedStation) → IsStationOfFile limits.faces file name its → AText
   by_station its of = elim (tied_or_not its.station) [
     | inl tied ↦ inr (record { its = its; station = of; tied = tied })
     | inr loose ↦ inl (
@@ -191,5 +192,5 @@ module _ (limits : FaceLimits) (small : AreLimits limits) (file : FileAnswers) (
   ]
 
   pub some_directions : AText
-  some_directions = of_file limits small file name AText no_text
+  some_directions = of_file limits.faces small file name AText no_text
       (λ h. inl (Err (File NoStation), h, tt)) by_station

@@ -6,7 +6,7 @@ use Rattle.byte_ends.specs.Source.{Told, ReaderChange, MayGive, HasGiven, given_
 use Rattle.direction_table.specs.declared.fault.TableFault.TheVariants as table
 use Rattle.direction_table.specs.declared.reading.TheConstants.{LONGEST_TABLE}
 use Rattle.gsi_file.specs.FileAnswers.{FileAnswers, file_answers}
-use Rattle.station_book.specs.Limits.{FaceLimits}
+use Rattle.station_book.specs.declared.result_limits.ResultLimits.{ResultLimits}
 use Rattle.station_book.specs.Stations.{SurveyedStation}
 use Rattle.station_check.specs.Answerable.{file_left}
 use Rattle.station_check.specs.Means.{HasNoStation}
@@ -22,22 +22,24 @@ use Rattle.station_compare.specs.declared.fault.CompareFault.TheVariants.{Adjust
 use Rattle.direction_table.specs.declared.unit.AngleUnit.{AngleUnit}
 
 -- The file has a station of this name, and with what came of the table's reader this is the fault.
-pub record IsRefusedByTable (unit : AngleUnit) (limits : FaceLimits) (file : FileAnswers)
+pub record IsRefusedByTable (unit : AngleUnit) (limits : ResultLimits) (file : FileAnswers)
     (stated : Told)
     (name : List ℕ) (within : Option ℕ) (fault : CompareFault) : Type 0 where
   pub its : SurveyedStation
-  pub station : IsStationOfFile limits file name its
-  pub by_input : ByInput unit its.station within (input_within LONGEST_TABLE stated) (Err fault)
+  pub station : IsStationOfFile limits.faces file name its
+  pub by_input : ByInput unit its.station limits.residual within
+      (input_within LONGEST_TABLE stated) (Err fault)
 
 -- What is answered, for the station of a name: that the table agrees; or the first fault that
 -- stands, in the order of the file, the station, the table, the adjustment and how far they are
 -- apart.
-abbrev pub Compares : AngleUnit → FaceLimits → FileAnswers → Told → List ℕ → Option ℕ
+abbrev pub Compares : AngleUnit → ResultLimits → FileAnswers → Told → List ℕ → Option ℕ
     → Result Agreement CompareFault → Type 0
 Compares unit limits file stated name within (Ok a) = Agrees unit limits file stated name within a
-Compares unit limits file stated name within (Err (File NoStation)) = HasNoStation limits file name
-Compares unit limits file stated name within (Err (File fault)) = FileComesTo limits file
-    (Err fault)
+Compares unit limits file stated name within (Err (File NoStation)) =
+    HasNoStation limits.faces file name
+Compares unit limits file stated name within (Err (File fault)) =
+    FileComesTo limits.faces file (Err fault)
 Compares unit limits file stated name within (Err Memory) = ⊤
 Compares unit limits file stated name within (Err fault) =
     IsRefusedByTable unit limits file stated name within fault
@@ -63,7 +65,7 @@ field_file_left Memory = Unfailed
 field_file_left fault = ReadOut
 
 -- The answer on what two readers gave, whatever they are, and how both are left.
-pub record IsComparison (unit : AngleUnit) (limits : FaceLimits) (within : Option ℕ)
+pub record IsComparison (unit : AngleUnit) (limits : ResultLimits) (within : Option ℕ)
     (gsi table : ReaderChange)
     (name : List ℕ) (r : Result Agreement CompareFault) : Type 0 where
   -- The field file's reader gave these bytes, and the table's reader these.

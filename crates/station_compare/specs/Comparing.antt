@@ -7,6 +7,7 @@ use Rattle.direction_table.specs.Tables.{IsTableFault, IsTableText}
 use Rattle.direction_table.specs.declared.fault.TableFault.TheVariants.{TooLong}
 use Rattle.directions_apart.specs.Apart.{stated_by}
 use Rattle.exact_adjustment.specs.Faults.{IsAdjustFault}
+use Rattle.exact_adjustment.specs.LeastOf.{HasResidualsWithin}
 use Rattle.exact_adjustment.specs.declared.fault.AdjustFault.{AdjustFault}
 use Rattle.least_directions.specs.LeastDirections.{AreApart}
 use Rattle.station_compare.specs.LimitInForce.{limit_in_force}
@@ -15,6 +16,7 @@ use Rattle.station_compare.specs.declared.fault.CompareFault.{CompareFault}
 use Rattle.station_compare.specs.declared.fault.CompareFault.TheVariants.{TableRead, Table}
 use Rattle.station_compare.specs.declared.fault.CompareFault.TheVariants.{Adjust, Apart, Memory}
 use Rattle.station_compare.specs.declared.how_far.HowFar.{HowFar}
+use Rattle.station_results.specs.Greatest.{IsGreatestSize}
 use Rattle.direction_table.specs.declared.unit.AngleUnit.{AngleUnit}
 
 -- So far are the directions of a table apart from the least-squares directions of a station: one
@@ -26,40 +28,46 @@ pub record IsComparedWith (unit : AngleUnit) (station : StationValue) (bytes : L
   pub states : IsTableText unit station.targets bytes directions
   pub are_apart : AreApart station (stated_by directions) apart
 
--- How far the table is apart is this, and the limit is the one in force.
-pub record IsHowFar (unit : AngleUnit) (station : StationValue) (bytes : List ℕ)
+-- No least-squares residual is above the limit of residuals, in half units; how far the table is
+-- apart is this, and the limit is the one in force.
+pub record IsHowFar (unit : AngleUnit) (station : StationValue) (residual : ℕ) (bytes : List ℕ)
     (within : Option ℕ) (h : HowFar) : Type 0 where
+  pub held : HasResidualsWithin station residual
   pub compared : IsComparedWith unit station bytes h.apart
   pub limit : h.limit ≡ limit_in_force unit within station.targets bytes
 
--- The table agrees: its directions are no further apart than the limit in force.
-pub record IsAgreement (unit : AngleUnit) (station : StationValue) (bytes : List ℕ)
+-- The table agrees: its directions are no further apart than the limit in force. The greatest
+-- residual of the station has this size.
+pub record IsAgreement (unit : AngleUnit) (station : StationValue) (residual : ℕ) (bytes : List ℕ)
     (within : Option ℕ) (a : Agreement) : Type 0 where
-  pub how_far : IsHowFar unit station bytes within a.how_far
+  pub how_far : IsHowFar unit station residual bytes within a.how_far
   pub agrees : a.how_far.apart ≤ a.how_far.limit
+  pub greatest : IsGreatestSize station a.greatest
   pub named : a.name ≡ station.name
+  pub counted_sets : a.sets ≡ length station.sets
   pub counted : a.targets ≡ length station.targets
 
 -- The bytes are a table of the station's directions, and its adjustment has this fault.
-pub record IsUnadjusted (unit : AngleUnit) (station : StationValue) (bytes : List ℕ)
-    (fault : AdjustFault)
-    : Type 0 where
+pub record IsUnadjusted (unit : AngleUnit) (station : StationValue) (residual : ℕ)
+    (bytes : List ℕ) (fault : AdjustFault) : Type 0 where
   pub directions : List ℤ
   pub states : IsTableText unit station.targets bytes directions
-  pub fault_stands : IsAdjustFault station fault
+  pub fault_stands : IsAdjustFault station residual fault
 
--- What is answered of a station and the bytes of a table. Where memory runs out in the adjustment,
--- that is no fault of it.
+-- What is answered of a station, whose residuals are held to a limit in half units, and the bytes of
+-- a table. Where memory runs out in the adjustment, that is no fault of it.
 abbrev pub ByTable : AngleUnit →
-    StationValue → Option ℕ → List ℕ → Result Agreement CompareFault → Type 0
-ByTable unit station within bytes (Ok a) = IsAgreement unit station bytes within a
-ByTable unit station within bytes (Err (Table fault)) = IsTableFault unit station.targets bytes
-    fault
-ByTable unit station within bytes (Err (Adjust fault)) = IsUnadjusted unit station bytes fault
-ByTable unit station within bytes (Err (Apart h)) =
-    (h.limit < h.apart) × IsHowFar unit station bytes within h
-ByTable unit station within bytes (Err Memory) = ⊤
-ByTable unit station within bytes (Err fault) = ⊥
+    StationValue → ℕ → Option ℕ → List ℕ → Result Agreement CompareFault → Type 0
+ByTable unit station residual within bytes (Ok a) =
+    IsAgreement unit station residual bytes within a
+ByTable unit station residual within bytes (Err (Table fault)) =
+    IsTableFault unit station.targets bytes fault
+ByTable unit station residual within bytes (Err (Adjust fault)) =
+    IsUnadjusted unit station residual bytes fault
+ByTable unit station residual within bytes (Err (Apart h)) =
+    (h.limit < h.apart) × IsHowFar unit station residual bytes within h
+ByTable unit station residual within bytes (Err Memory) = ⊤
+ByTable unit station residual within bytes (Err fault) = ⊥
 
 -- This fault is answered, or that memory ran out.
 abbrev pub IsFaultOrMemory : Result Agreement CompareFault → CompareFault → Type 0
@@ -67,7 +75,8 @@ IsFaultOrMemory result fault = (result ≡ Err fault) ⊎ (result ≡ Err Memory
 
 -- The same of what came of the table's reader.
 abbrev pub ByInput : AngleUnit →
-    StationValue → Option ℕ → Input → Result Agreement CompareFault → Type 0
-ByInput unit station within (Ended bytes) result = ByTable unit station within bytes result
-ByInput unit station within (BrokeOff bytes) result = IsFaultOrMemory result TableRead
-ByInput unit station within RanPast result = IsFaultOrMemory result (Table TooLong)
+    StationValue → ℕ → Option ℕ → Input → Result Agreement CompareFault → Type 0
+ByInput unit station residual within (Ended bytes) result =
+    ByTable unit station residual within bytes result
+ByInput unit station residual within (BrokeOff bytes) result = IsFaultOrMemory result TableRead
+ByInput unit station residual within RanPast result = IsFaultOrMemory result (Table TooLong)

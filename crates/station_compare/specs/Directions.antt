@@ -7,8 +7,9 @@ use Rattle.direction_table.specs.Texts.{IsWhole, step_of}
 use Rattle.direction_table.specs.declared.table.TargetDirection.{TargetDirection}
 use Rattle.gsi_file.specs.FileAnswers.{FileAnswers}
 use Rattle.exact_adjustment.specs.Faults.{IsAdjustFault}
+use Rattle.exact_adjustment.specs.LeastOf.{HasResidualsWithin}
 use Rattle.least_directions.specs.LeastDirections.{AreRounded}
-use Rattle.station_book.specs.Limits.{FaceLimits}
+use Rattle.station_book.specs.declared.result_limits.ResultLimits.{ResultLimits}
 use Rattle.station_book.specs.Stations.{SurveyedStation}
 use Rattle.station_check.specs.Means.{HasNoStation}
 use Rattle.station_check.specs.Outcomes.{FileComesTo}
@@ -38,37 +39,39 @@ pub record IsDirectionsText (station : StationValue) (count : ℕ) (text : List 
   -- And the text is read as the table of these very directions.
   pub reads : IsTableText Gon station.targets text (directions_of stated)
 
--- The file has a station of this name, and this is its table.
-pub record StatesDirections (limits : FaceLimits) (file : FileAnswers) (name : List ℕ) (count : ℕ)
+-- The file has a station of this name, no least-squares residual is above the limit of residuals,
+-- and this is its table.
+pub record StatesDirections (limits : ResultLimits) (file : FileAnswers) (name : List ℕ) (count : ℕ)
     (text : List ℕ) : Type 0 where
   pub its : SurveyedStation
-  pub station : IsStationOfFile limits file name its
+  pub station : IsStationOfFile limits.faces file name its
+  pub held : HasResidualsWithin its.station limits.residual
   pub directions : IsDirectionsText its.station count text
 
--- Why a station has no table: what its adjustment has, or that there was no memory.
-abbrev pub HasNoTable : StationValue → CompareFault → Type 0
-HasNoTable station (Adjust fault) = IsAdjustFault station fault
-HasNoTable station Memory = ⊤
-HasNoTable station fault = ⊥
+-- Why a station whose residuals are held to a limit in half units has no table: what its adjustment
+-- has, or that there was no memory.
+abbrev pub HasNoTable : StationValue → ℕ → CompareFault → Type 0
+HasNoTable station residual (Adjust fault) = IsAdjustFault station residual fault
+HasNoTable station residual Memory = ⊤
+HasNoTable station residual fault = ⊥
 
 -- The file has a station of this name, and this is why it has no table.
-pub record IsWithoutTable (limits : FaceLimits) (file : FileAnswers) (name : List ℕ)
+pub record IsWithoutTable (limits : ResultLimits) (file : FileAnswers) (name : List ℕ)
     (fault : CompareFault) : Type 0 where
   pub its : SurveyedStation
-  pub station : IsStationOfFile limits file name its
-  pub none : HasNoTable its.station fault
+  pub station : IsStationOfFile limits.faces file name its
+  pub none : HasNoTable its.station limits.residual fault
 
 -- Why no table is printed: the first fault that stands, in the order of the file, the station and
 -- the adjustment.
-abbrev pub HasNoDirections :
-    FaceLimits → FileAnswers → List ℕ → CompareFault → Type 0
-HasNoDirections limits file name (File NoStation) = HasNoStation limits file name
-HasNoDirections limits file name (File fault) = FileComesTo limits file (Err fault)
+abbrev pub HasNoDirections : ResultLimits → FileAnswers → List ℕ → CompareFault → Type 0
+HasNoDirections limits file name (File NoStation) = HasNoStation limits.faces file name
+HasNoDirections limits file name (File fault) = FileComesTo limits.faces file (Err fault)
 HasNoDirections limits file name Memory = ⊤
 HasNoDirections limits file name fault = IsWithoutTable limits file name fault
 
 -- What is answered: the text of the table, or why there is none.
-abbrev pub TellsDirections : FaceLimits → FileAnswers → List ℕ → ℕ
+abbrev pub TellsDirections : ResultLimits → FileAnswers → List ℕ → ℕ
     → Result (List ℕ) CompareFault → Type 0
 TellsDirections limits file name count (Ok text) = StatesDirections limits file name count text
 TellsDirections limits file name count (Err fault) = HasNoDirections limits file name fault

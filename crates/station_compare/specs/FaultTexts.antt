@@ -1,16 +1,14 @@
--- The text of a fault, as the line of a refusal has it: where it is, its name, and what it carries;
--- and the line of a table that agrees (profile).
-use Rattle.std.specs.Prelude.{ℕ, List, Some, [], ◌++◌, codes, decimal}
-use Rattle.angle_texts.specs.MgonTexts.{thousandths_text}
+-- The text of a fault, as the line of a refusal has it: where it is, its name, and what it carries
+-- (profile).
+use Rattle.std.specs.Prelude.{ℕ, List, Some, [], ◌++◌, codes}
 use Rattle.direction_table.specs.declared.fault.TableFault.TheVariants as table
 use Rattle.exact_adjustment.specs.declared.fault.AdjustFault.TheVariants as adjust
 use Rattle.station_check.specs.FaultTexts.{numbered_place, place_text, number_text, carried_text}
+use Rattle.station_compare.specs.AgreementTexts.{how_far_text}
 use Rattle.station_compare.specs.FaultNames.{compare_fault_name}
-use Rattle.station_compare.specs.declared.agreement.Agreement.{Agreement}
 use Rattle.station_compare.specs.declared.fault.CompareFault.{CompareFault}
 use Rattle.station_compare.specs.declared.fault.CompareFault.TheVariants.{File, TableRead, Table}
 use Rattle.station_compare.specs.declared.fault.CompareFault.TheVariants.{Adjust, Apart}
-use Rattle.station_compare.specs.declared.how_far.HowFar.{HowFar}
 
 -- Where a fault is: as the check has it, in a row of this number, or in a whole part of the
 -- comparison. A fault that is nowhere in it has no such text.
@@ -23,12 +21,6 @@ compare_place_text (Table (table.Missing target)) = codes "table: "
 compare_place_text (Adjust fault) = codes "adjust: "
 compare_place_text (Apart how_far) = codes "compare: "
 compare_place_text fault = []
-
--- How far a table is apart from its station, and the limit that it was held to, both in mgon.
-abbrev pub how_far_text : HowFar → List ℕ
-how_far_text h =
-    thousandths_text h.apart ++ (codes " mgon, limit " ++ thousandths_text h.limit)
-    ++ codes " mgon"
 
 -- What a fault carries.
 abbrev pub compare_carried_text : CompareFault → List ℕ
@@ -46,8 +38,3 @@ compare_fault_text fault =
 -- The line of a refusal.
 abbrev pub refusal_line : CompareFault → List ℕ
 refusal_line fault = codes "refused: " ++ compare_fault_text fault ++ codes "\n"
-
--- The line of a table that agrees.
-abbrev pub agreement_line : Agreement → List ℕ
-agreement_line a = codes "agrees " ++ a.name ++ (codes ": " ++ decimal a.targets)
-    ++ codes " targets, within " ++ how_far_text a.how_far ++ codes "\n"

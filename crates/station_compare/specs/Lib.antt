@@ -9,5 +9,6 @@ pub mod OwnDirections
 pub mod OneAnswer
 pub mod Faults
 pub mod FaultNames
+pub mod AgreementTexts
 pub mod FaultTexts
 pub mod Runs

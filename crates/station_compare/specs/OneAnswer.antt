@@ -7,7 +7,7 @@ use Rattle.direction_table.specs.declared.reading.TheConstants.{LONGEST_TABLE}
 use Rattle.exact_adjustment.specs.Faults.{IsOfStation}
 use Rattle.exact_adjustment.specs.LeastOf.{AreTied}
 use Rattle.gsi_file.specs.FileAnswers.{FileAnswers}
-use Rattle.station_book.specs.Limits.{FaceLimits}
+use Rattle.station_book.specs.declared.result_limits.ResultLimits.{ResultLimits}
 use Rattle.station_book.specs.Stations.{SurveyedStation}
 use Rattle.station_check.specs.StationOfFile.{IsStationOfFile}
 use Rattle.station_compare.specs.declared.fault.CompareFault.{CompareFault}
@@ -27,18 +27,18 @@ IsNoMemory (Err Memory) = ⊥
 IsNoMemory result = ⊤
 
 -- The file has a station of this name, whose observations hold all sets and targets together.
-pub record IsHeldTogether (limits : FaceLimits) (file : FileAnswers) (name : List ℕ) : Type 0 where
+pub record IsHeldTogether (limits : ResultLimits) (file : FileAnswers) (name : List ℕ) : Type 0 where
   pub its : SurveyedStation
-  pub station : IsStationOfFile limits file name its
+  pub station : IsStationOfFile limits.faces file name its
   pub tied : AreTied its.station
 
 -- All before the adjustment is without fault: the file has a station of this name, whose
 -- observations hold all sets and targets together, and the bytes are a table of its directions.
-pub record IsUpToAdjustment (unit : AngleUnit) (limits : FaceLimits) (file : FileAnswers)
+pub record IsUpToAdjustment (unit : AngleUnit) (limits : ResultLimits) (file : FileAnswers)
     (stated : Told)
     (name : List ℕ) : Type 0 where
   pub its : SurveyedStation
-  pub station : IsStationOfFile limits file name its
+  pub station : IsStationOfFile limits.faces file name its
   pub tied : AreTied its.station
   pub bytes : List ℕ
   pub whole : input_within LONGEST_TABLE stated ≡ Ended bytes

@@ -4,12 +4,12 @@ use Rattle.byte_ends.specs.Came.{Leaves}
 use Rattle.byte_ends.specs.Sink.{WriterChange}
 use Rattle.byte_ends.specs.Source.{ReaderChange}
 use Rattle.gsi_file.specs.FileAnswers.{FileAnswers}
-use Rattle.station_book.specs.Limits.{FaceLimits}
+use Rattle.station_book.specs.declared.result_limits.ResultLimits.{ResultLimits}
 use Rattle.station_check.specs.Came.{LinesCame}
 use Rattle.station_check.specs.RunEndings.{PrintsAnswer}
+use Rattle.station_compare.specs.AgreementTexts.{agreement_line}
 use Rattle.station_compare.specs.Answers.{IsComparison, field_file_left}
 use Rattle.station_compare.specs.Directions.{TellsDirections}
-use Rattle.station_compare.specs.FaultTexts.{agreement_line}
 use Rattle.station_compare.specs.declared.agreement.Agreement.{Agreement}
 use Rattle.station_compare.specs.declared.fault.CompareFault.{CompareFault}
 use Rattle.station_compare.specs.declared.fault.CompareFault.TheVariants.{Write}
@@ -23,7 +23,7 @@ pub record ReadsFieldFile {A : Type 0} (gsi : ReaderChange) (r : Result A Compar
   pub left : Leaves field_file_left r gsi
 
 -- A run of the comparison: all that it promises of its answer, and how that was printed.
-pub record IsCompareRun {A : Type 0} (unit : AngleUnit) (limits : FaceLimits) (within : Option ℕ)
+pub record IsCompareRun {A : Type 0} (unit : AngleUnit) (limits : ResultLimits) (within : Option ℕ)
     (gsi table : ReaderChange) (name : List ℕ) (r : Result A CompareFault) (out : WriterChange)
     : Type 0 where
   pub verdict : Result Agreement CompareFault
@@ -31,7 +31,7 @@ pub record IsCompareRun {A : Type 0} (unit : AngleUnit) (limits : FaceLimits) (w
   pub printed : PrintsAnswer agreement_line Write verdict r out
 
 -- A run of the directions: all that it promises of its answer, and how the text was written.
-pub record IsDirectionsRun {A : Type 0} (limits : FaceLimits) (gsi : ReaderChange) (name : List ℕ)
+pub record IsDirectionsRun {A : Type 0} (limits : ResultLimits) (gsi : ReaderChange) (name : List ℕ)
     (count : ℕ) (r : Result A CompareFault) (out : WriterChange) : Type 0 where
   pub answer : Result (List ℕ) CompareFault
   pub tells : ReadsFieldFile gsi answer (λ file. TellsDirections limits file name count answer)

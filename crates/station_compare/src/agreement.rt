@@ -1,9 +1,9 @@
 //! What is said of a table that agrees, and its line.
 
 ghost use Rattle.std.specs.Prelude.{◌≡◌};
-ghost use Rattle.station_compare.specs.FaultTexts as spec;
+ghost use Rattle.station_compare.specs.AgreementTexts as spec;
 
-use crate::how_far::{HowFar, add_how_far};
+use crate::how_far::{HowFar, add_how_far, add_thousandths};
 use adjust_kernel::Name;
 use station_check::{VerdictLine, add, add_numbered};
 
@@ -12,10 +12,14 @@ use station_check::{VerdictLine, add, add_numbered};
 pub struct Agreement {
     /// The station.
     pub name: Name,
+    /// How many sets it has.
+    pub sets: u32,
     /// How many targets it has.
     pub targets: u32,
     /// How far the table is apart from it: no further than the limit.
     pub how_far: HowFar,
+    /// Its greatest least-squares residual, without the sign, in units of 0.001 mgon.
+    pub greatest: u32,
 }
 
 /// The line of a table that agrees, with its line feed.
@@ -25,9 +29,11 @@ pub fn agreement_line(agreement: Agreement) -> VerdictLine
     let mut line = VerdictLine::new();
     add(&mut line, b"agrees ");
     add(&mut line, agreement.name.bytes());
-    add_numbered(&mut line, b": ", agreement.targets);
+    add_numbered(&mut line, b": ", agreement.sets);
+    add_numbered(&mut line, b" sets, ", agreement.targets);
     add(&mut line, b" targets, within ");
     add_how_far(&mut line, agreement.how_far);
-    add(&mut line, b"\n");
+    add_thousandths(&mut line, b", greatest residual ", agreement.greatest);
+    add(&mut line, b" mgon\n");
     line
 }

@@ -10,12 +10,14 @@ ghost use Rattle.station_compare.specs.Comparing.{ByInput, ByTable};
 use crate::agreement::Agreement;
 use crate::fault::CompareFault;
 use crate::how_far::HowFar;
-use adjust_kernel::Station;
+use adjust_kernel::{ResidualLimit, Station};
 use byte_ends::{Source, read_whole};
 use direction_table::{AngleUnit, LONGEST_TABLE, read_stated_table};
-use least_directions::apart_from_least;
-use station_book::Limits;
+use exact_adjustment::adjust;
+use least_directions::apart_by;
+use station_book::ResultLimits;
 use station_check::{Fault, stations_of_file};
+use station_results::greatest_size;
 use std::alloc::Global;
 
 /// Whether the directions that a table states agree with the least-squares directions of the
@@ -25,7 +27,7 @@ use std::alloc::Global;
 ///
 /// Where they agree, one rotation brings every stated direction so near to the least-squares one,
 /// least over all directions, orientations and full turns, and none brings them nearer by a unit.
-/// No least-squares residual may be above 2,000 half units (0.005 mgon each).
+/// No least-squares residual is above the limit of residuals.
 ///
 /// The field file is read to its end first, and the table's reader is not asked before.
 ///
@@ -39,7 +41,7 @@ pub fn compare_bytes<R: Source, Q: Source>(
     table: &mut Q,
     unit: AngleUnit,
     name: &[u8],
-    limits: Limits,
+    limits: ResultLimits,
     within: Option<u32>,
 ) -> Result<Agreement, CompareFault>
     // All of it is said of the very bytes that the two readers gave, whatever they are.
@@ -57,15 +59,15 @@ pub fn compare_sources<R: Source, Q: Source>(
     table: &mut Q,
     unit: AngleUnit,
     name: &[u8],
-    limits: Limits,
+    limits: ResultLimits,
     within: Option<u32>,
 ) -> (Result<Agreement, CompareFault>, R)
     ensures { IsComparison unit limits within (reader_change R.told R.failed R.gave gsi result.1)
         (reader_change Q.told Q.failed Q.gave table.old table.new) name.now result.0 }
 {
     // For the proof alone: limits keep their bounds.
-    limits.recall();
-    let (surveyed, gsi) = stations_of_file(alloc, gsi, limits);
+    limits.faces.recall();
+    let (surveyed, gsi) = stations_of_file(alloc, gsi, limits.faces);
     let stations = match surveyed {
         Ok(stations) => stations,
         Err(fault) => return (Err(CompareFault::from(fault)), gsi),
@@ -73,7 +75,14 @@ pub fn compare_sources<R: Source, Q: Source>(
     let Some(surveyed) = stations.get(name) else {
         return (Err(CompareFault::File(Fault::NoStation)), gsi);
     };
-    let answer = compare_station(alloc, surveyed.station(), table, unit, within);
+    let answer = compare_station(
+        alloc,
+        surveyed.station(),
+        table,
+        unit,
+        limits.residual,
+        within,
+    );
     (answer, gsi)
 }
 
@@ -83,15 +92,17 @@ fn compare_station<Q: Source>(
     station: &Station,
     table: &mut Q,
     unit: AngleUnit,
+    residual: ResidualLimit,
     within: Option<u32>,
 ) -> Result<Agreement, CompareFault>
     ensures compares { BytesCame (reader_change Q.told Q.failed Q.gave table.old table.new)
-        (λ stated. ByInput unit station.now within (input_within LONGEST_TABLE stated) result) }
+        (λ stated. ByInput unit station.now residual within (input_within LONGEST_TABLE stated)
+        result) }
     ensures reader { Leaves table_left result
         (reader_change Q.told Q.failed Q.gave table.old table.new) }
 {
     let bytes = read_whole(alloc, table, LONGEST_TABLE)?;
-    compare_table(alloc, station, &bytes, unit, within)
+    compare_table(alloc, station, &bytes, unit, residual, within)
 }
 
 /// Compares the table that these bytes are with the adjustment of the station.
@@ -100,20 +111,25 @@ fn compare_table(
     station: &Station,
     bytes: &[u8],
     unit: AngleUnit,
+    residual: ResidualLimit,
     within: Option<u32>,
 ) -> Result<Agreement, CompareFault>
-    ensures { ByTable unit station.now within bytes.now result }
+    ensures { ByTable unit station.now residual within bytes.now result }
 {
     let stated = read_stated_table(alloc, unit, station.targets(), bytes)?;
-    let apart = apart_from_least(alloc, station, &stated.directions)?;
+    let adjustment = adjust(alloc, station, residual)?;
+    let apart = apart_by(station, &adjustment, &stated.directions);
     let limit = within.unwrap_or(stated.usual_within);
     let how_far = HowFar { apart, limit };
     if apart > limit {
         return Err(CompareFault::Apart(how_far));
     }
+    let greatest = greatest_size(alloc, station, &adjustment)?;
     Ok(Agreement {
         name: station.name(),
+        sets: station.sets().len() as u32,
         targets: station.targets().len() as u32,
         how_far,
+        greatest,
     })
 }

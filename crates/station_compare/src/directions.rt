@@ -1,7 +1,8 @@
 //! The table of a station's least-squares directions.
-ghost use Rattle.std.specs.Prelude.{◌≡◌, ◌≤◌, ◌%◌, length, map, MatchResult, IfOk};
+ghost use Rattle.std.specs.Prelude.{◌≡◌, ◌≤◌, ◌%◌, length, map, MatchResult, IfOk, OnOk};
 ghost use Rattle.adjust_kernel.specs.declared.units.TheConstants.{CIRCLE};
 ghost use Rattle.direction_table.specs.Texts.{step_of};
+ghost use Rattle.exact_adjustment.specs.LeastOf.{HasResidualsWithin};
 ghost use Rattle.byte_ends.specs.Writers.{writer_change};
 ghost use Rattle.byte_ends.specs.Source.{UntilDropped};
 ghost use Rattle.station_compare.specs.Directions.{StatesDirections, HasNoDirections};
@@ -9,11 +10,11 @@ ghost use Rattle.station_compare.specs.Directions.{IsDirectionsText, HasNoTable,
 ghost use Rattle.station_compare.specs.Runs.{IsDirectionsRun, ReadsFieldFile};
 
 use crate::fault::CompareFault;
-use adjust_kernel::{Name, Station};
+use adjust_kernel::{Name, ResidualLimit, Station};
 use byte_ends::{Sink, Source};
 use direction_table::{Decimals, TargetDirection, table_text};
 use least_directions::rounded_directions;
-use station_book::Limits;
+use station_book::ResultLimits;
 use station_check::{Fault, stations_of_file, write_whole};
 use std::alloc::{AllocError, Global};
 
@@ -21,7 +22,7 @@ use std::alloc::{AllocError, Global};
 /// each target in their order, the first 0, each rounded to so many decimals of a gon.
 ///
 /// Each is exactly rounded, the middle of two upwards: least over all directions, orientations and
-/// full turns. No least-squares residual may be above 2,000 half units (0.005 mgon each).
+/// full turns. No least-squares residual is above the limit of residuals.
 ///
 /// # Errors
 ///
@@ -31,7 +32,7 @@ pub fn directions_text<R: Source>(
     alloc: Global,
     gsi: R,
     name: &[u8],
-    limits: Limits,
+    limits: ResultLimits,
     decimals: Decimals,
 ) -> Result<Vec<u8>, CompareFault>
     ensures { UntilDropped R.told R.failed R.gave gsi (λ gsi. ReadsFieldFile gsi result
@@ -40,13 +41,13 @@ pub fn directions_text<R: Source>(
         (HasNoDirections limits file name.now))) }
 {
     // For the proof alone: limits keep their bounds.
-    limits.recall();
-    let (surveyed, _gsi) = stations_of_file(alloc, gsi, limits);
+    limits.faces.recall();
+    let (surveyed, _gsi) = stations_of_file(alloc, gsi, limits.faces);
     let stations = surveyed?;
     let Some(surveyed) = stations.get(name) else {
         return Err(CompareFault::File(Fault::NoStation));
     };
-    text_of_station(alloc, surveyed.station(), decimals)
+    text_of_station(alloc, surveyed.station(), limits.residual, decimals)
 }
 
 /// Writes that text, and flushes once.
@@ -59,7 +60,7 @@ pub fn write_directions<R: Source, W: Sink>(
     alloc: Global,
     gsi: R,
     name: &[u8],
-    limits: Limits,
+    limits: ResultLimits,
     decimals: Decimals,
     writer: &mut W,
 ) -> Result<(), CompareFault>
@@ -75,13 +76,15 @@ pub fn write_directions<R: Source, W: Sink>(
 fn text_of_station(
     alloc: Global,
     station: &Station,
+    residual: ResidualLimit,
     decimals: Decimals,
 ) -> Result<Vec<u8>, CompareFault>
-    ensures { MatchResult result
+    ensures text { MatchResult result
         (λ text. IsDirectionsText station.now decimals text.items)
-        (HasNoTable station.now) }
+        (HasNoTable station.now residual) }
+    ensures held { OnOk result (HasResidualsWithin station.now residual) }
 {
-    let directions = rounded_directions(alloc, station, step_of(decimals))?;
+    let directions = rounded_directions(alloc, station, step_of(decimals), residual)?;
     let stated = rows_of(alloc, station.targets(), &directions)?;
     Ok(table_text(alloc, &stated, decimals)?)
 }

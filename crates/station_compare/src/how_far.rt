@@ -3,7 +3,7 @@
 ghost use Rattle.std.specs.Prelude.{◌≡◌, ◌≤◌, ◌+◌, ◌++◌, length};
 ghost use Rattle.angle_texts.specs.MgonTexts.{thousandths_text};
 ghost use Rattle.arrayvec.specs.ArrayVec.{array_vec_len};
-ghost use Rattle.station_compare.specs.FaultTexts.{how_far_text};
+ghost use Rattle.station_compare.specs.AgreementTexts.{how_far_text};
 
 use angle_texts::digit;
 use station_check::{LONGEST_U32, LONGEST_VERDICT_LINE, VerdictLine, add, add_numbered};
@@ -37,7 +37,7 @@ pub(crate) fn add_how_far(line: &mut VerdictLine, how_far: HowFar)
 }
 
 /// Adds a text and a number of thousandths after it: the whole, a point and three decimals.
-fn add_thousandths(line: &mut VerdictLine, bytes: &[u8], number: u32)
+pub(crate) fn add_thousandths(line: &mut VerdictLine, bytes: &[u8], number: u32)
     requires { array_vec_len line.old + length bytes.now + LONGEST_THOUSANDTHS
         ≤ LONGEST_VERDICT_LINE }
     ensures items { line.new.items ≡ line.old.items ++ (bytes.now ++ thousandths_text number) }

@@ -6,7 +6,8 @@ ghost use Rattle.direction_table.specs.Texts.{AreDecimals};
 ghost use Rattle.direction_table.specs.declared.unit.AngleUnit.{AngleUnit};
 ghost use Rattle.direction_table.specs.declared.unit.AngleUnit.TheVariants.{Gon};
 ghost use Rattle.gsi_file.specs.FileAnswers.{FileAnswers};
-ghost use Rattle.station_book.specs.Limits.{FaceLimits, AreLimits};
+ghost use Rattle.station_book.specs.Limits.{AreLimits};
+ghost use Rattle.station_book.specs.declared.result_limits.ResultLimits.{ResultLimits};
 ghost use Rattle.station_compare.specs.Agreeing.{Agrees};
 ghost use Rattle.station_compare.specs.Answers.{Compares};
 ghost use Rattle.station_compare.specs.Directions.{StatesDirections, TellsDirections};
@@ -22,13 +23,13 @@ ghost use Rattle.station_compare.specs.declared.fault.CompareFault.{CompareFault
 /// only where 0 is stated. No contract excludes that the adjustment is not found again, or that
 /// memory runs out.
 pub fn directions_agree()
-    ensures agrees { (limits : FaceLimits) (file : FileAnswers) (name text : List ℕ)
-        (count : ℕ) (within : Option ℕ) (a : Agreement) → AreLimits limits
+    ensures agrees { (limits : ResultLimits) (file : FileAnswers) (name text : List ℕ)
+        (count : ℕ) (within : Option ℕ) (a : Agreement) → AreLimits limits.faces
         → 6 ≤ count → StatesDirections limits file name count text
         → Agrees Gon limits file (record { bytes = text; fails = false }) name within a
         → a.how_far.apart ≤ 1 }
-    ensures refused { (limits : FaceLimits) (file : FileAnswers) (name text : List ℕ)
-        (count : ℕ) (within : Option ℕ) (fault : CompareFault) → AreLimits limits
+    ensures refused { (limits : ResultLimits) (file : FileAnswers) (name text : List ℕ)
+        (count : ℕ) (within : Option ℕ) (fault : CompareFault) → AreLimits limits.faces
         → 6 ≤ count → StatesDirections limits file name count text
         → Compares Gon limits file (record { bytes = text; fails = false }) name within (Err fault)
         → MayRefuse within fault }
@@ -39,14 +40,14 @@ pub fn directions_agree()
 /// apart and each printed digit. Two answers alone may stand in the place of another: out of memory
 /// in that of any, and that no adjustment was found in that of those from the adjustment on.
 pub fn one_answer()
-    ensures compare { (unit : AngleUnit) (limits : FaceLimits) (file : FileAnswers)
+    ensures compare { (unit : AngleUnit) (limits : ResultLimits) (file : FileAnswers)
         (stated : Told) (name : List ℕ) (within : Option ℕ) (r s : Result Agreement CompareFault)
-        → AreLimits limits
+        → AreLimits limits.faces
         → IsSettled r → IsSettled s
         → Compares unit limits file stated name within r
         → Compares unit limits file stated name within s → r ≡ s }
-    ensures directions { (limits : FaceLimits) (file : FileAnswers) (name : List ℕ) (count : ℕ)
-        (r s : Result (List ℕ) CompareFault) → AreLimits limits → AreDecimals count
+    ensures directions { (limits : ResultLimits) (file : FileAnswers) (name : List ℕ) (count : ℕ)
+        (r s : Result (List ℕ) CompareFault) → AreLimits limits.faces → AreDecimals count
         → IsSettled r → IsSettled s
         → TellsDirections limits file name count r → TellsDirections limits file name count s
         → r ≡ s }
@@ -56,13 +57,13 @@ pub fn one_answer()
 /// without fault to the adjustment of a station that is held together; and so what came of one has
 /// an answer of `directions`. What the solver gives for it, no contract says.
 pub fn some_answer()
-    ensures compare { (unit : AngleUnit) (limits : FaceLimits) (file : FileAnswers) (stated : Told)
-        (name : List ℕ) (within : Option ℕ) → AreLimits limits
+    ensures compare { (unit : AngleUnit) (limits : ResultLimits) (file : FileAnswers) (stated : Told)
+        (name : List ℕ) (within : Option ℕ) → AreLimits limits.faces
         → ((r : Result Agreement CompareFault)
         × Compares unit limits file stated name within r × IsNoMemory r)
         ⊎ IsUpToAdjustment unit limits file stated name }
-    ensures directions { (limits : FaceLimits) (file : FileAnswers) (name : List ℕ) (count : ℕ)
-        → AreLimits limits
+    ensures directions { (limits : ResultLimits) (file : FileAnswers) (name : List ℕ) (count : ℕ)
+        → AreLimits limits.faces
         → ((r : Result (List ℕ) CompareFault)
         × TellsDirections limits file name count r × IsNoMemory r)
         ⊎ IsHeldTogether limits file name }

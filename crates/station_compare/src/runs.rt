@@ -5,8 +5,8 @@ ghost use Rattle.std.specs.Prelude.{◌≡◌, ⊤};
 ghost use Rattle.byte_ends.specs.Writers.{writer_change};
 ghost use Rattle.byte_ends.specs.Source.{reader_change, UntilDropped};
 ghost use Rattle.station_check.specs.RunEndings.{Run, PrintsAnswer, WritesOrFails};
+ghost use Rattle.station_compare.specs.AgreementTexts as spec;
 ghost use Rattle.station_compare.specs.FaultTexts.{refusal_line};
-ghost use Rattle.station_compare.specs.FaultTexts as spec;
 ghost use Rattle.station_compare.specs.Runs.{IsCompareRun, IsDirectionsRun};
 ghost use Rattle.station_compare.specs.declared.fault.CompareFault.TheVariants.{Write};
 
@@ -17,7 +17,7 @@ use crate::fault::CompareFault;
 use crate::refused::refusal_line;
 use byte_ends::{Sink, Source};
 use direction_table::{AngleUnit, Decimals};
-use station_book::Limits;
+use station_book::ResultLimits;
 use station_check::{ACCEPTED, refuse_by, write_whole};
 use std::alloc::Global;
 
@@ -31,7 +31,7 @@ pub fn run_compare<R: Source, Q: Source, W: Sink, E: Sink>(
     table: &mut Q,
     unit: AngleUnit,
     name: &[u8],
-    limits: Limits,
+    limits: ResultLimits,
     within: Option<u32>,
     out: &mut W,
     err: &mut E,
@@ -56,7 +56,7 @@ pub fn run_directions<R: Source, W: Sink, E: Sink>(
     alloc: Global,
     gsi: R,
     name: &[u8],
-    limits: Limits,
+    limits: ResultLimits,
     decimals: Decimals,
     out: &mut W,
     err: &mut E,

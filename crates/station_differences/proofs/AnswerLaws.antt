@@ -1,28 +1,27 @@
 -- From the differences of a table to what is answered of them, and that the answer is one.
-use Rattle.std.proofs.Common.{◌≡◌, inl, inr, ℕ, List, Some, None, Result, Ok, Err}
-use Rattle.std.proofs.Common.{ap, arith, length, refl, sym, subst, ◌∙◌}
-use Rattle.std.specs.Prelude.{MatchResult}
+use Rattle.std.proofs.Common.{◌≡◌, inl, inr, ℕ, List, Option, Some, None, Result, Ok, Err}
+use Rattle.std.proofs.Common.{ap, arith, refl, sym, subst, ◌∙◌}
+use Rattle.std.specs.Prelude.{MatchResult, OnOk}
 use Rattle.adjust_kernel.specs.Stations.{StationValue}
 use Rattle.byte_ends.specs.Came.{IsReadOut, Leaves}
 use Rattle.byte_ends.specs.Input.{Input, Ended, BrokeOff, RanPast, input_within}
 use Rattle.byte_ends.specs.Source.{ReaderChange, Told}
-use Rattle.direction_table.proofs.LawLemmas.{one_table}
+use Rattle.direction_table.proofs.LawLemmas.{never_both, one_table}
 use Rattle.direction_table.specs.declared.fault.TableFault.TheVariants as table
 use Rattle.direction_table.specs.declared.reading.TheConstants.{LONGEST_TABLE}
-use Rattle.directions_apart.specs.Apart.{stated_by}
-use Rattle.exact_adjustment.specs.Adjustments.{choice_by}
+use Rattle.exact_adjustment.specs.LeastOf.{HasResidualsWithin}
 use Rattle.gsi_file.specs.FileAnswers.{FileAnswers}
-use Rattle.least_directions.proofs.LeastLaws.{are_apart, least_of}
-use Rattle.least_directions.specs.LeastDirections.{AreApart}
-use Rattle.station_book.specs.Limits.{AreLimits, FaceLimits}
+use Rattle.station_book.specs.Limits.{AreLimits}
+use Rattle.station_book.specs.declared.result_limits.ResultLimits.{ResultLimits}
 use Rattle.station_book.specs.Stations.{SurveyedStation}
 use Rattle.station_check.specs.StationOfFile.{IsStationOfFile}
 use Rattle.station_check.specs.declared.fault.Fault.{Fault}
-use Rattle.station_compare.proofs.Comparisons.{compares_by_table}
-use Rattle.station_compare.proofs.OneAnswer.{one_answer as one_comparison}
+use Rattle.station_check.specs.declared.fault.Fault.TheVariants.{NoStation}
+use Rattle.station_compare.proofs.Comparisons.{compares_by_table, no_adjust_fault}
+use Rattle.station_compare.proofs.OneAnswer.{one_by_input}
+use Rattle.station_compare.proofs.OneStation.{IsOf, of_fault, of_none, of_station, one_of_each}
 use Rattle.station_compare.proofs.OneStation.{same_station}
-use Rattle.station_compare.specs.Agreeing.{Agrees}
-use Rattle.station_compare.specs.Answers.{field_file_left, table_left}
+use Rattle.station_compare.specs.Answers.{IsRefusedByTable, field_file_left, table_left}
 use Rattle.station_compare.specs.Comparing.{ByInput}
 use Rattle.station_compare.specs.OneAnswer.{IsSettled}
 use Rattle.station_compare.specs.declared.agreement.Agreement.{Agreement}
@@ -35,7 +34,6 @@ use Rattle.station_differences.specs.Differences.{AreCompared}
 use Rattle.station_differences.specs.DifferenceTexts.{differences_text}
 use Rattle.station_differences.specs.OfInput.{HasNoneOf, HasNoneOfInput, IsTextOf}
 use Rattle.station_differences.specs.Stating.{IsDifferencesText, StatesDifferences}
-use Rattle.station_differences.proofs.DifferenceLaws.{some_apart}
 use Rattle.station_differences.proofs.LeastLaws.{one_list}
 use Rattle.direction_table.specs.declared.unit.AngleUnit.{AngleUnit}
 
@@ -48,48 +46,50 @@ ended_by unit station (BrokeOff bytes) text h = absurd h
 ended_by unit station RanPast text h = absurd h
 
 -- What is answered, where the station was found.
-pub tells_by_input : (unit : AngleUnit) {T : Type 0} (items : T → List ℕ) (limits : FaceLimits)
-    (file : FileAnswers)
-    (stated : Told) (name : List ℕ) (its : SurveyedStation) (r : Result T CompareFault)
-    → IsStationOfFile limits file name its
+pub tells_by_input : (unit : AngleUnit) {T : Type 0} (items : T → List ℕ) (limits : ResultLimits)
+    (file : FileAnswers) (stated : Told) (name : List ℕ) (its : SurveyedStation)
+    (r : Result T CompareFault)
+    → IsStationOfFile limits.faces file name its
     → MatchResult r (λ t. IsTextOf unit its.station (input_within LONGEST_TABLE stated) (items t))
-    (HasNoneOfInput unit its.station (input_within LONGEST_TABLE stated))
+    (HasNoneOfInput unit its.station limits.residual (input_within LONGEST_TABLE stated))
+    → OnOk r (HasResidualsWithin its.station limits.residual)
     → MatchResult r (λ t. StatesDifferences unit limits file stated name (items t))
     (HasNoDifferences unit limits file stated name)
-tells_by_input unit items limits file stated name its (Ok t) station h =
+tells_by_input unit items limits file stated name its (Ok t) station h held =
     let ended = ended_by unit its.station (input_within LONGEST_TABLE stated) (items t) h in
     record {
       its = its;
       station = station;
       bytes = ended.0;
       whole = ended.1;
+      held = held;
       differences = ended.2;
     }
-tells_by_input unit items limits file stated name its (Err fault) station h =
+tells_by_input unit items limits file stated name its (Err fault) station h held =
     λ within. compares_by_table unit limits file stated name within its (Err fault) station
     (h within)
 
 -- No fault of the field file comes of the table.
-no_file_fault : (unit : AngleUnit) (station : StationValue) (fault : Fault) (input : Input)
-    → ByInput unit station None input (Err (File fault)) → ⊥
-no_file_fault unit station fault (Ended bytes) h = h
-no_file_fault unit station fault (BrokeOff bytes) (inl h) = cc
-no_file_fault unit station fault (BrokeOff bytes) (inr h) = cc
-no_file_fault unit station fault RanPast (inl h) = cc
-no_file_fault unit station fault RanPast (inr h) = cc
+no_file_fault : (unit : AngleUnit) (station : StationValue) (residual : ℕ) (fault : Fault)
+    (input : Input) → ByInput unit station residual None input (Err (File fault)) → ⊥
+no_file_fault unit station residual fault (Ended bytes) h = h
+no_file_fault unit station residual fault (BrokeOff bytes) (inl h) = cc
+no_file_fault unit station residual fault (BrokeOff bytes) (inr h) = cc
+no_file_fault unit station residual fault RanPast (inl h) = cc
+no_file_fault unit station residual fault RanPast (inr h) = cc
 
-module _ (unit : AngleUnit) {T : Type 0} (So : T → Type 0) (station : StationValue)
+module _ (unit : AngleUnit) {T : Type 0} (So : T → Type 0) (station : StationValue) (residual : ℕ)
     (input : Input) where
   -- What is answered of the station: this is so, or there is this fault.
   abbrev Comes : Result T CompareFault → Type 0
-  Comes r = MatchResult r So (HasNoneOfInput unit station input)
+  Comes r = MatchResult r So (HasNoneOfInput unit station residual input)
 
   -- How it leaves the field file's reader, which has ended before.
   pub left_by_input : (r : Result T CompareFault) (gsi : ReaderChange) → Comes r → IsReadOut gsi
       → Leaves field_file_left r gsi
   left_by_input (Ok text) gsi h out = out
   left_by_input (Err (File fault)) gsi h out = absurd
-      (no_file_fault unit station fault input (h None))
+      (no_file_fault unit station residual fault input (h None))
   left_by_input (Err TableRead) gsi h out = out
   left_by_input (Err (Table fault)) gsi h out = out
   left_by_input (Err (Adjust fault)) gsi h out = out
@@ -99,20 +99,21 @@ module _ (unit : AngleUnit) {T : Type 0} (So : T → Type 0) (station : StationV
 
 -- How what is answered of a table's bytes leaves its reader, which has ended.
 pub left_by_bytes : (unit : AngleUnit) {T : Type 0} (So : T → Type 0) (station : StationValue)
-    (bytes : List ℕ) (r : Result T CompareFault) (reader : ReaderChange)
-    → MatchResult r So (HasNoneOf unit station bytes)
+    (residual : ℕ) (bytes : List ℕ) (r : Result T CompareFault) (reader : ReaderChange)
+    → MatchResult r So (HasNoneOf unit station residual bytes)
     → IsReadOut reader → Leaves table_left r reader
-left_by_bytes unit So station bytes (Ok text) reader h out = out
-left_by_bytes unit So station bytes (Err (File fault)) reader h out = absurd (h None)
-left_by_bytes unit So station bytes (Err TableRead) reader h out = absurd (h None)
-left_by_bytes unit So station bytes (Err (Table table.TooLong)) reader h out = out.unfailed
-left_by_bytes unit So station bytes (Err (Table (table.Row number kind))) reader h out = out
-left_by_bytes unit So station bytes (Err (Table (table.Missing target))) reader h out = out
-left_by_bytes unit So station bytes (Err (Table table.Memory)) reader h out = out.unfailed
-left_by_bytes unit So station bytes (Err (Adjust fault)) reader h out = out
-left_by_bytes unit So station bytes (Err (Apart apart)) reader h out = out
-left_by_bytes unit So station bytes (Err Write) reader h out = out.unfailed
-left_by_bytes unit So station bytes (Err Memory) reader h out = out.unfailed
+left_by_bytes unit So station residual bytes (Ok text) reader h out = out
+left_by_bytes unit So station residual bytes (Err (File fault)) reader h out = absurd (h None)
+left_by_bytes unit So station residual bytes (Err TableRead) reader h out = absurd (h None)
+left_by_bytes unit So station residual bytes (Err (Table table.TooLong)) reader h out = out.unfailed
+left_by_bytes unit So station residual bytes (Err (Table (table.Row number kind))) reader h out =
+    out
+left_by_bytes unit So station residual bytes (Err (Table (table.Missing target))) reader h out = out
+left_by_bytes unit So station residual bytes (Err (Table table.Memory)) reader h out = out.unfailed
+left_by_bytes unit So station residual bytes (Err (Adjust fault)) reader h out = out
+left_by_bytes unit So station residual bytes (Err (Apart apart)) reader h out = out
+left_by_bytes unit So station residual bytes (Err Write) reader h out = out.unfailed
+left_by_bytes unit So station residual bytes (Err Memory) reader h out = out.unfailed
 
 -- The differences of a table's bytes from a station are one text.
 one_text : (unit : AngleUnit) (station : StationValue) (bytes a b : List ℕ)
@@ -137,79 +138,99 @@ settled_too A B (Apart apart) set = tt
 settled_too A B Write set = tt
 settled_too A B Memory set = absurd set
 
-module _ (unit : AngleUnit) (limits : FaceLimits) (small : AreLimits limits) (file : FileAnswers)
-    (stated : Told) (name : List ℕ) where
-  two_texts : (a b : List ℕ) → StatesDifferences unit limits file stated name a
-      → StatesDifferences unit limits file stated name b → a ≡ b
-  two_texts a b p q =
-      let its = same_station limits small file name p.its q.its p.station q.station in
-      let ended : Ended p.bytes ≡ Ended q.bytes = sym p.whole ∙ q.whole in
-      let bytes : p.bytes ≡ q.bytes = cc in
-      one_text unit q.its.station q.bytes a b
-      (subst (λ (o : SurveyedStation). IsDifferencesText unit o.station q.bytes a) its
-      (subst (λ (bs : List ℕ). IsDifferencesText unit p.its.station bs a) bytes p.differences))
-      q.differences
+-- Bytes of which there are differences have no fault: a limit of differences that two comparisons
+-- share is not both of theirs.
+no_fault : (unit : AngleUnit) (station : StationValue) (residual : ℕ) (bytes text : List ℕ)
+    (fault : CompareFault) → HasResidualsWithin station residual
+    → IsDifferencesText unit station bytes text → IsSettled {A = List ℕ} (Err fault)
+    → HasNoneOf unit station residual bytes fault → ⊥
+no_fault unit station residual bytes text (File fault) held p set h = h None
+no_fault unit station residual bytes text TableRead held p set h = h None
+no_fault unit station residual bytes text (Table fault) held p set h =
+    never_both unit station.targets bytes p.directions fault p.states (h None)
+no_fault unit station residual bytes text (Adjust fault) held p set h =
+    no_adjust_fault station residual fault p.compared.rounded.adjustable held set
+    (h None).fault_stands
+no_fault unit station residual bytes text (Apart n) held p set h =
+    let none : n.limit ≡ 0 = (h (Some 0)).1.limit in
+    let one : n.limit ≡ 1 = (h (Some 1)).1.limit in
+    absurd (omega (arith, none, one))
+no_fault unit station residual bytes text Write held p set h = h None
+no_fault unit station residual bytes text Memory held p set h = set
 
-  -- Where there are differences, the table agrees within some limit.
-  agrees_too : (text : List ℕ) → StatesDifferences unit limits file stated name text
-      → (apart : ℕ) × (a : Agreement) × Agrees unit limits file stated name (Some apart) a
-  agrees_too text p =
-      let station = p.its.station in
-      let d = p.differences in
-      let has = d.compared.rounded.adjustable in
-      let c = choice_by has.adjustment in
-      let least = least_of station has in
-      let some = some_apart (length station.targets) c (stated_by d.directions) _ least.positive
-      (d.compared.differ c has.adjustment.turns least) in
-      let are : AreApart station (stated_by d.directions) some.0 =
-      are_apart station has.rules has.adjustment has.tied has.exact has.limited
-      (stated_by d.directions) some.0 some.2 in (
-        some.0,
-        record {
-          name = station.name;
-          targets = length station.targets;
-          how_far = record { apart = some.0; limit = some.0 };
-        },
-        record {
-          its = p.its;
-          station = p.station;
-          bytes = p.bytes;
-          whole = p.whole;
-          directions = d.directions;
-          states = d.states;
-          adjustable = are.adjustable;
-          brought = λ c turns least. (are.from_each c turns least).brought;
-          no_nearer = λ n fewer c turns least. (are.from_each c turns least).no_nearer n fewer;
-          agrees = omega arith;
-          limit = refl;
-          named = refl;
-          counted = refl;
-        },
+module _ (unit : AngleUnit) (limits : ResultLimits) (small : AreLimits limits.faces)
+    (file : FileAnswers) (stated : Told) (name : List ℕ) where
+  abbrev input : Input
+  input = input_within LONGEST_TABLE stated
+
+  -- The table was read to its end, and this is the text of its differences from a station whose
+  -- residuals keep their limit.
+  record HasText (station : StationValue) (text : List ℕ) : Type 0 where
+    held : HasResidualsWithin station limits.residual
+    bytes : List ℕ
+    whole : input ≡ Ended bytes
+    differences : IsDifferencesText unit station bytes text
+
+  -- What is answered of a station.
+  abbrev So : SurveyedStation → Result (List ℕ) CompareFault → Type 0
+  So its (Ok text) = HasText its.station text
+  So its (Err fault) = IsSettled {A = List ℕ} (Err fault)
+      × HasNoneOfInput unit its.station limits.residual input fault
+
+  never : (its : SurveyedStation) (text : List ℕ) (fault : CompareFault) → So its (Ok text)
+      → So its (Err fault) → ⊥
+  never its text fault p h =
+      no_fault unit its.station limits.residual p.bytes text fault p.held p.differences h.0
+      (λ within. subst (λ (i : Input). ByInput unit its.station limits.residual within i
+      (Err fault)) p.whole (h.1 within))
+
+  one_of_station : (its : SurveyedStation) (r s : Result (List ℕ) CompareFault) → So its r
+      → So its s → r ≡ s
+  one_of_station its (Ok a) (Ok b) p h =
+      let ended : Ended p.bytes ≡ Ended h.bytes = sym p.whole ∙ h.whole in
+      let bytes : p.bytes ≡ h.bytes = cc in
+      ap Ok (one_text unit its.station h.bytes a b
+      (subst (λ (bs : List ℕ). IsDifferencesText unit its.station bs a) bytes p.differences)
+      h.differences)
+  one_of_station its (Ok a) (Err fault) p h = absurd (never its a fault p h)
+  one_of_station its (Err fault) (Ok b) p h = absurd (never its b fault h p)
+  one_of_station its (Err fault) (Err other) p h =
+      let e : Err fault ≡ Err other =
+      one_by_input unit its.station limits.residual None input (Err fault) (Err other)
+      (settled_too (List ℕ) Agreement fault p.0) (settled_too (List ℕ) Agreement other h.0)
+      (p.1 None) (h.1 None) in
+      let same : fault ≡ other = cc in
+      ap Err same
+
+  -- A fault that is of a station is so of the one that is found.
+  by_station : (fault : CompareFault) → IsSettled {A = List ℕ} (Err fault)
+      → ((within : Option ℕ) → IsRefusedByTable unit limits file stated name within fault)
+      → IsOf limits.faces small file name So (Err fault)
+  by_station fault set h =
+      let its = (h None).its in
+      of_station limits.faces small file name So its (Err fault) (h None).station (
+        set,
+        λ within. subst (λ (o : SurveyedStation).
+            ByInput unit o.station limits.residual within input (Err fault))
+            (same_station limits.faces small file name (h within).its its (h within).station
+            (h None).station) (h within).by_input,
       )
 
-  -- Differences and a fault don't stand beside each other.
-  never_both : (text : List ℕ) (fault : CompareFault) → IsSettled {A = List ℕ} (Err fault)
-      → StatesDifferences unit limits file stated name text
-      → HasNoDifferences unit limits file stated name fault → ⊥
-  never_both text fault set p h =
-      let (apart, a, agrees) = agrees_too text p in
-      let e : Ok a ≡ Err fault =
-      one_comparison unit limits small file stated name (Some apart) (Ok a) (Err fault) tt
-      (settled_too (List ℕ) Agreement fault set) agrees (h (Some apart)) in
-      cc
+  stands : (r : Result (List ℕ) CompareFault) → IsSettled r
+      → TellsDifferences unit limits file stated name r
+      → IsOf limits.faces small file name So r
+  stands (Ok text) set h = of_station limits.faces small file name So h.its (Ok text) h.station
+      (record { held = h.held; bytes = h.bytes; whole = h.whole; differences = h.differences })
+  stands (Err (File NoStation)) set h = of_none limits.faces small file name So (h None)
+  stands (Err (File fault)) set h = of_fault limits.faces small file name So fault (h None)
+  stands (Err Memory) set h = absurd set
+  stands (Err fault) set h = by_station fault set h
 
   -- A table has one answer of its differences.
   pub one_answer : (r s : Result (List ℕ) CompareFault) → IsSettled r → IsSettled s
       → TellsDifferences unit limits file stated name r
       → TellsDifferences unit limits file stated name s
       → r ≡ s
-  one_answer (Ok a) (Ok b) set also p h = ap Ok (two_texts a b p h)
-  one_answer (Ok a) (Err fault) set also p h = absurd (never_both a fault also p h)
-  one_answer (Err fault) (Ok b) set also p h = absurd (never_both b fault set h p)
-  one_answer (Err fault) (Err other) set also p h =
-      let e : Err fault ≡ Err other =
-      one_comparison unit limits small file stated name None (Err fault) (Err other)
-      (settled_too (List ℕ) Agreement fault set) (settled_too (List ℕ) Agreement other also)
-      (p None) (h None) in
-      let same : fault ≡ other = cc in
-      ap Err same
+  one_answer r s set also p h =
+      one_of_each limits.faces small file name So one_of_station r s (stands r set p)
+      (stands s also h)

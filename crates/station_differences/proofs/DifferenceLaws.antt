@@ -258,7 +258,7 @@ rounded_up n k some =
     record { not_below = omega (arith, parts, left, some); least = omega (arith, parts, some) }
 
 -- How far the directions are apart: half the spread, rounded up.
-pub some_apart : (targets : ℕ) (c : Choice) (stated : ℕ → ℤ) (differences : List ℤ)
+some_apart : (targets : ℕ) (c : Choice) (stated : ℕ → ℤ) (differences : List ℤ)
     → 1 ≤ c.denominator → (are : AreDifferences targets c stated differences)
     → (apart : ℕ) × (are.spread ≤ apart * (162_000 * c.denominator))
     × IsApart targets c stated apart

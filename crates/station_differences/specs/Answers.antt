@@ -4,7 +4,7 @@ use Rattle.std.specs.Prelude.{ℕ, List, Option, Result, Ok, Err}
 use Rattle.byte_ends.specs.Came.{Leaves}
 use Rattle.byte_ends.specs.Source.{Told, ReaderChange, MayGive, HasGiven, given_then}
 use Rattle.gsi_file.specs.FileAnswers.{FileAnswers, file_answers}
-use Rattle.station_book.specs.Limits.{FaceLimits}
+use Rattle.station_book.specs.declared.result_limits.ResultLimits.{ResultLimits}
 use Rattle.station_compare.specs.Answers.{Compares, field_file_left, table_left}
 use Rattle.station_compare.specs.declared.fault.CompareFault.{CompareFault}
 use Rattle.station_differences.specs.Stating.{StatesDifferences}
@@ -13,13 +13,13 @@ use Rattle.direction_table.specs.declared.unit.AngleUnit.{AngleUnit}
 -- Why no differences are printed: the first fault that stands, in the order of the file, the
 -- station, the table and the adjustment. It is the one that the comparison answers, whatever limit
 -- is stated; so it never is that the directions are apart.
-abbrev pub HasNoDifferences : AngleUnit → FaceLimits → FileAnswers → Told → List ℕ → CompareFault
+abbrev pub HasNoDifferences : AngleUnit → ResultLimits → FileAnswers → Told → List ℕ → CompareFault
     → Type 0
 HasNoDifferences unit limits file stated name fault =
     (within : Option ℕ) → Compares unit limits file stated name within (Err fault)
 
 -- What is answered: the text of the differences, or why there is none.
-abbrev pub TellsDifferences : AngleUnit → FaceLimits → FileAnswers → Told → List ℕ
+abbrev pub TellsDifferences : AngleUnit → ResultLimits → FileAnswers → Told → List ℕ
     → Result (List ℕ) CompareFault → Type 0
 TellsDifferences unit limits file stated name
     (Ok text) = StatesDifferences unit limits file stated name text

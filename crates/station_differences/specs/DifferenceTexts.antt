@@ -32,12 +32,16 @@ titles =
     codes "target" ∷ codes "stated" ∷ codes "least squares" ∷ codes "difference"
     ∷ codes "from the median" ∷ []
 
+-- A difference less the median of all, in mgon, as text.
+abbrev pub from_median_text : ℤ → ℤ → List ℕ
+from_median_text median difference = mgon_text (difference -ℤ median)
+
 -- The row of a target: its name, its stated direction and its least-squares direction in gon, and
 -- their difference in mgon, as it is and less the median.
 abbrev pub row_of : Bool → ℤ → TargetDifference → List (List ℕ)
 row_of short median row =
     row.target ∷ stated_text short row.stated ∷ direction_text 6 row.least
-    ∷ mgon_text row.difference ∷ mgon_text (row.difference -ℤ median) ∷ []
+    ∷ mgon_text row.difference ∷ from_median_text median row.difference ∷ []
 
 -- The text: the titles, and the rows of the targets, in their order.
 abbrev pub differences_text : List TargetDifference → List ℕ

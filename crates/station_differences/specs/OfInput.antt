@@ -13,12 +13,13 @@ IsTextOf unit station (Ended bytes) text = IsDifferencesText unit station bytes 
 IsTextOf unit station (BrokeOff bytes) text = ⊥
 IsTextOf unit station RanPast text = ⊥
 
--- This fault is what the comparison answers of a table's bytes, whatever limit is stated.
-abbrev pub HasNoneOf : AngleUnit → StationValue → List ℕ → CompareFault → Type 0
-HasNoneOf unit station bytes fault = (within : Option ℕ)
-    → ByTable unit station within bytes (Err fault)
+-- This fault is what the comparison answers of a table's bytes, whatever limit of differences is
+-- stated, where residuals are held to this one, in half units.
+abbrev pub HasNoneOf : AngleUnit → StationValue → ℕ → List ℕ → CompareFault → Type 0
+HasNoneOf unit station residual bytes fault = (within : Option ℕ)
+    → ByTable unit station residual within bytes (Err fault)
 
 -- The same of the input.
-abbrev pub HasNoneOfInput : AngleUnit → StationValue → Input → CompareFault → Type 0
-HasNoneOfInput unit station input fault = (within : Option ℕ)
-    → ByInput unit station within input (Err fault)
+abbrev pub HasNoneOfInput : AngleUnit → StationValue → ℕ → Input → CompareFault → Type 0
+HasNoneOfInput unit station residual input fault = (within : Option ℕ)
+    → ByInput unit station residual within input (Err fault)

@@ -1,14 +1,15 @@
 //! The targets of a station, each with what is stated of it and its least-squares direction.
-ghost use Rattle.std.specs.Prelude.{◌≡◌, length, IfErr, IfOk};
+ghost use Rattle.std.specs.Prelude.{◌≡◌, length, IfErr, IfOk, OnOk};
 ghost use Rattle.exact_adjustment.specs.Adjustments.{choice_by};
 ghost use Rattle.exact_adjustment.specs.Faults.{IsAdjustError};
+ghost use Rattle.exact_adjustment.specs.LeastOf.{HasResidualsWithin};
 ghost use Rattle.station_differences.specs.ByAdjustment.{AreRowsBy};
 ghost use Rattle.station_differences.specs.Differences.{AreCompared};
 
 use crate::angles::angles;
 use crate::arc::best_arc;
 use crate::difference::difference_at;
-use adjust_kernel::{CIRCLE, Name, PARTS, Station, UNIT};
+use adjust_kernel::{CIRCLE, Name, PARTS, ResidualLimit, Station, UNIT};
 use directions_apart::{on_circle, rounded};
 use exact_adjustment::{AdjustError, Adjustment, adjust};
 use std::alloc::{AllocError, Global};
@@ -35,8 +36,8 @@ pub struct TargetDifference {
 /// One rotation is taken off all differences: the one that makes the largest smallest, which brings
 /// the middle of the narrowest arc that holds them to 0; of several arcs that of which the first
 /// target's difference is the start. What is rounded is rounded from the exact fraction, the middle
-/// of two upwards. Stated directions are in parts, 81 of which are 0.000000001 gon. No residual may
-/// be above 2,000 half units (0.005 mgon each). Memory is linear in the observations.
+/// of two upwards. Stated directions are in parts, 81 of which are 0.000000001 gon. No residual is
+/// above the limit of residuals. Memory is linear in the observations.
 ///
 /// # Errors
 ///
@@ -45,12 +46,14 @@ pub fn target_differences(
     alloc: Global,
     station: &Station,
     stated: &[i64],
+    residual: ResidualLimit,
 ) -> Result<Vec<TargetDifference>, AdjustError>
     requires { length stated.now ≡ length station.now.targets }
     ensures compared { IfOk result (λ rows. AreCompared station.now stated.now rows.items) }
-    ensures fault { IfErr result (IsAdjustError station.now) }
+    ensures held { OnOk result (HasResidualsWithin station.now residual) }
+    ensures fault { IfErr result (IsAdjustError station.now residual) }
 {
-    let adjustment = adjust(alloc, station)?;
+    let adjustment = adjust(alloc, station, residual)?;
     Ok(differences_by(alloc, station.targets(), &adjustment, stated)?)
 }
 

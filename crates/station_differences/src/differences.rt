@@ -1,10 +1,11 @@
 //! The differences of a table of directions from a station of a field file.
-ghost use Rattle.std.specs.Prelude.{MatchResult};
+ghost use Rattle.std.specs.Prelude.{MatchResult, OnOk};
 ghost use Rattle.byte_ends.specs.Came.{BytesCame, Leaves};
 ghost use Rattle.byte_ends.specs.Input.{input_within};
 ghost use Rattle.byte_ends.specs.Writers.{writer_change};
 ghost use Rattle.byte_ends.specs.Source.{reader_change, UntilDropped};
 ghost use Rattle.direction_table.specs.declared.reading.TheConstants.{LONGEST_TABLE};
+ghost use Rattle.exact_adjustment.specs.LeastOf.{HasResidualsWithin};
 ghost use Rattle.station_compare.specs.Answers.{table_left};
 ghost use Rattle.station_differences.specs.Answers.{HasNoDifferences, ReadsBoth};
 ghost use Rattle.station_differences.specs.OfInput.{HasNoneOf, HasNoneOfInput, IsTextOf};
@@ -13,10 +14,10 @@ ghost use Rattle.station_differences.specs.Stating.{IsDifferencesText, StatesDif
 
 use crate::compared::target_differences;
 use crate::text::text_of;
-use adjust_kernel::Station;
+use adjust_kernel::{ResidualLimit, Station};
 use byte_ends::{Sink, Source, read_whole};
 use direction_table::{AngleUnit, LONGEST_TABLE, read_table};
-use station_book::Limits;
+use station_book::ResultLimits;
 use station_check::{Fault, stations_of_file, write_whole};
 use station_compare::CompareFault;
 use std::alloc::Global;
@@ -28,7 +29,7 @@ use std::alloc::Global;
 ///
 /// The least-squares directions are least over all directions, orientations and full turns. One
 /// rotation is taken off the differences: the one that makes the largest smallest. No least-squares
-/// residual may be above 2,000 half units (0.005 mgon each).
+/// residual is above the limit of residuals.
 ///
 /// The field file is read to its end first, and the table's reader is not asked before.
 ///
@@ -43,7 +44,7 @@ pub fn differences_text<R: Source, Q: Source>(
     table: &mut Q,
     unit: AngleUnit,
     name: &[u8],
-    limits: Limits,
+    limits: ResultLimits,
 ) -> Result<Vec<u8>, CompareFault>
     // All of it is said of the very bytes that the two readers gave, whatever they are.
     ensures { UntilDropped R.told R.failed R.gave gsi (λ gsi. ReadsBoth gsi
@@ -53,13 +54,13 @@ pub fn differences_text<R: Source, Q: Source>(
         (HasNoDifferences unit limits file stated name.now))) }
 {
     // For the proof alone: limits keep their bounds.
-    limits.recall();
-    let (surveyed, _gsi) = stations_of_file(alloc, gsi, limits);
+    limits.faces.recall();
+    let (surveyed, _gsi) = stations_of_file(alloc, gsi, limits.faces);
     let stations = surveyed?;
     let Some(surveyed) = stations.get(name) else {
         return Err(CompareFault::File(Fault::NoStation));
     };
-    text_of_station(alloc, surveyed.station(), table, unit)
+    text_of_station(alloc, surveyed.station(), table, unit, limits.residual)
 }
 
 /// Writes that text, and flushes once.
@@ -74,7 +75,7 @@ pub fn write_differences<R: Source, Q: Source, W: Sink>(
     table: &mut Q,
     unit: AngleUnit,
     name: &[u8],
-    limits: Limits,
+    limits: ResultLimits,
     writer: &mut W,
 ) -> Result<(), CompareFault>
     ensures { UntilDropped R.told R.failed R.gave gsi (λ gsi. IsDifferencesRun unit limits gsi
@@ -92,16 +93,18 @@ fn text_of_station<Q: Source>(
     station: &Station,
     table: &mut Q,
     unit: AngleUnit,
+    residual: ResidualLimit,
 ) -> Result<Vec<u8>, CompareFault>
     ensures tells { BytesCame (reader_change Q.told Q.failed Q.gave table.old table.new)
         (λ stated. MatchResult result
         (λ text. IsTextOf unit station.now (input_within LONGEST_TABLE stated) text.items)
-        (HasNoneOfInput unit station.now (input_within LONGEST_TABLE stated))) }
+        (HasNoneOfInput unit station.now residual (input_within LONGEST_TABLE stated))) }
+    ensures held { OnOk result (HasResidualsWithin station.now residual) }
     ensures reader { Leaves table_left result
         (reader_change Q.told Q.failed Q.gave table.old table.new) }
 {
     let bytes = read_whole(alloc, table, LONGEST_TABLE)?;
-    text_of_table(alloc, station, &bytes, unit)
+    text_of_table(alloc, station, &bytes, unit, residual)
 }
 
 /// The text of the bytes of a table.
@@ -110,12 +113,14 @@ fn text_of_table(
     station: &Station,
     bytes: &[u8],
     unit: AngleUnit,
+    residual: ResidualLimit,
 ) -> Result<Vec<u8>, CompareFault>
-    ensures { MatchResult result
+    ensures tells { MatchResult result
         (λ text. IsDifferencesText unit station.now bytes.now text.items)
-        (HasNoneOf unit station.now bytes.now) }
+        (HasNoneOf unit station.now residual bytes.now) }
+    ensures held { OnOk result (HasResidualsWithin station.now residual) }
 {
     let stated = read_table(alloc, unit, station.targets(), bytes)?;
-    let rows = target_differences(alloc, station, &stated)?;
+    let rows = target_differences(alloc, station, &stated, residual)?;
     Ok(text_of(alloc, &rows)?)
 }

@@ -7,7 +7,8 @@ ghost use Rattle.direction_table.specs.declared.unit.AngleUnit.{AngleUnit};
 ghost use Rattle.directions_apart.specs.Apart.{stated_by};
 ghost use Rattle.gsi_file.specs.FileAnswers.{FileAnswers};
 ghost use Rattle.least_directions.specs.LeastDirections.{AreApart};
-ghost use Rattle.station_book.specs.Limits.{AreLimits, FaceLimits};
+ghost use Rattle.station_book.specs.Limits.{AreLimits};
+ghost use Rattle.station_book.specs.declared.result_limits.ResultLimits.{ResultLimits};
 ghost use Rattle.station_compare.specs.OneAnswer.{IsSettled};
 ghost use Rattle.station_compare.specs.declared.fault.CompareFault.{CompareFault};
 ghost use Rattle.station_differences.specs.Answers.{TellsDifferences};
@@ -22,8 +23,9 @@ ghost use Rattle.station_differences.specs.declared.compared.TargetDifference.{T
 pub fn one_answer()
     ensures compared { (station : StationValue) (stated : List ℤ) (a b : List TargetDifference)
         → AreCompared station stated a → AreCompared station stated b → a ≡ b }
-    ensures answer { (unit : AngleUnit) (limits : FaceLimits) (file : FileAnswers)
-        (stated : Told) (name : List ℕ) (r s : Result (List ℕ) CompareFault) → AreLimits limits
+    ensures answer { (unit : AngleUnit) (limits : ResultLimits) (file : FileAnswers)
+        (stated : Told) (name : List ℕ) (r s : Result (List ℕ) CompareFault)
+        → AreLimits limits.faces
         → IsSettled r → IsSettled s
         → TellsDifferences unit limits file stated name r
         → TellsDifferences unit limits file stated name s → r ≡ s }

@@ -22,4 +22,4 @@ pub use compared::{TargetDifference, differences_by, target_differences};
 pub use differences::{differences_text, write_differences};
 pub use median::median_of;
 pub use runs::run_differences;
-pub use text::{are_short, push_stated, text_of};
+pub use text::{are_short, push_from_median, push_stated, text_of};

@@ -10,7 +10,7 @@ ghost use Rattle.station_differences.specs.Runs.{IsDifferencesRun};
 use crate::differences::write_differences;
 use byte_ends::{Sink, Source};
 use direction_table::AngleUnit;
-use station_book::Limits;
+use station_book::ResultLimits;
 use station_check::ACCEPTED;
 use station_compare::refuse;
 use std::alloc::Global;
@@ -24,7 +24,7 @@ pub fn run_differences<R: Source, Q: Source, W: Sink, E: Sink>(
     table: &mut Q,
     unit: AngleUnit,
     name: &[u8],
-    limits: Limits,
+    limits: ResultLimits,
     out: &mut W,
     err: &mut E,
 ) -> u8

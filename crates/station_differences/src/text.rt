@@ -2,7 +2,7 @@
 //!
 //! The rows go through `csv`'s writer, which puts quotes where a name asks for them.
 ghost use Rattle.std.specs.Prelude.{◌≡◌, ◌++◌, ◌-ℤ◌, map, IfOk, OnOk, OnErr};
-ghost use Rattle.angle_texts.specs.MgonTexts.{mgon_text};
+ghost use Rattle.angle_texts.specs.MgonTexts.{sign_text};
 ghost use Rattle.direction_table.specs.Beginnings.{IsBegun};
 ghost use Rattle.csv.specs.Writing.{default_writer, row_text};
 ghost use Rattle.sheet_format.specs.Texts.{Writes, rows_text};
@@ -82,7 +82,7 @@ fn push_rows<W: Write + Drop>(
         difference.clear();
         push_mgon(&mut difference, row.difference)?;
         from_median.clear();
-        push_less(&mut from_median, row.difference, median)?;
+        push_from_median(&mut from_median, row.difference, median)?;
         push_row(
             writer,
             &[
@@ -97,14 +97,31 @@ fn push_rows<W: Write + Drop>(
     Ok(())
 }
 
-/// Adds a difference less the median of all, in mgon.
-fn push_less(text: &mut Vec<u8>, difference: i32, median: i32) -> Result<(), AllocError>
-    ensures { OnOk result (text.new.items ≡ text.old.items ++ mgon_text (difference -ℤ median)) }
+/// Adds a difference less the median of all, in mgon: a minus where it is negative, the whole, a
+/// point and three decimals. Both are in units of 0.001 mgon.
+///
+/// The only error is that memory was refused; then a beginning of it may have been added.
+pub fn push_from_median(text: &mut Vec<u8>, difference: i32, median: i32) -> Result<(), AllocError>
+    ensures added { OnOk result
+        (text.new.items ≡ text.old.items ++ spec.from_median_text median difference) }
+    ensures begun { OnErr result
+        (IsBegun (spec.from_median_text median difference) text.old.items text.new.items) }
+{
+    push_sign(text, difference, median)?;
+    push_thousandths(text, difference.abs_diff(median))
+}
+
+/// Adds what stands before a difference less the median.
+fn push_sign(text: &mut Vec<u8>, difference: i32, median: i32) -> Result<(), AllocError>
+    ensures added { OnOk result
+        (text.new.items ≡ text.old.items ++ sign_text (difference -ℤ median)) }
+    ensures begun { OnErr result
+        (IsBegun (sign_text (difference -ℤ median)) text.old.items text.new.items) }
 {
     if difference < median {
         text.push(b'-')?;
     }
-    push_thousandths(text, difference.abs_diff(median))
+    Ok(())
 }
 
 /// Writes one row after those that were written. An error of `csv` is out of memory: the text is

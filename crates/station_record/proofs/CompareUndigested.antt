@@ -8,10 +8,10 @@ use Rattle.byte_ends.specs.Source.{Told, ReaderChange, reader_change}
 use Rattle.direction_table.specs.declared.unit.AngleUnit.{AngleUnit}
 use Rattle.sha2.specs.Hashers.{Holds256}
 use Rattle.sha2.specs.Sha256.{sha256}
-use Rattle.station_book.specs.Limits.{FaceLimits}
+use Rattle.station_book.specs.declared.result_limits.ResultLimits.{ResultLimits}
 use Rattle.station_check.specs.RunEndings.{PrintsAnswer}
+use Rattle.station_compare.specs.AgreementTexts.{agreement_line}
 use Rattle.station_compare.specs.Answers.{IsComparison, field_file_left, table_left}
-use Rattle.station_compare.specs.FaultTexts.{agreement_line}
 use Rattle.station_compare.specs.declared.agreement.Agreement.{Agreement}
 use Rattle.station_compare.specs.declared.fault.CompareFault.{CompareFault}
 use Rattle.station_compare.specs.declared.fault.CompareFault.TheVariants.{Write}
@@ -21,8 +21,8 @@ use Rattle.station_record.specs.Recorded.{IsRecordedCompare, recorded_text}
 -- The promise of two digesting readers is one of the readers that they ask, of the same bytes.
 abbrev pub comparison_of : {R Q : Type 0} (told : R → Option Told) (failed : R → Bool)
     (gave : R → ℕ → List ℕ → Type 0) (told_q : Q → Option Told) (failed_q : Q → Bool)
-    (gave_q : Q → ℕ → List ℕ → Type 0) (unit : AngleUnit) (limits : FaceLimits) (within : Option ℕ)
-    (station : List ℕ)
+    (gave_q : Q → ℕ → List ℕ → Type 0) (unit : AngleUnit) (limits : ResultLimits)
+    (within : Option ℕ) (station : List ℕ)
     (d d' : Digesting R) (e e' : Digesting Q) (r : Result Agreement CompareFault)
     → Holds256 (hasher_of d) [] → Holds256 (hasher_of e) []
     → IsComparison unit limits within (reader_change (λ d. told (reader_of d))
@@ -54,7 +54,7 @@ comparison_of told failed gave told_q failed_q gave_q unit limits within station
     }
 
 -- What was printed with two digests, where they are those of the bytes that the promise speaks of.
-pub recorded : {A : Type 0} (unit : AngleUnit) (limits : FaceLimits) (within : Option ℕ)
+pub recorded : {A : Type 0} (unit : AngleUnit) (limits : ResultLimits) (within : Option ℕ)
     (station : List ℕ)
     (gsi table : ReaderChange) (gsi_name table_name : List ℕ)
     (verdict : Result Agreement CompareFault)

@@ -9,7 +9,7 @@ use Rattle.byte_ends.specs.Source.{Told, ReaderChange, reader_change}
 use Rattle.gsi_file.specs.FileAnswers.{FileAnswers}
 use Rattle.sha2.specs.Hashers.{Holds256}
 use Rattle.sha2.specs.Sha256.{sha256}
-use Rattle.station_book.specs.Limits.{FaceLimits}
+use Rattle.station_book.specs.declared.result_limits.ResultLimits.{ResultLimits}
 use Rattle.station_check.specs.RunEndings.{PrintsAnswer}
 use Rattle.station_compare.specs.Answers.{field_file_left, table_left}
 use Rattle.station_compare.specs.Directions.{HasNoDirections}
@@ -87,7 +87,7 @@ printed_too items print text (Ok x) out p = p
 printed_too items print text (Err fault) out p = p
 
 -- What was printed with a digest, where it is that of the bytes that the promise speaks of.
-pub recorded_report : {T A : Type 0} (items : T → List ℕ) (path : List ℕ) (limits : FaceLimits)
+pub recorded_report : {T A : Type 0} (items : T → List ℕ) (path : List ℕ) (limits : ResultLimits)
     (gsi : ReaderChange) (station : List ℕ) (answer : Result T CompareFault)
     (a : ReadsFieldFile gsi answer (λ file. MatchResult answer
     (λ text. StatesReport path limits file station (items text))

@@ -7,13 +7,14 @@ use Rattle.byte_ends.specs.Source.{ReaderChange}
 use Rattle.direction_table.specs.declared.unit.AngleUnit.{AngleUnit}
 use Rattle.sha2.specs.Sha256.{sha256}
 use Rattle.station_book.specs.Limits.{FaceLimits}
+use Rattle.station_book.specs.declared.result_limits.ResultLimits.{ResultLimits}
 use Rattle.station_check.specs.Promise.{IsAnswer}
 use Rattle.station_check.specs.RunEndings.{PrintsAnswer}
 use Rattle.station_check.specs.VerdictLines.{accepted_line}
 use Rattle.station_check.specs.declared.fault.Fault.{Fault}
 use Rattle.station_check.specs.declared.fault.Fault.TheVariants as check
+use Rattle.station_compare.specs.AgreementTexts.{agreement_line}
 use Rattle.station_compare.specs.Answers.{IsComparison}
-use Rattle.station_compare.specs.FaultTexts.{agreement_line}
 use Rattle.station_compare.specs.Runs.{ReadsFieldFile}
 use Rattle.station_compare.specs.declared.agreement.Agreement.{Agreement}
 use Rattle.station_compare.specs.declared.fault.CompareFault.{CompareFault}
@@ -42,10 +43,10 @@ pub record IsRecordedCheck {A : Type 0} (limits : FaceLimits) (limit : Option �
       check.Write verdict r out
 
 -- The same of a run of the comparison.
-pub record IsRecordedCompare {A : Type 0} (unit : AngleUnit) (limits : FaceLimits)
-    (within : Option ℕ)
-    (station : List ℕ) (gsi : ReaderChange) (gsi_name : List ℕ) (table : ReaderChange)
-    (table_name : List ℕ) (r : Result A CompareFault) (out : WriterChange) : Type 0 where
+pub record IsRecordedCompare {A : Type 0} (unit : AngleUnit) (limits : ResultLimits)
+    (within : Option ℕ) (station : List ℕ) (gsi : ReaderChange) (gsi_name : List ℕ)
+    (table : ReaderChange) (table_name : List ℕ) (r : Result A CompareFault) (out : WriterChange)
+    : Type 0 where
   pub verdict : Result Agreement CompareFault
   pub compares : IsComparison unit limits within gsi table station verdict
   pub printed : PrintsAnswer (λ a. recorded_text (agreement_line a)
@@ -68,7 +69,7 @@ recorded_both_text text gsi gsi_name table table_name =
 -- A run of the report that is recorded: all that the report promises of its text, and how that was
 -- printed. The digest is that of the very bytes that the reader gave and that the promise speaks
 -- of.
-pub record IsRecordedReport {A : Type 0} (path : List ℕ) (limits : FaceLimits)
+pub record IsRecordedReport {A : Type 0} (path : List ℕ) (limits : ResultLimits)
     (gsi : ReaderChange) (station : List ℕ) (r : Result A CompareFault) (out : WriterChange)
     : Type 0 where
   pub answer : Result (List ℕ) CompareFault

@@ -4,8 +4,8 @@ ghost use Rattle.std.specs.Prelude.{◌≡◌, ⊤};
 ghost use Rattle.byte_ends.specs.Writers.{writer_change};
 ghost use Rattle.byte_ends.specs.Source.{UntilDropped};
 ghost use Rattle.station_check.specs.RunEndings.{PrintsAnswer, Reports, Run, no_notes, status_of};
+ghost use Rattle.station_compare.specs.AgreementTexts as spec;
 ghost use Rattle.station_compare.specs.FaultTexts.{refusal_line};
-ghost use Rattle.station_compare.specs.FaultTexts as spec;
 ghost use Rattle.station_compare.specs.declared.fault.CompareFault.TheVariants.{Write};
 ghost use Rattle.station_record.specs.Recorded.{IsRecordedCompare, recorded_text};
 
@@ -14,7 +14,7 @@ use crate::named::NamedReader;
 use byte_digests::Digesting;
 use byte_ends::{Sink, Source};
 use direction_table::AngleUnit;
-use station_book::Limits;
+use station_book::ResultLimits;
 use station_check::ACCEPTED;
 use station_compare::{Agreement, CompareFault, agreement_line, compare_sources, refuse};
 use std::alloc::Global;
@@ -30,7 +30,7 @@ pub fn run_compare_recorded<R: Source, Q: Source, W: Sink, E: Sink>(
     table: NamedReader<'_, Q>,
     unit: AngleUnit,
     station: &[u8],
-    limits: Limits,
+    limits: ResultLimits,
     within: Option<u32>,
     out: &mut W,
     err: &mut E,

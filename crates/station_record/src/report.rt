@@ -13,7 +13,7 @@ use crate::lines::write_recorded_report;
 use crate::named::NamedReader;
 use byte_digests::Digesting;
 use byte_ends::{Sink, Source};
-use station_book::Limits;
+use station_book::ResultLimits;
 use station_compare::CompareFault;
 use station_report::report_of_source;
 use std::alloc::Global;
@@ -27,7 +27,7 @@ pub fn run_report_recorded<R: Source, W: Sink, E: Sink>(
     alloc: Global,
     gsi: NamedReader<'_, R>,
     station: &[u8],
-    limits: Limits,
+    limits: ResultLimits,
     out: &mut W,
     err: &mut E,
 ) -> u8

@@ -1,23 +1,24 @@
 -- The text of a report (profile), in the order in which it is printed. Lines are at most 100 bytes
 -- wide, but for the one that names the field file.
-use Rattle.std.specs.Prelude.{ℕ, ◌+◌, ◌*◌, ◌%◌, List, [], ◌++◌, length, map, codes, decimal, ℤ, pos}
+use Rattle.std.specs.Prelude.{ℕ, ◌+◌, ◌*◌, ◌/◌, ◌%◌, List, [], ◌++◌, length, codes, decimal, pos}
 use Rattle.std.specs.Prelude.{Option, Some, None, position, slice_index_or, if◌then◌else◌, ◌==◌}
 use Rattle.std.specs.Prelude.{◌&&◌, nat_le, nat_lt}
 use Rattle.std.specs.Option.{option_map_or}
 use Rattle.adjust_kernel.specs.Stations.{StationValue}
 use Rattle.adjust_kernel.specs.declared.obs.Obs.{Obs}
-use Rattle.angle_texts.specs.MgonTexts.{mgon_text, short_mgon_text}
-use Rattle.byte_digests.specs.DigestLines.{name_text}
+use Rattle.angle_texts.specs.MgonTexts.{mgon_text, short_mgon_text, thousandths_text}
+use Rattle.byte_digests.specs.NameTexts.{name_text}
 use Rattle.direction_table.specs.Texts.{direction_text}
-use Rattle.adjust_kernel.specs.declared.units.TheConstants.{HALF_UNIT}
-use Rattle.station_book.specs.Limits.{FaceLimits}
+use Rattle.adjust_kernel.specs.declared.units.TheConstants.{HALF_UNIT, UNIT}
+use Rattle.station_book.specs.declared.result_limits.ResultLimits.{ResultLimits}
 use Rattle.station_book.specs.Stations.{SurveyedStation}
 use Rattle.station_check.specs.declared.version.TheConstants.{VERSION}
 use Rattle.station_report.specs.Columns.{each_place, left_text, right_text}
 use Rattle.station_report.specs.Deviations.{degrees_of}
 use Rattle.station_report.specs.Readings.{name_of, number_of, reading_one, reading_two, reduced}
 use Rattle.station_report.specs.Readings.{set_at, target_at, two_c_at, two_i_at, value_at}
-use Rattle.station_residuals.specs.declared.adjusted.AdjustedObs.{AdjustedObs}
+use Rattle.station_results.specs.Greatest.{residual_at}
+use Rattle.station_results.specs.declared.adjusted.AdjustedObs.{AdjustedObs}
 
 -- a direction in gon with five decimals, as it was read: of units of 0.00001 gon
 abbrev pub read_text : ℕ → List ℕ
@@ -32,7 +33,8 @@ abbrev pub entry_text : List ℕ → List ℕ → List ℕ
 entry_text name text = left_text 22 name ++ (text ++ codes "\n")
 
 -- A line that names a file: the path, in which a line feed, a carriage return and a backslash are
--- escaped as `sha256sum` escapes them, so that no path makes lines of its own.
+-- escaped as `sha256sum` escapes them, and each other control byte is a code, so that no path makes
+-- lines of its own or moves what a terminal shows by a control byte of ASCII.
 abbrev pub file_text : List ℕ → List ℕ → List ℕ
 file_text name path = entry_text name (name_text path)
 
@@ -53,15 +55,22 @@ counts_text station =
     ++ (entry_text (codes "Targets") (decimal (length station.targets))
     ++ entry_text (codes "Two-face directions") (decimal (length station.obs)))
 
--- the limits of face differences
-abbrev pub limits_text : FaceLimits → List ℕ
+-- a limit of residuals in mgon with three decimals: of half units
+abbrev pub residual_limit_text : ℕ → List ℕ
+residual_limit_text half_units =
+    thousandths_text (HALF_UNIT / UNIT * half_units) ++ codes " mgon"
+
+-- the limits of face differences, and that of residuals: each that was in force
+abbrev pub limits_text : ResultLimits → List ℕ
 limits_text limits =
-    entry_text (codes "Limit of 2c") (short_mgon_text (pos limits.two_c) ++ codes " mgon")
-    ++ entry_text (codes "Limit of 2i") (short_mgon_text (pos limits.two_i) ++ codes " mgon")
+    entry_text (codes "Limit of 2c") (short_mgon_text (pos limits.faces.two_c) ++ codes " mgon")
+    ++ (entry_text (codes "Limit of 2i")
+    (short_mgon_text (pos limits.faces.two_i) ++ codes " mgon")
+    ++ entry_text (codes "Limit of residuals") (residual_limit_text limits.residual))
 
 -- The head: the program and its version, the field file as it was named, the station, how much was
--- measured, and the limits of face differences.
-abbrev pub head_text : List ℕ → FaceLimits → StationValue → List ℕ
+-- measured, and the limits.
+abbrev pub head_text : List ℕ → ResultLimits → StationValue → List ℕ
 head_text path limits station =
     named_text path station ++ (counts_text station ++ limits_text limits)
 
@@ -118,11 +127,6 @@ directions_text station directions =
     codes "\nAdjusted directions in gon, by least squares, counted from the first target\n\n"
     ++ (codes "  Target              Direction\n\n"
     ++ each_place (length station.targets) (direction_line station directions))
-
--- the residual of the observation at a place
-abbrev pub residual_at : List AdjustedObs → ℕ → ℤ
-residual_at rows place =
-    slice_index_or (map (λ (row : AdjustedObs). row.residual) rows) place (pos 0)
 
 -- the place of the observation of a set and a target, if there is one
 abbrev pub place_of : StationValue → ℕ → ℕ → Option ℕ
@@ -206,7 +210,7 @@ end_text station rows greatest deviation =
     ++ entry_text (codes "Standard deviation") (deviation_text deviation)))
 
 -- The report, with a section after the adjusted directions: that of a table beside them, or none.
-abbrev pub report_text : List ℕ → FaceLimits → SurveyedStation → List ℕ → List ℕ
+abbrev pub report_text : List ℕ → ResultLimits → SurveyedStation → List ℕ → List ℕ
     → List AdjustedObs → ℕ → Option ℕ → List ℕ
 report_text path limits its directions section rows greatest deviation =
     head_text path limits its.station

@@ -1,33 +1,22 @@
 -- What a printed report says, in the order of the sentence: of the station of this name in the
--- field file, whose observations are its two-face directions within the limits, the text has the
--- readings and the face differences, the adjusted directions, the residuals, the greatest residual,
--- and the standard deviation of one two-face direction: least over all directions, orientations and
--- full turns, each number rounded once.
-use Rattle.std.specs.Prelude.{◌≡◌, ℕ, ◌≤◌, ◌<◌, List, [], Option, length, unsigned_abs}
+-- field file, whose observations are its two-face directions within the limits, and whose residuals
+-- keep theirs, the text has the readings and the face differences, the adjusted directions, the
+-- residuals, the greatest residual, and the standard deviation of one two-face direction: least over
+-- all directions, orientations and full turns, each number rounded once.
+use Rattle.std.specs.Prelude.{◌≡◌, ℕ, List, [], Option}
 use Rattle.adjust_kernel.specs.Stations.{StationValue}
 use Rattle.adjust_kernel.specs.declared.units.TheConstants.{UNIT}
+use Rattle.exact_adjustment.specs.LeastOf.{HasResidualsWithin}
 use Rattle.gsi_file.specs.FileAnswers.{FileAnswers}
 use Rattle.least_directions.specs.LeastDirections.{AreRounded}
-use Rattle.station_book.specs.Limits.{FaceLimits}
+use Rattle.station_book.specs.declared.result_limits.ResultLimits.{ResultLimits}
 use Rattle.station_book.specs.Stations.{SurveyedStation}
 use Rattle.station_check.specs.StationOfFile.{IsStationOfFile}
 use Rattle.station_report.specs.Deviations.{IsDeviation}
-use Rattle.station_report.specs.ReportTexts.{report_text, residual_at}
-use Rattle.station_residuals.specs.Residuals.{AreAdjusted}
-use Rattle.station_residuals.specs.declared.adjusted.AdjustedObs.{AdjustedObs}
-
--- Of the residuals before a place, the one at this place is the greatest in size, as it is printed:
--- the first of them where several are.
-pub record IsGreatestBefore (rows : List AdjustedObs) (end place : ℕ) : Type 0 where
-  pub inside : place < end
-  pub most : (m : ℕ) → m < end
-      → unsigned_abs (residual_at rows m) ≤ unsigned_abs (residual_at rows place)
-  pub first : (m : ℕ) → m < place
-      → unsigned_abs (residual_at rows m) < unsigned_abs (residual_at rows place)
-
--- Of all residuals.
-abbrev pub IsGreatest : List AdjustedObs → ℕ → Type 0
-IsGreatest rows place = IsGreatestBefore rows (length rows) place
+use Rattle.station_report.specs.ReportTexts.{report_text}
+use Rattle.station_results.specs.Greatest.{IsGreatest}
+use Rattle.station_results.specs.Residuals.{AreAdjusted}
+use Rattle.station_results.specs.declared.adjusted.AdjustedObs.{AdjustedObs}
 
 -- This was computed of a station: its adjusted directions, its observations with their residuals,
 -- the place of the greatest residual, and the standard deviation of one two-face direction.
@@ -42,7 +31,7 @@ pub record IsComputed (station : StationValue) (directions : List ℕ) (rows : L
   pub is_deviation : IsDeviation station deviation
 
 -- This is the text of the report of a station, with this section after its adjusted directions.
-pub record IsReportText (path : List ℕ) (limits : FaceLimits) (its : SurveyedStation)
+pub record IsReportText (path : List ℕ) (limits : ResultLimits) (its : SurveyedStation)
     (section text : List ℕ) : Type 0 where
   pub directions : List ℕ
   pub rows : List AdjustedObs
@@ -52,11 +41,13 @@ pub record IsReportText (path : List ℕ) (limits : FaceLimits) (its : SurveyedS
   pub text_is : text ≡ report_text path limits its directions section rows greatest deviation
 
 -- Of these lines of a field file, this is the text of the report of the station of this name.
-pub record StatesReport (path : List ℕ) (limits : FaceLimits) (file : FileAnswers)
+pub record StatesReport (path : List ℕ) (limits : ResultLimits) (file : FileAnswers)
     (name : List ℕ) (text : List ℕ) : Type 0 where
   -- The station of this name: its observations are exactly its two-face directions, and every face
   -- difference is within the limits.
   pub its : SurveyedStation
-  pub station : IsStationOfFile limits file name its
+  pub station : IsStationOfFile limits.faces file name its
+  -- No residual is above the limit of residuals, whichever choice is least.
+  pub held : HasResidualsWithin its.station limits.residual
   -- The text of its report.
   pub report : IsReportText path limits its [] text

@@ -2,7 +2,7 @@
 ghost use Rattle.std.specs.Option.{ForSome};
 ghost use Rattle.std.specs.Prelude.{◌<◌, ◌^◌};
 
-use station_residuals::AdjustedObs;
+use station_results::AdjustedObs;
 
 /// What was computed of a station.
 #[derive(Debug, Drop)]

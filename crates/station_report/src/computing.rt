@@ -1,40 +1,46 @@
 //! How it is computed.
-ghost use Rattle.std.specs.Prelude.{◌≡◌, ◌<◌, ◌≤◌, ℕ, IfErr, IfOk, length, slice_index_or};
+ghost use Rattle.std.specs.Prelude.{◌≡◌, ◌<◌, ◌≤◌, ℕ, IfErr, IfOk, OnOk, length, slice_index_or};
 ghost use Rattle.adjust_kernel.specs.declared.bounds.TheConstants.{LARGEST_RESIDUAL_LIMIT};
 ghost use Rattle.directions_apart.specs.Rounding.{IsRounded};
 ghost use Rattle.adjust_kernel.specs.declared.units.TheConstants.{UNIT};
 ghost use Rattle.exact_adjustment.specs.Adjustments.{choice_by};
 ghost use Rattle.exact_adjustment.specs.Exact.{IsExact, KeepsLimit};
 ghost use Rattle.exact_adjustment.specs.Faults.{IsAdjustError};
-ghost use Rattle.exact_adjustment.specs.LeastOf.{AreTied};
+ghost use Rattle.exact_adjustment.specs.LeastOf.{AreTied, HasResidualsWithin};
 ghost use Rattle.station_report.specs.Computing.{IsComputedOf};
 
 use crate::computed::Computed;
 use crate::deviation::deviation_by;
-use crate::greatest::greatest_of;
-use adjust_kernel::{Station, UNIT};
+use adjust_kernel::{ResidualLimit, Station, UNIT};
 use directions_apart::rounded;
 use exact_adjustment::{AdjustError, Adjustment, adjust};
-use station_residuals::adjusted_by;
+use station_results::{adjusted_by, greatest_of};
 use std::alloc::{AllocError, Global};
 
 /// The adjusted directions of a station, its residuals, the greatest of them, and the standard
 /// deviation of one two-face direction: least over all directions, orientations and full turns. No
-/// residual may be above 10 mgon. Memory is linear in the observations.
+/// residual is above the limit. Memory is linear in the observations.
 ///
 /// # Errors
 ///
 /// Those of `exact_adjustment::adjust`: its `AdjustFault`, and `Memory`.
-pub fn computed_of(alloc: Global, station: &Station) -> Result<Computed, AdjustError>
+pub fn computed_of(
+    alloc: Global,
+    station: &Station,
+    limit: ResidualLimit,
+) -> Result<Computed, AdjustError>
     ensures computed { IfOk result (IsComputedOf station.now) }
-    ensures fault { IfErr result (IsAdjustError station.now) }
+    ensures held { OnOk result (HasResidualsWithin station.now limit) }
+    ensures fault { IfErr result (IsAdjustError station.now limit) }
 {
-    let adjustment = adjust(alloc, station)?;
+    let adjustment = adjust(alloc, station, limit)?;
     Ok(computed_by(alloc, station, &adjustment)?)
 }
 
 /// What `computed_of` answers, by an adjustment of the station.
-pub(crate) fn computed_by(
+///
+/// The only error is that memory was refused.
+pub fn computed_by(
     alloc: Global,
     station: &Station,
     adjustment: &Adjustment,

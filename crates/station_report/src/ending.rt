@@ -9,7 +9,7 @@ use crate::head::{push_counted, push_entry};
 use crate::places::{name_of, number_of, observation_at, residual_at};
 use adjust_kernel::Station;
 use angle_texts::push_mgon;
-use station_residuals::AdjustedObs;
+use station_results::AdjustedObs;
 use std::alloc::{AllocError, Global};
 
 /// Adds the set and the target of an observation.

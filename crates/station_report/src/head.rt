@@ -6,15 +6,18 @@ ghost use Rattle.station_book.specs.declared.limits.TheConstants.{LARGEST_LIMIT}
 ghost use Rattle.station_report.specs.ReportTexts as spec;
 
 use crate::columns::{push_count, push_left};
-use adjust_kernel::Station;
-use angle_texts::push_short_mgon;
+use adjust_kernel::{HALF_UNIT, ResidualLimit, Station, UNIT};
+use angle_texts::{push_short_mgon, push_thousandths};
 use byte_digests::push_name;
-use station_book::{LARGEST_LIMIT, Limits};
+use station_book::{LARGEST_LIMIT, ResultLimits};
 use station_check::VERSION;
 use std::alloc::AllocError;
 
 /// The width of the column of names, in lines that say what something is.
 pub const ENTRY_NAMES: usize = 22;
+
+/// Units of 0.001 mgon in a half unit (0.005 mgon).
+const UNITS: u32 = (HALF_UNIT / UNIT) as u32;
 
 /// Adds a line that says what something is.
 pub(crate) fn push_entry(text: &mut Vec<u8>, name: &[u8], entry: &[u8]) -> Result<(), AllocError>
@@ -37,7 +40,7 @@ pub(crate) fn push_counted(text: &mut Vec<u8>, name: &[u8], count: usize) -> Res
     Ok(())
 }
 
-/// Adds a line that says a limit, which is in units of 0.01 mgon.
+/// Adds a line that says a limit of face differences, which is in units of 0.01 mgon.
 fn push_limit(text: &mut Vec<u8>, name: &[u8], limit: u32) -> Result<(), AllocError>
     requires { limit ≤ LARGEST_LIMIT }
     ensures { OnOk result (text.new.items ≡ text.old.items
@@ -45,6 +48,17 @@ fn push_limit(text: &mut Vec<u8>, name: &[u8], limit: u32) -> Result<(), AllocEr
 {
     push_left(text, ENTRY_NAMES, name)?;
     push_short_mgon(text, limit as i32)?;
+    text.extend_from_slice(b" mgon\n")?;
+    Ok(())
+}
+
+/// Adds the line of the limit of residuals.
+fn push_residual_limit(text: &mut Vec<u8>, limit: ResidualLimit) -> Result<(), AllocError>
+    ensures { OnOk result (text.new.items ≡ text.old.items
+        ++ spec.entry_text (codes "Limit of residuals") (spec.residual_limit_text limit)) }
+{
+    push_left(text, ENTRY_NAMES, b"Limit of residuals")?;
+    push_thousandths(text, UNITS * limit.half_units())?;
     text.extend_from_slice(b" mgon\n")?;
     Ok(())
 }
@@ -97,11 +111,12 @@ fn push_counts(text: &mut Vec<u8>, station: &Station) -> Result<(), AllocError>
 }
 
 /// Adds the lines of the limits.
-fn push_limits(text: &mut Vec<u8>, limits: Limits) -> Result<(), AllocError>
+fn push_limits(text: &mut Vec<u8>, limits: ResultLimits) -> Result<(), AllocError>
     ensures { OnOk result (text.new.items ≡ text.old.items ++ spec.limits_text limits) }
 {
-    push_limit(text, b"Limit of 2c", limits.two_c())?;
-    push_limit(text, b"Limit of 2i", limits.two_i())?;
+    push_limit(text, b"Limit of 2c", limits.faces.two_c())?;
+    push_limit(text, b"Limit of 2i", limits.faces.two_i())?;
+    push_residual_limit(text, limits.residual)?;
     Ok(())
 }
 
@@ -109,7 +124,7 @@ fn push_limits(text: &mut Vec<u8>, limits: Limits) -> Result<(), AllocError>
 pub(crate) fn push_head(
     text: &mut Vec<u8>,
     path: &[u8],
-    limits: Limits,
+    limits: ResultLimits,
     station: &Station,
 ) -> Result<(), AllocError>
     ensures { OnOk result

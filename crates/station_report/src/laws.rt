@@ -7,13 +7,14 @@ ghost use Rattle.station_book.specs.Faults.{angles_at};
 ghost use Rattle.station_book.specs.Limits.{AreLimits, FaceLimits};
 ghost use Rattle.station_book.specs.Places.{History};
 ghost use Rattle.station_book.specs.Recorded.{IsRecordedWith};
+ghost use Rattle.station_book.specs.declared.result_limits.ResultLimits.{ResultLimits};
 ghost use Rattle.station_book.specs.declared.faces.Faces.{Faces};
 ghost use Rattle.station_compare.specs.OneAnswer.{IsSettled};
 ghost use Rattle.station_compare.specs.declared.fault.CompareFault.{CompareFault};
 ghost use Rattle.station_report.specs.Answers.{TellsReport};
 ghost use Rattle.station_report.specs.Readings.{reading_one, reading_two};
 ghost use Rattle.station_report.specs.Stating.{IsComputed};
-ghost use Rattle.station_residuals.specs.declared.adjusted.AdjustedObs.{AdjustedObs};
+ghost use Rattle.station_results.specs.declared.adjusted.AdjustedObs.{AdjustedObs};
 
 /// What is printed as read in face I and in face II is what was read there: of whichever readings a
 /// two-face direction and its face differences are.
@@ -33,8 +34,8 @@ pub fn one_answer()
         (m n : ℕ) (d e : Option ℕ)
         → IsComputed station ds rs m d → IsComputed station es ss n e
         → (ds ≡ es) × (rs ≡ ss) × (m ≡ n) × (d ≡ e) }
-    ensures answer { (path : List ℕ) (limits : FaceLimits) (file : FileAnswers) (name : List ℕ)
-        (r s : Result (List ℕ) CompareFault) → AreLimits limits
+    ensures answer { (path : List ℕ) (limits : ResultLimits) (file : FileAnswers) (name : List ℕ)
+        (r s : Result (List ℕ) CompareFault) → AreLimits limits.faces
         → IsSettled r → IsSettled s
         → TellsReport path limits file name r → TellsReport path limits file name s → r ≡ s }
 {}

@@ -13,7 +13,6 @@ mod computing;
 mod deviation;
 mod directions;
 mod ending;
-mod greatest;
 mod head;
 pub mod laws;
 mod place_of;
@@ -28,7 +27,7 @@ mod text;
 
 pub use columns::{push_count, push_left, push_right};
 pub use computed::Computed;
-pub use computing::computed_of;
+pub use computing::{computed_by, computed_of};
 pub use deviation::{degrees_of, deviation_by};
 pub use head::{ENTRY_NAMES, push_file};
 pub use readings::{READ_UNIT, reading_one, reading_two};

@@ -2,11 +2,11 @@
 ghost use Rattle.std.specs.Prelude.{◌≡◌, ◌<◌, length};
 ghost use Rattle.adjust_kernel.specs.declared.bounds.TheConstants.{TURN};
 ghost use Rattle.station_report.specs.Readings as spec;
-ghost use Rattle.station_report.specs.ReportTexts as report;
+ghost use Rattle.station_results.specs.Greatest as results;
 
 use adjust_kernel::{Name, Obs, Station};
 use station_book::{Faces, Surveyed};
-use station_residuals::AdjustedObs;
+use station_results::AdjustedObs;
 
 /// The number of the set at a place.
 pub(crate) fn number_of(station: &Station, set: usize) -> u16
@@ -49,7 +49,7 @@ pub(crate) fn faces_at(surveyed: &Surveyed, place: usize) -> Faces
 /// The residual at a place.
 pub(crate) fn residual_at(rows: &[AdjustedObs], place: usize) -> i32
     requires { place < length rows.now }
-    ensures { result ≡ report.residual_at rows.now place }
+    ensures { result ≡ results.residual_at rows.now place }
 {
     rows[place].residual
 }

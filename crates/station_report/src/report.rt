@@ -1,20 +1,19 @@
 //! The report of a station of a field file.
-ghost use Rattle.std.specs.Prelude.{[], IfOk, MatchResult};
-ghost use Rattle.adjust_kernel.specs.declared.bounds.TheConstants.{LARGEST_RESIDUAL_LIMIT};
+ghost use Rattle.std.specs.Prelude.{[], IfOk, MatchResult, OnOk};
 ghost use Rattle.byte_ends.specs.Writers.{writer_change};
 ghost use Rattle.byte_ends.specs.Source.{reader_change, UntilDropped};
-ghost use Rattle.exact_adjustment.specs.Exact.{IsExact, KeepsLimit};
-ghost use Rattle.exact_adjustment.specs.LeastOf.{AreTied};
+ghost use Rattle.exact_adjustment.specs.LeastOf.{HasResidualsWithin};
 ghost use Rattle.station_compare.specs.Directions.{HasNoDirections, HasNoTable};
 ghost use Rattle.station_compare.specs.Runs.{ReadsFieldFile};
+ghost use Rattle.station_report.specs.Computing.{IsComputedOf};
 ghost use Rattle.station_report.specs.Runs.{IsReportRun};
 ghost use Rattle.station_report.specs.Stating.{IsReportText, StatesReport};
 
-use crate::computing::computed_by;
+use crate::computed::Computed;
+use crate::computing::computed_of;
 use crate::text::text_of;
 use byte_ends::{Sink, Source};
-use exact_adjustment::{Adjustment, adjust};
-use station_book::{Limits, Surveyed};
+use station_book::{ResultLimits, Surveyed};
 use station_check::{Fault, stations_of_file, write_whole};
 use station_compare::CompareFault;
 use std::alloc::{AllocError, Global};
@@ -24,7 +23,7 @@ use std::alloc::{AllocError, Global};
 /// direction. The head names the field file as it is named here.
 ///
 /// All is exactly rounded, the middle of two upwards, and of the least-squares directions: least
-/// over all directions, orientations and full turns. No residual may be above 10 mgon.
+/// over all directions, orientations and full turns. No residual is above the limit of residuals.
 ///
 /// # Errors
 ///
@@ -35,7 +34,7 @@ pub fn report_text<R: Source>(
     gsi: R,
     path: &[u8],
     name: &[u8],
-    limits: Limits,
+    limits: ResultLimits,
 ) -> Result<Vec<u8>, CompareFault>
     ensures { UntilDropped R.told R.failed R.gave gsi (λ gsi. ReadsFieldFile gsi result
         (λ file. MatchResult result
@@ -52,7 +51,7 @@ pub fn report_of_source<R: Source>(
     gsi: R,
     path: &[u8],
     name: &[u8],
-    limits: Limits,
+    limits: ResultLimits,
 ) -> (Result<Vec<u8>, CompareFault>, R)
     ensures { ReadsFieldFile (reader_change R.told R.failed R.gave gsi result.1) result.0
         (λ file. MatchResult result.0
@@ -60,8 +59,8 @@ pub fn report_of_source<R: Source>(
         (HasNoDirections limits file name.now)) }
 {
     // For the proof alone: limits keep their bounds.
-    limits.recall();
-    let (surveyed, gsi) = stations_of_file(alloc, gsi, limits);
+    limits.faces.recall();
+    let (surveyed, gsi) = stations_of_file(alloc, gsi, limits.faces);
     let stations = match surveyed {
         Ok(stations) => stations,
         Err(fault) => return (Err(CompareFault::from(fault)), gsi),
@@ -84,7 +83,7 @@ pub fn write_report<R: Source, W: Sink>(
     gsi: R,
     path: &[u8],
     name: &[u8],
-    limits: Limits,
+    limits: ResultLimits,
     writer: &mut W,
 ) -> Result<(), CompareFault>
     ensures { UntilDropped R.told R.failed R.gave gsi (λ gsi. IsReportRun path.now limits gsi
@@ -100,35 +99,33 @@ pub fn write_report<R: Source, W: Sink>(
 fn text_of_surveyed(
     alloc: Global,
     path: &[u8],
-    limits: Limits,
+    limits: ResultLimits,
     surveyed: &Surveyed,
 ) -> Result<Vec<u8>, CompareFault>
-    ensures { MatchResult result
+    ensures text { MatchResult result
         (λ text. IsReportText path.now limits surveyed.now [] text.items)
-        (HasNoTable surveyed.now.station) }
+        (HasNoTable surveyed.now.station limits.residual) }
+    ensures held { OnOk result (HasResidualsWithin surveyed.now.station limits.residual) }
 {
-    let adjustment = adjust(alloc, surveyed.station())?;
-    Ok(text_by(alloc, path, limits, surveyed, &adjustment, &[])?)
+    let computed = computed_of(alloc, surveyed.station(), limits.residual)?;
+    Ok(text_by(alloc, path, limits, surveyed, &computed, &[])?)
 }
 
-/// The text of the report of a station, by an adjustment of it, with a section after its adjusted
-/// directions: that of a table beside them, or none.
+/// The text of the report of a station, by what was computed of it, with a section after its
+/// adjusted directions: that of a table beside them, or none.
 ///
 /// The only error is that memory was refused.
 pub fn text_by(
     alloc: Global,
     path: &[u8],
-    limits: Limits,
+    limits: ResultLimits,
     surveyed: &Surveyed,
-    adjustment: &Adjustment,
+    computed: &Computed,
     section: &[u8],
 ) -> Result<Vec<u8>, AllocError>
-    requires exact { IsExact surveyed.now.station adjustment.now }
-    requires limited { KeepsLimit surveyed.now.station adjustment.now LARGEST_RESIDUAL_LIMIT }
-    requires tied { AreTied surveyed.now.station }
+    requires { IsComputedOf surveyed.now.station computed.now }
     ensures { IfOk result (λ text.
         IsReportText path.now limits surveyed.now section.now text.items) }
 {
-    let computed = computed_by(alloc, surveyed.station(), adjustment)?;
-    text_of(alloc, path, limits, surveyed, section, &computed)
+    text_of(alloc, path, limits, surveyed, section, computed)
 }

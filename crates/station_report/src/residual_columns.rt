@@ -9,7 +9,7 @@ use crate::place_of::place_of;
 use crate::places::{name_of, number_of, residual_at};
 use adjust_kernel::{LONGEST_NAME, Station};
 use angle_texts::push_mgon;
-use station_residuals::AdjustedObs;
+use station_results::AdjustedObs;
 use std::alloc::{AllocError, Global};
 
 /// So many sets stand beside each other.

@@ -9,7 +9,7 @@ ghost use Rattle.station_report.specs.Runs.{IsReportRun};
 
 use crate::report::write_report;
 use byte_ends::{Sink, Source};
-use station_book::Limits;
+use station_book::ResultLimits;
 use station_check::ACCEPTED;
 use station_compare::refuse;
 use std::alloc::Global;
@@ -22,7 +22,7 @@ pub fn run_report<R: Source, W: Sink, E: Sink>(
     gsi: R,
     path: &[u8],
     name: &[u8],
-    limits: Limits,
+    limits: ResultLimits,
     out: &mut W,
     err: &mut E,
 ) -> u8

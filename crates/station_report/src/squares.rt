@@ -20,7 +20,7 @@ ghost use Rattle.wide_number.specs.Limbs.{WIDE_LIMIT};
 
 use adjust_kernel::{LARGEST_RESIDUAL_LIMIT, Obs, Station, TURN};
 use exact_adjustment::Adjustment;
-use station_residuals::{LIFT, lifted, sides};
+use station_results::{LIFT, lifted, sides};
 use std::alloc::{AllocError, Global};
 use wide_number::{Wide, quotient};
 

@@ -8,7 +8,7 @@ use crate::ending::push_end;
 use crate::head::push_head;
 use crate::readings::push_readings;
 use crate::residual_columns::push_residuals;
-use station_book::{Limits, Surveyed};
+use station_book::{ResultLimits, Surveyed};
 use std::alloc::{AllocError, Global};
 
 /// The text of the report of a station, of the field file that was named so, with a section after
@@ -18,7 +18,7 @@ use std::alloc::{AllocError, Global};
 pub(crate) fn text_of(
     alloc: Global,
     path: &[u8],
-    limits: Limits,
+    limits: ResultLimits,
     surveyed: &Surveyed,
     section: &[u8],
     computed: &Computed,

@@ -1,9 +1,6 @@
 -- The public definitions, which public contracts and laws cite, in the order in which a reader
 -- needs them.
-pub mod Residuals
 pub mod ResidualTexts
 pub mod Stating
 pub mod Answers
 pub mod Runs
--- The inside.
-pub mod Adjusting

@@ -4,7 +4,7 @@ use Rattle.angle_texts.specs.MgonTexts.{mgon_text}
 use Rattle.direction_table.specs.Texts.{direction_text}
 use Rattle.adjust_kernel.specs.declared.units.TheConstants.{HALF_UNIT}
 use Rattle.sheet_format.specs.Texts.{rows_text}
-use Rattle.station_residuals.specs.declared.adjusted.AdjustedObs.{AdjustedObs}
+use Rattle.station_results.specs.declared.adjusted.AdjustedObs.{AdjustedObs}
 
 -- the titles
 abbrev pub titles : List (List ℕ)

@@ -8,9 +8,9 @@ use Rattle.gsi_file.specs.FileAnswers.{FileAnswers}
 use Rattle.station_book.specs.Limits.{FaceLimits}
 use Rattle.station_book.specs.Stations.{SurveyedStation}
 use Rattle.station_check.specs.StationOfFile.{IsStationOfFile}
-use Rattle.station_residuals.specs.Residuals.{AreAdjusted}
+use Rattle.station_results.specs.Residuals.{AreAdjusted}
 use Rattle.station_residuals.specs.ResidualTexts.{residuals_text}
-use Rattle.station_residuals.specs.declared.adjusted.AdjustedObs.{AdjustedObs}
+use Rattle.station_results.specs.declared.adjusted.AdjustedObs.{AdjustedObs}
 
 -- This is the text of the residuals of a station: the titles, and a row for each observation.
 pub record IsResidualsText (station : StationValue) (text : List ℕ) : Type 0 where

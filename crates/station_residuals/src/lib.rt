@@ -6,15 +6,11 @@
 //! refusal, and the exit status. The faults are those of the directions.
 #![tactic(auto)]
 
-mod adjusted;
 pub mod laws;
-mod residual;
 mod residuals;
 mod runs;
 mod text;
 
-pub use adjusted::{AdjustedObs, adjusted_by, adjusted_observations};
-pub use residual::{LIFT, lifted, sides};
 pub use residuals::{residuals_text, write_residuals};
 pub use runs::run_residuals;
 pub use text::text_of;

@@ -1,19 +1,21 @@
 //! The residuals of a station of a field file.
-ghost use Rattle.std.specs.Prelude.{MatchResult};
+ghost use Rattle.std.specs.Prelude.{MatchResult, OnOk};
 ghost use Rattle.byte_ends.specs.Writers.{writer_change};
 ghost use Rattle.byte_ends.specs.Source.{UntilDropped};
+ghost use Rattle.exact_adjustment.specs.LeastOf.{HasResidualsWithin};
+ghost use Rattle.station_book.specs.ResultLimits.{of_faces};
 ghost use Rattle.station_compare.specs.Directions.{HasNoDirections, HasNoTable};
 ghost use Rattle.station_compare.specs.Runs.{ReadsFieldFile};
 ghost use Rattle.station_residuals.specs.Runs.{IsResidualsRun};
 ghost use Rattle.station_residuals.specs.Stating.{IsResidualsText, StatesResiduals};
 
-use crate::adjusted::adjusted_observations;
 use crate::text::text_of;
-use adjust_kernel::Station;
+use adjust_kernel::{ResidualLimit, Station};
 use byte_ends::{Sink, Source};
-use station_book::Limits;
+use station_book::{Limits, ResultLimits};
 use station_check::{Fault, stations_of_file, write_whole};
 use station_compare::CompareFault;
+use station_results::adjusted_observations;
 use std::alloc::Global;
 
 /// The text of the residuals of the station of this name: a row of titles, and a row for each of
@@ -36,7 +38,7 @@ pub fn residuals_text<R: Source>(
     ensures { UntilDropped R.told R.failed R.gave gsi (λ gsi. ReadsFieldFile gsi result
         (λ file. MatchResult result
         (λ text. StatesResiduals limits file name.now text.items)
-        (HasNoDirections limits file name.now))) }
+        (HasNoDirections (of_faces limits) file name.now))) }
 {
     // For the proof alone: limits keep their bounds.
     limits.recall();
@@ -45,7 +47,9 @@ pub fn residuals_text<R: Source>(
     let Some(surveyed) = stations.get(name) else {
         return Err(CompareFault::File(Fault::NoStation));
     };
-    text_of_station(alloc, surveyed.station())
+    // Residuals are printed to be looked at: nothing is asked of them but that they are adjusted.
+    let limits = ResultLimits::of_faces(limits);
+    text_of_station(alloc, surveyed.station(), limits.residual)
 }
 
 /// Writes that text, and flushes once.
@@ -70,11 +74,16 @@ pub fn write_residuals<R: Source, W: Sink>(
 }
 
 /// The text of the residuals of a station.
-fn text_of_station(alloc: Global, station: &Station) -> Result<Vec<u8>, CompareFault>
-    ensures { MatchResult result
+fn text_of_station(
+    alloc: Global,
+    station: &Station,
+    residual: ResidualLimit,
+) -> Result<Vec<u8>, CompareFault>
+    ensures text { MatchResult result
         (λ text. IsResidualsText station.now text.items)
-        (HasNoTable station.now) }
+        (HasNoTable station.now residual) }
+    ensures held { OnOk result (HasResidualsWithin station.now residual) }
 {
-    let rows = adjusted_observations(alloc, station)?;
+    let rows = adjusted_observations(alloc, station, residual)?;
     Ok(text_of(alloc, &rows)?)
 }

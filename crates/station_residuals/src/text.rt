@@ -6,11 +6,11 @@ ghost use Rattle.csv.specs.Writing.{default_writer, row_text};
 ghost use Rattle.sheet_format.specs.Texts.{Writes, rows_text};
 ghost use Rattle.station_residuals.specs.ResidualTexts as spec;
 
-use crate::adjusted::AdjustedObs;
 use adjust_kernel::HALF_UNIT;
 use angle_texts::{push_gon, push_mgon};
 use csv::{Writer, WriterBuilder};
 use itoa::Buffer;
+use station_results::AdjustedObs;
 use std::alloc::{AllocError, Global};
 use std::io::Write;
 

@@ -1,12 +1,13 @@
 -- From the report with a table to what is answered of it, and that the answer is one.
 use Rattle.std.proofs.Common.{◌≡◌, ℕ, List, ℤ, Option, Result, Ok, Err, ap, refl, sym, subst, ◌∙◌}
-use Rattle.std.specs.Prelude.{MatchResult}
+use Rattle.std.specs.Prelude.{MatchResult, OnOk}
 use Rattle.adjust_kernel.specs.Stations.{StationValue}
 use Rattle.byte_ends.specs.Input.{Input, Ended, BrokeOff, RanPast, input_within}
 use Rattle.byte_ends.specs.Source.{Told}
 use Rattle.direction_table.proofs.LawLemmas.{one_table}
 use Rattle.direction_table.specs.declared.reading.TheConstants.{LONGEST_TABLE}
 use Rattle.directions_apart.specs.Apart.{stated_by}
+use Rattle.exact_adjustment.specs.LeastOf.{HasResidualsWithin}
 use Rattle.gsi_file.specs.FileAnswers.{FileAnswers}
 use Rattle.least_directions.proofs.LeastLaws.{one_distance}
 use Rattle.station_book.specs.Limits.{AreLimits}
@@ -26,6 +27,7 @@ use Rattle.station_differences.specs.OfInput.{HasNoneOfInput}
 use Rattle.station_differences.specs.Stating.{StatesDifferences}
 use Rattle.station_report.proofs.AnswerLaws.{one_text}
 use Rattle.station_report.specs.Stating.{IsReportText}
+use Rattle.station_results.proofs.LeastLaws.{one_size}
 use Rattle.table_report.specs.Answers.{TellsTableReport}
 use Rattle.table_report.specs.OfInput.{IsReportOfInput}
 use Rattle.table_report.specs.Sections.{section_text}
@@ -43,22 +45,25 @@ ended_by asked its RanPast report h = absurd h
 -- What is answered, where the station was found.
 pub tells_by_input : {T : Type 0} (value : T → ReportValue) (asked : ReportAsked)
     (file : FileAnswers) (stated : Told) (its : SurveyedStation) (r : Result T CompareFault)
-    → IsStationOfFile asked.limits file asked.station its
+    → IsStationOfFile asked.limits.faces file asked.station its
     → MatchResult r
     (λ t. IsReportOfInput asked its (input_within LONGEST_TABLE stated) (value t))
-    (HasNoneOfInput asked.unit its.station (input_within LONGEST_TABLE stated))
+    (HasNoneOfInput asked.unit its.station asked.limits.residual
+    (input_within LONGEST_TABLE stated))
+    → OnOk r (HasResidualsWithin its.station asked.limits.residual)
     → MatchResult r (λ t. StatesTableReport asked file stated (value t))
     (HasNoDifferences asked.unit asked.limits file stated asked.station)
-tells_by_input value asked file stated its (Ok t) station h =
+tells_by_input value asked file stated its (Ok t) station h held =
     let ended = ended_by asked its (input_within LONGEST_TABLE stated) (value t) h in
     record {
       its = its;
       station = station;
       bytes = ended.0;
       whole = ended.1;
+      held = held;
       of_table = ended.2;
     }
-tells_by_input value asked file stated its (Err fault) station h =
+tells_by_input value asked file stated its (Err fault) station h held =
     λ within.
     compares_by_table asked.unit asked.limits file stated asked.station within its (Err fault)
     station
@@ -73,8 +78,10 @@ one_section station path directions limit a b x y p q =
     let apart = one_distance station (stated_by directions) p.how_far.apart q.how_far.apart
     p.are_apart q.are_apart in
     let limits = p.held_to ∙ sym q.held_to in
-    let how_far : p.how_far ≡ q.how_far = λ i. record { apart = apart i; limit = limits i } in (
-      p.section_is ∙ (λ i. section_text path station (rows i) (how_far i)) ∙ sym q.section_is,
+    let how_far : p.how_far ≡ q.how_far = λ i. record { apart = apart i; limit = limits i } in
+    let greatest = one_size station p.greatest q.greatest p.is_greatest q.is_greatest in (
+      p.section_is ∙ (λ i. section_text path station (rows i) (how_far i) (greatest i))
+          ∙ sym q.section_is,
       p.beyond_is ∙ ap beyond_of how_far ∙ sym q.beyond_is,
     )
 
@@ -102,13 +109,13 @@ one_of_table asked its bytes a b p q =
     (limit_in_force asked.unit asked.within targets bytes)
     a) directions p.beside) q.beside
 
-module _ (asked : ReportAsked) (small : AreLimits asked.limits) (file : FileAnswers)
+module _ (asked : ReportAsked) (small : AreLimits asked.limits.faces) (file : FileAnswers)
     (stated : Told) where
   two_reports : (a b : ReportValue) → StatesTableReport asked file stated a
       → StatesTableReport asked file stated b → a ≡ b
   two_reports a b p q =
-      let its = same_station asked.limits small file asked.station p.its q.its p.station q.station
-      in
+      let its =
+      same_station asked.limits.faces small file asked.station p.its q.its p.station q.station in
       let ended : Ended p.bytes ≡ Ended q.bytes = sym p.whole ∙ q.whole in
       let bytes : p.bytes ≡ q.bytes = cc in
       one_of_table asked q.its q.bytes a b
@@ -126,6 +133,7 @@ module _ (asked : ReportAsked) (small : AreLimits asked.limits) (file : FileAnsw
           station = p.station;
           bytes = p.bytes;
           whole = p.whole;
+          held = p.held;
           differences = record {
             directions = p.of_table.directions;
             states = p.of_table.states;

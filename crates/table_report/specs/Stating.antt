@@ -1,8 +1,9 @@
 -- What a report with a table says, in the order of the sentence: it is the report of the station of
--- this name in the field file; and of the table, which states a direction of each of its targets,
--- it has, after the adjusted directions, each stated direction with its difference from the
--- least-squares one after the rotation that makes the largest difference smallest, and how far the
--- directions are apart: within the limit in force, or beyond it.
+-- this name in the field file, whose residuals keep their limit; and of the table, which states a
+-- direction of each of its targets, it has, after the adjusted directions, each stated direction
+-- with its difference from the least-squares one after the rotation that makes the largest
+-- difference smallest, and that difference less the lower median of all; and how far the directions
+-- are apart: within the limit in force, or beyond it.
 use Rattle.std.specs.Prelude.{◌≡◌, ℕ, List, Option, Some, None, ℤ, if◌then◌else◌, nat_le}
 use Rattle.adjust_kernel.specs.Stations.{StationValue}
 use Rattle.byte_ends.specs.Input.{input_within, Ended}
@@ -11,9 +12,10 @@ use Rattle.direction_table.specs.Tables.{IsTableText}
 use Rattle.direction_table.specs.declared.reading.TheConstants.{LONGEST_TABLE}
 use Rattle.direction_table.specs.declared.unit.AngleUnit.{AngleUnit}
 use Rattle.directions_apart.specs.Apart.{stated_by}
+use Rattle.exact_adjustment.specs.LeastOf.{HasResidualsWithin}
 use Rattle.gsi_file.specs.FileAnswers.{FileAnswers}
 use Rattle.least_directions.specs.LeastDirections.{AreApart}
-use Rattle.station_book.specs.Limits.{FaceLimits}
+use Rattle.station_book.specs.declared.result_limits.ResultLimits.{ResultLimits}
 use Rattle.station_book.specs.Stations.{SurveyedStation}
 use Rattle.station_check.specs.StationOfFile.{IsStationOfFile}
 use Rattle.station_compare.specs.LimitInForce.{limit_in_force}
@@ -21,18 +23,19 @@ use Rattle.station_compare.specs.declared.how_far.HowFar.{HowFar}
 use Rattle.station_differences.specs.Differences.{AreCompared}
 use Rattle.station_differences.specs.declared.compared.TargetDifference.{TargetDifference}
 use Rattle.station_report.specs.Stating.{IsReportText}
+use Rattle.station_results.specs.Greatest.{IsGreatestSize}
 use Rattle.table_report.specs.Sections.{section_text}
 
 -- What is asked of a report with a table: the paths of the field file and of the table, as they are
 -- named in it; the unit in which the table states its directions; the name of the station; the
--- limits of face differences; and the limit of the comparison, in units of 0.000001 gon, where one
--- is stated.
+-- limits of face differences and of residuals; and the limit of the comparison, in units of
+-- 0.000001 gon, where one is stated.
 pub record ReportAsked : Type 0 where
   pub path : List ℕ
   pub table_path : List ℕ
   pub unit : AngleUnit
   pub station : List ℕ
-  pub limits : FaceLimits
+  pub limits : ResultLimits
   pub within : Option ℕ
 
 -- A report with a table: its text; and how far the directions are apart, where that is beyond the
@@ -57,7 +60,10 @@ pub record IsSection (station : StationValue) (path : List ℕ) (directions : Li
   pub how_far : HowFar
   pub are_apart : AreApart station (stated_by directions) how_far.apart
   pub held_to : how_far.limit ≡ limit
-  pub section_is : section ≡ section_text path station rows how_far
+  -- The greatest residual of the station has this size, in units of 0.001 mgon.
+  pub greatest : ℕ
+  pub is_greatest : IsGreatestSize station greatest
+  pub section_is : section ≡ section_text path station rows how_far greatest
   pub beyond_is : beyond ≡ beyond_of how_far
 
 -- This is the report of a station with these stated directions.
@@ -83,9 +89,11 @@ pub record StatesTableReport (asked : ReportAsked) (file : FileAnswers) (stated 
   -- The station of this name: its observations are exactly its two-face directions, and every face
   -- difference is within the limits.
   pub its : SurveyedStation
-  pub station : IsStationOfFile asked.limits file asked.station its
+  pub station : IsStationOfFile asked.limits.faces file asked.station its
   -- The table was read to its end.
   pub bytes : List ℕ
   pub whole : input_within LONGEST_TABLE stated ≡ Ended bytes
+  -- No residual is above the limit of residuals, whichever choice is least.
+  pub held : HasResidualsWithin its.station asked.limits.residual
   -- The report with it.
   pub of_table : IsReportOfTable asked its bytes report

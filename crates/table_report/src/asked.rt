@@ -1,7 +1,7 @@
 //! What is asked of a report with a table.
 
 use direction_table::AngleUnit;
-use station_book::Limits;
+use station_book::ResultLimits;
 
 /// What is asked of a report with a table.
 #[derive(Clone, Copy, Debug)]
@@ -14,8 +14,8 @@ pub struct Asked<'a> {
     pub unit: AngleUnit,
     /// The name of the station.
     pub station: &'a [u8],
-    /// The limits of face differences.
-    pub limits: Limits,
+    /// The limits of face differences and of residuals.
+    pub limits: ResultLimits,
     /// Within how many units of 0.000001 gon the table agrees; where none is stated, what is usual
     /// for the steps to which its rows round.
     pub within: Option<u32>,

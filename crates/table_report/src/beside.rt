@@ -1,9 +1,9 @@
 //! The report of a station beside stated directions.
-ghost use Rattle.std.specs.Prelude.{◌≡◌, IfErr, IfOk, MatchResult, length};
+ghost use Rattle.std.specs.Prelude.{◌≡◌, IfErr, IfOk, MatchResult, OnOk, length};
 ghost use Rattle.adjust_kernel.specs.declared.bounds.TheConstants.{LARGEST_RESIDUAL_LIMIT};
 ghost use Rattle.exact_adjustment.specs.Exact.{IsExact, KeepsLimit};
 ghost use Rattle.exact_adjustment.specs.Faults.{IsAdjustError};
-ghost use Rattle.exact_adjustment.specs.LeastOf.{AreTied};
+ghost use Rattle.exact_adjustment.specs.LeastOf.{AreTied, HasResidualsWithin};
 ghost use Rattle.station_differences.specs.OfInput.{HasNoneOf};
 ghost use Rattle.table_report.specs.Stating.{IsReportBeside, IsReportOfTable, beyond_of};
 ghost use Rattle.table_report.specs.Values.{asked_of, value_of};
@@ -16,7 +16,8 @@ use exact_adjustment::{AdjustError, Adjustment, adjust};
 use station_book::Surveyed;
 use station_compare::{CompareFault, HowFar};
 use station_differences::differences_by;
-use station_report::text_by;
+use station_report::{computed_by, text_by};
+use station_results::size_at;
 use std::alloc::{AllocError, Global};
 
 /// A report with a table.
@@ -36,9 +37,11 @@ pub(crate) fn report_of_table(
     surveyed: &Surveyed,
     bytes: &[u8],
 ) -> Result<TableReport, CompareFault>
-    ensures { MatchResult result
+    ensures tells { MatchResult result
         (λ report. IsReportOfTable (asked_of asked.now) surveyed.now bytes.now (value_of report))
-        (HasNoneOf asked.now.unit surveyed.now.station bytes.now) }
+        (HasNoneOf asked.now.unit surveyed.now.station asked.now.limits.residual bytes.now) }
+    ensures held { OnOk result
+        (HasResidualsWithin surveyed.now.station asked.now.limits.residual) }
 {
     let stated = read_stated_table(alloc, asked.unit, surveyed.station().targets(), bytes)?;
     let limit = asked.within.unwrap_or(stated.usual_within);
@@ -56,9 +59,12 @@ fn report_beside(
     requires { length stated.now ≡ length surveyed.now.station.targets }
     ensures beside { IfOk result (λ report.
         IsReportBeside (asked_of asked.now) surveyed.now stated.now limit (value_of report)) }
-    ensures fault { IfErr result (IsAdjustError surveyed.now.station) }
+    ensures held { OnOk result
+        (HasResidualsWithin surveyed.now.station asked.now.limits.residual) }
+    ensures fault { IfErr result
+        (IsAdjustError surveyed.now.station asked.now.limits.residual) }
 {
-    let adjustment = adjust(alloc, surveyed.station())?;
+    let adjustment = adjust(alloc, surveyed.station(), asked.limits.residual)?;
     Ok(report_by(alloc, asked, surveyed, &adjustment, stated, limit)?)
 }
 
@@ -84,13 +90,15 @@ fn report_by(
         apart: apart_of(adjustment, stated),
         limit,
     };
-    let section = section_text(alloc, asked.table_path, station, &rows, how_far)?;
+    let computed = computed_by(alloc, station, adjustment)?;
+    let greatest = size_at(&computed.rows, computed.greatest);
+    let section = section_text(alloc, asked.table_path, station, &rows, how_far, greatest)?;
     let text = text_by(
         alloc,
         asked.path,
         asked.limits,
         surveyed,
-        adjustment,
+        &computed,
         &section,
     )?;
     Ok(TableReport {

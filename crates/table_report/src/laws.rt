@@ -14,7 +14,7 @@ ghost use Rattle.table_report.specs.Stating.{ReportAsked, ReportValue};
 /// found in that of those from the adjustment on.
 pub fn one_answer()
     ensures { (asked : ReportAsked) (file : FileAnswers) (stated : Told)
-        (r s : Result ReportValue CompareFault) → AreLimits asked.limits
+        (r s : Result ReportValue CompareFault) → AreLimits asked.limits.faces
         → IsSettled r → IsSettled s
         → TellsTableReport asked file stated r → TellsTableReport asked file stated s → r ≡ s }
 {}

@@ -2,7 +2,8 @@
 //!
 //! `write_table_report` reads a field file and a table, and writes the report of a station with a
 //! section more: each stated direction with its difference from the adjusted one, after the
-//! rotation that makes the largest difference smallest; the limit; and whether the table agrees.
+//! rotation that makes the largest difference smallest, and that less the median of all; the limit;
+//! and whether the table agrees.
 //! `run_table_report` does the same as a command: the text, the line of a refusal, and the exit
 //! status. The faults are those of the comparison; where the directions are apart, the report is
 //! written all the same.

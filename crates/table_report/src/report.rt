@@ -1,10 +1,11 @@
 //! The report of a station of a field file with a table of directions.
-ghost use Rattle.std.specs.Prelude.{MatchResult};
+ghost use Rattle.std.specs.Prelude.{MatchResult, OnOk};
 ghost use Rattle.byte_ends.specs.Came.{BytesCame, Leaves};
 ghost use Rattle.byte_ends.specs.Input.{input_within};
 ghost use Rattle.byte_ends.specs.Writers.{writer_change};
 ghost use Rattle.byte_ends.specs.Source.{reader_change, UntilDropped};
 ghost use Rattle.direction_table.specs.declared.reading.TheConstants.{LONGEST_TABLE};
+ghost use Rattle.exact_adjustment.specs.LeastOf.{HasResidualsWithin};
 ghost use Rattle.station_compare.specs.Answers.{table_left};
 ghost use Rattle.station_differences.specs.Answers.{HasNoDifferences, ReadsBoth};
 ghost use Rattle.station_differences.specs.OfInput.{HasNoneOfInput};
@@ -25,10 +26,12 @@ use std::alloc::Global;
 /// The report of a station with the directions that a table states, and the field file's reader,
 /// which is given back: the text of `station_report`, with a section after the adjusted directions.
 /// That has each stated direction, its difference from the adjusted one after the rotation that
-/// makes the largest difference smallest, the limit in force, and whether the table agrees.
+/// makes the largest difference smallest, as it is and less the lower median of all, the limit in
+/// force, and whether the table agrees.
 ///
-/// All is exactly rounded, the middle of two upwards, and of the least-squares directions: least
-/// over all directions, orientations and full turns. No residual may be above 10 mgon.
+/// All is exactly rounded, the middle of two upwards, but that differences from the median are of
+/// the printed ones; and it is of the least-squares directions: least over all directions,
+/// orientations and full turns. No residual is above the limit of residuals.
 ///
 /// The field file is read to its end first, and the table's reader is not asked before.
 ///
@@ -51,8 +54,8 @@ pub fn table_report_of_sources<R: Source, Q: Source>(
         (HasNoDifferences asked.now.unit asked.now.limits file stated asked.now.station.now)) }
 {
     // For the proof alone: limits keep their bounds.
-    asked.limits.recall();
-    let (surveyed, gsi) = stations_of_file(alloc, gsi, asked.limits);
+    asked.limits.faces.recall();
+    let (surveyed, gsi) = stations_of_file(alloc, gsi, asked.limits.faces);
     let stations = match surveyed {
         Ok(stations) => stations,
         Err(fault) => return (Err(CompareFault::from(fault)), gsi),
@@ -109,7 +112,10 @@ fn report_of_station<Q: Source>(
         (λ stated. MatchResult result
         (λ report. IsReportOfInput (asked_of asked.now) surveyed.now
         (input_within LONGEST_TABLE stated) (value_of report))
-        (HasNoneOfInput asked.now.unit surveyed.now.station (input_within LONGEST_TABLE stated))) }
+        (HasNoneOfInput asked.now.unit surveyed.now.station asked.now.limits.residual
+        (input_within LONGEST_TABLE stated))) }
+    ensures held { OnOk result
+        (HasResidualsWithin surveyed.now.station asked.now.limits.residual) }
     ensures reader { Leaves table_left result
         (reader_change Q.told Q.failed Q.gave table.old table.new) }
 {

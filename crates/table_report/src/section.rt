@@ -1,16 +1,17 @@
 //! The section of a table, made in memory.
 ghost use Rattle.std.specs.Prelude.{◌≡◌, ◌++◌, IfOk, OnOk};
-ghost use Rattle.station_compare.specs.FaultTexts.{how_far_text};
+ghost use Rattle.station_compare.specs.AgreementTexts.{how_far_text};
 ghost use Rattle.table_report.specs.Sections as spec;
 
 use adjust_kernel::{LONGEST_NAME, Station};
 use angle_texts::{push_mgon, push_thousandths};
 use station_compare::{Agreement, HowFar, agreement_line};
-use station_differences::{TargetDifference, are_short, push_stated};
+use station_differences::{TargetDifference, are_short, median_of, push_from_median, push_stated};
 use station_report::{ENTRY_NAMES, push_count, push_file, push_left, push_right};
 use std::alloc::{AllocError, Global};
 
-/// The section of a table of this path, whose directions are so far apart.
+/// The section of a table of this path, whose directions are so far apart from those of a station
+/// with this greatest residual.
 ///
 /// The only error is that memory was refused.
 pub(crate) fn section_text(
@@ -19,18 +20,21 @@ pub(crate) fn section_text(
     station: &Station,
     rows: &[TargetDifference],
     how_far: HowFar,
+    greatest: u32,
 ) -> Result<Vec<u8>, AllocError>
     ensures { IfOk result (λ text. text.items
-        ≡ spec.section_text path.now station.now rows.now how_far) }
+        ≡ spec.section_text path.now station.now rows.now how_far greatest) }
 {
     let mut text = Vec::new(alloc);
     text.extend_from_slice(
         b"\nStated directions in gon, differences in mgon: \
           stated less adjusted, after the best rotation\n\n",
     )?;
-    text.extend_from_slice(b"  Target                      Stated    Difference\n\n")?;
+    text.extend_from_slice(
+        b"  Target                      Stated    Difference    From the median\n\n",
+    )?;
     push_targets(alloc, &mut text, rows)?;
-    push_end(&mut text, path, station, how_far)?;
+    push_end(&mut text, path, station, how_far, greatest)?;
     Ok(text)
 }
 
@@ -43,9 +47,10 @@ fn push_targets(
     ensures { OnOk result (text.new.items ≡ text.old.items ++ spec.target_lines rows.now) }
 {
     let short = are_short(rows);
+    let median = median_of(rows);
     let mut field = Vec::new(alloc);
     for row in rows {
-        push_target(text, &mut field, short, row)?;
+        push_target(text, &mut field, short, median, row)?;
     }
     Ok(())
 }
@@ -55,9 +60,11 @@ fn push_target(
     text: &mut Vec<u8>,
     field: &mut Vec<u8>,
     short: bool,
+    median: i32,
     row: &TargetDifference,
 ) -> Result<(), AllocError>
-    ensures { OnOk result (text.new.items ≡ text.old.items ++ spec.target_line short row.now) }
+    ensures { OnOk result
+        (text.new.items ≡ text.old.items ++ spec.target_line short median row.now) }
 {
     text.extend_from_slice(b"  ")?;
     push_left(text, LONGEST_NAME, row.target.bytes())?;
@@ -67,6 +74,9 @@ fn push_target(
     field.clear();
     push_mgon(field, row.difference)?;
     push_right(text, 14, field)?;
+    field.clear();
+    push_from_median(field, row.difference, median)?;
+    push_right(text, 19, field)?;
     text.push(b'\n')?;
     Ok(())
 }
@@ -77,15 +87,16 @@ fn push_end(
     path: &[u8],
     station: &Station,
     how_far: HowFar,
+    greatest: u32,
 ) -> Result<(), AllocError>
     ensures { OnOk result (text.new.items ≡ text.old.items
-        ++ spec.verdict_text path.now station.now how_far) }
+        ++ spec.verdict_text path.now station.now how_far greatest) }
 {
     text.push(b'\n')?;
     push_file(text, b"Table", path)?;
     push_limit(text, how_far.limit)?;
     push_left(text, ENTRY_NAMES, b"Comparison")?;
-    push_verdict(text, station, how_far)?;
+    push_verdict(text, station, how_far, greatest)?;
     Ok(())
 }
 
@@ -100,15 +111,22 @@ fn push_limit(text: &mut Vec<u8>, limit: u32) -> Result<(), AllocError>
 }
 
 /// Adds the line of the verdict.
-fn push_verdict(text: &mut Vec<u8>, station: &Station, how_far: HowFar) -> Result<(), AllocError>
+fn push_verdict(
+    text: &mut Vec<u8>,
+    station: &Station,
+    how_far: HowFar,
+    greatest: u32,
+) -> Result<(), AllocError>
     ensures { OnOk result (text.new.items ≡ text.old.items
-        ++ spec.verdict_line station.now how_far) }
+        ++ spec.verdict_line station.now how_far greatest) }
 {
     if how_far.apart <= how_far.limit {
         let agreement = Agreement {
             name: station.name(),
+            sets: station.sets().len() as u32,
             targets: station.targets().len() as u32,
             how_far,
+            greatest,
         };
         return text.extend_from_slice(agreement_line(agreement).as_slice());
     }

@@ -2,22 +2,31 @@
 
 mod ends;
 
-use adjust_kernel::Name;
+use adjust_kernel::{Name, ResidualLimit};
 use byte_ends::{Held, Script};
-use direction_table::{AngleUnit, RowKind, TableFault};
+use direction_table::{AngleUnit, Decimals, RowKind, TableFault};
 use exact_adjustment::AdjustFault;
-use station_book::Limits;
+use station_book::{Limits, ResultLimits};
 use station_check::Fault;
 use station_compare::{
-    Agreement, CompareFault, HowFar, agreement_line, compare_bytes, refusal_line, run_compare,
+    Agreement, CompareFault, HowFar, agreement_line, compare_bytes, directions_text, refusal_line,
+    run_compare,
 };
 use std::alloc::Global;
 use std::process::Abort;
 use std::test::Fail;
 use test_support::{S1, TIE, TWO_PARTS};
 
-fn limits(rt: &impl Abort) -> Limits {
-    Limits::new(100, 100).expect(rt, "limits")
+fn limits(rt: &impl Abort) -> ResultLimits {
+    ResultLimits::of_faces(Limits::new(100, 100).expect(rt, "limits"))
+}
+
+/// The same with this limit of residuals, in half units.
+fn held_to(rt: &impl Abort, half_units: u32) -> ResultLimits {
+    ResultLimits {
+        faces: Limits::new(100, 100).expect(rt, "limits"),
+        residual: ResidualLimit::new(half_units).expect(rt, "a limit"),
+    }
 }
 
 /// That a table is so far apart, beside this limit.
@@ -190,16 +199,64 @@ fn the_first_fault_is_answered(rt: HostRuntime) -> Result<(), Fail> {
 }
 
 #[test]
+fn a_residual_at_the_limit_is_kept_and_a_half_unit_below_it_refused(
+    rt: HostRuntime,
+) -> Result<(), Fail> {
+    // Each residual of S1 is 1 half unit in size: of two that are as great the first is named.
+    let too_far: Result<HowFar, CompareFault> = Err(CompareFault::Adjust(AdjustFault::Residual(1)));
+    let missing = Err(CompareFault::Table(TableFault::Missing(2)));
+    let cases: [(&[u8], u32, Result<HowFar, CompareFault>); 5] = [
+        (b"A,0\nB,50.00003\n", 1, near(0, 10)),
+        (b"A,0\nB,50.00003\n", 0, too_far),
+        // The table is read before, and compared after.
+        (b"A,0\n", 0, missing),
+        (b"A,0\nB,50\n", 0, too_far),
+        (b"A,0\nB,50\n", 1, far(15, 10)),
+    ];
+    for (table, residual, want) in cases {
+        let gsi = Script::new(S1, usize::MAX, false);
+        let mut table = Script::new(table, usize::MAX, false);
+        let limits = held_to(&rt, residual);
+        let unit = AngleUnit::Gon;
+        let answer = compare_bytes(rt.alloc(), gsi, &mut table, unit, b"S1", limits, None);
+        assert_eq!(rt; answer.map(|agreement| agreement.how_far), want);
+    }
+    let decimals = Decimals::new(6).expect(&rt, "decimals");
+    let refused = Some(CompareFault::Adjust(AdjustFault::Residual(1)));
+    for (residual, want) in [(1, None), (0, refused)] {
+        let gsi = Script::new(S1, usize::MAX, false);
+        let limits = held_to(&rt, residual);
+        let answer = directions_text(rt.alloc(), gsi, b"S1", limits, decimals);
+        assert_eq!(rt; answer.err(), want);
+    }
+    Ok(())
+}
+
+#[test]
+fn an_agreement_has_the_greatest_residual(rt: HostRuntime) -> Result<(), Fail> {
+    // 1 half unit, 0.005 mgon, is 5 units of 0.001 mgon.
+    let gsi = Script::new(S1, usize::MAX, false);
+    let mut table = Script::new(b"A,0\nB,50.00003\n", usize::MAX, false);
+    let unit = AngleUnit::Gon;
+    let answer = compare_bytes(rt.alloc(), gsi, &mut table, unit, b"S1", limits(&rt), None);
+    assert_eq!(rt; answer.map(|agreement| agreement.greatest), Ok(5));
+    Ok(())
+}
+
+#[test]
 fn lines_are_as_the_formats_have_them(rt: HostRuntime) -> Result<(), Fail> {
     let agreement = Agreement {
         name: Name::new(b"S1").expect(&rt, "a name"),
+        sets: 2,
         targets: 2,
         how_far: HowFar {
             apart: 4,
             limit: 1_051,
         },
+        greatest: 3_205,
     };
-    let line: &[u8] = b"agrees S1: 2 targets, within 0.004 mgon, limit 1.051 mgon\n";
+    let line: &[u8] =
+        b"agrees S1: 2 sets, 2 targets, within 0.004 mgon, limit 1.051 mgon, greatest residual 3.205 mgon\n";
     assert_eq!(rt; agreement_line(agreement).as_slice(), line);
     let far = HowFar {
         apart: 100_000_000,
@@ -249,7 +306,7 @@ fn a_run_prints_its_line_and_answers_its_status(rt: HostRuntime) -> Result<(), F
             b"A,0\nB,50.00003\n",
             false,
             0,
-            b"agrees S1: 2 targets, within 0.000 mgon, limit 0.010 mgon\n",
+            b"agrees S1: 2 sets, 2 targets, within 0.000 mgon, limit 0.010 mgon, greatest residual 0.005 mgon\n",
             b"",
         ),
         (b"A,0\n", false, 1, b"", b"refused: table: Missing 2\n"),

@@ -1,11 +1,11 @@
 //! Stations worked in exact fractions, beside what is stated of their targets; and tables beside
 //! the worked station S1, through the whole.
 
-use adjust_kernel::{PARTS, Station};
+use adjust_kernel::{LARGEST_RESIDUAL_LIMIT, PARTS, ResidualLimit, Station};
 use byte_ends::{Held, Script};
 use direction_table::{AngleUnit, RowKind, TableFault};
 use exact_adjustment::{AdjustError, AdjustFault};
-use station_book::Limits;
+use station_book::{Limits, ResultLimits};
 use station_check::Fault;
 use station_compare::CompareFault;
 use station_differences::{
@@ -24,8 +24,13 @@ const DIFFERENCES: &[u8] = b"target,stated,least squares,difference,from the med
 A,100.000100,0.000000,0.015,0.030\n\
 B,150.000100,50.000030,-0.015,0.000\n";
 
-fn limits(rt: &impl Abort) -> Limits {
-    Limits::new(100, 100).expect(rt, "limits")
+fn limits(rt: &impl Abort) -> ResultLimits {
+    ResultLimits::of_faces(Limits::new(100, 100).expect(rt, "limits"))
+}
+
+/// A limit of residuals, in half units.
+fn residual(rt: &impl Abort, half_units: u32) -> ResidualLimit {
+    ResidualLimit::new(half_units).expect(rt, "a limit")
 }
 
 /// The text of stated directions, in units of 0.000000001 gon, beside a station.
@@ -40,7 +45,8 @@ fn text(
         parts.push(direction.saturating_mul(PARTS as i64))?;
     }
     assert_eq!(rt; parts.len(), station.targets().len());
-    let rows = target_differences(alloc, station, &parts).map_err(|_| "no adjustment")?;
+    let largest = residual(rt, LARGEST_RESIDUAL_LIMIT);
+    let rows = target_differences(alloc, station, &parts, largest).map_err(|_| "no adjustment")?;
     Ok(text_of(alloc, &rows)?)
 }
 
@@ -204,8 +210,8 @@ fn four_targets_have_one_rotation(rt: HostRuntime) -> Result<(), Fail> {
 #[test]
 fn one_target_has_no_difference(rt: HostRuntime) -> Result<(), Fail> {
     let station = station_of(rt.alloc(), 1, b",", &[(0, 0, 7)])?;
-    let want: &[u8] =
-        b"target,stated,least squares,difference,from the median\n\",\",399.000000,0.000000,0.000,0.000\n";
+    let want: &[u8] = b"target,stated,least squares,difference,from the median\n\
+        \",\",399.000000,0.000000,0.000,0.000\n";
     assert_eq!(rt;
         text(&rt, rt.alloc(), &station, &[399 * GON])?.as_slice(),
         want
@@ -213,20 +219,82 @@ fn one_target_has_no_difference(rt: HostRuntime) -> Result<(), Fail> {
     Ok(())
 }
 
+/// Three sets of two targets: the last angle is 6,001 half units off, so that its residuals are a
+/// third of that in size, 2,000 1/3 half units, and the others a sixth.
+const FAR: [Observed; 6] = [
+    (0, 0, 0),
+    (0, 1, 0),
+    (1, 0, 0),
+    (1, 1, 0),
+    (2, 0, 0),
+    (2, 1, 6_001),
+];
+
+/// The same, 6,000 half units off: its largest residuals are 2,000 half units.
+const LESS_FAR: [Observed; 6] = [
+    (0, 0, 0),
+    (0, 1, 0),
+    (1, 0, 0),
+    (1, 1, 0),
+    (2, 0, 0),
+    (2, 1, 6_000),
+];
+
 #[test]
-fn a_residual_above_10_mgon_is_refused(rt: HostRuntime) -> Result<(), Fail> {
-    let far: [Observed; 6] = [
-        (0, 0, 0),
-        (0, 1, 0),
-        (1, 0, 0),
-        (1, 1, 0),
-        (2, 0, 0),
-        (2, 1, 6_001),
+fn a_residual_above_the_limit_is_refused(rt: HostRuntime) -> Result<(), Fail> {
+    for (observed, limit, fault) in [
+        (FAR, LARGEST_RESIDUAL_LIMIT, Some(AdjustFault::Residual(5))),
+        (LESS_FAR, LARGEST_RESIDUAL_LIMIT, None),
+        (LESS_FAR, 1_999, Some(AdjustFault::Residual(5))),
+        (LESS_FAR, 0, Some(AdjustFault::Residual(5))),
+    ] {
+        let station = station_of(rt.alloc(), 3, b"AB", &observed)?;
+        assert_eq!(rt; station.targets().len(), 2);
+        let limit = residual(&rt, limit);
+        match target_differences(rt.alloc(), &station, &[0, 0], limit) {
+            Ok(_) => assert_eq!(rt; fault, None),
+            Err(AdjustError::Fault(found)) => assert_eq!(rt; Some(found), fault),
+            Err(AdjustError::Memory) => assert!(rt; false),
+        }
+    }
+    Ok(())
+}
+
+/// The table is read before: its fault comes first.
+#[test]
+fn a_table_beside_a_residual_above_the_limit_has_no_differences(
+    rt: HostRuntime,
+) -> Result<(), Fail> {
+    // Each residual of S1 is 1 half unit in size: of two that are as great the first is named.
+    let cases: [(u32, &[u8], u8, &[u8], &[u8]); 4] = [
+        (1, STATED, 0, DIFFERENCES, b""),
+        (0, STATED, 1, b"", b"refused: adjust: Residual 1\n"),
+        (0, b"A,0\n", 1, b"", b"refused: table: Missing 2\n"),
+        (0, b"A,0\nB,50\n", 1, b"", b"refused: adjust: Residual 1\n"),
     ];
-    let station = station_of(rt.alloc(), 3, b"AB", &far)?;
-    assert_eq!(rt; station.targets().len(), 2);
-    let answer = target_differences(rt.alloc(), &station, &[0, 0]);
-    assert!(rt; matches!(answer, Err(AdjustError::Fault(AdjustFault::Residual(5)))));
+    for (half_units, table, status, printed, refused) in cases {
+        let gsi = Script::new(S1, usize::MAX, false);
+        let mut table = Script::new(table, usize::MAX, false);
+        let mut out = Held::new(rt.alloc(), 400, 400, false).map_err(|_| "no memory")?;
+        let mut err = Held::new(rt.alloc(), 100, 100, false).map_err(|_| "no memory")?;
+        let limits = ResultLimits {
+            residual: residual(&rt, half_units),
+            ..limits(&rt)
+        };
+        let answer = run_differences(
+            rt.alloc(),
+            gsi,
+            &mut table,
+            AngleUnit::Gon,
+            b"S1",
+            limits,
+            &mut out,
+            &mut err,
+        );
+        assert_eq!(rt; answer, status);
+        assert_eq!(rt; out.bytes(), printed);
+        assert_eq!(rt; err.bytes(), refused);
+    }
     Ok(())
 }
 

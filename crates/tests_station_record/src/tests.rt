@@ -2,10 +2,10 @@
 //! digests, and refusals, which have none. The digests are those that `sha256sum` prints. What
 //! reports have above them is that of plain runs, which `tests_station_report` tests.
 
-use adjust_kernel::ResidualLimit;
+use adjust_kernel::{LARGEST_RESIDUAL_LIMIT, ResidualLimit};
 use byte_ends::{Held, Script};
 use direction_table::AngleUnit;
-use station_book::Limits;
+use station_book::{Limits, ResultLimits};
 use station_record::{
     NamedReader, run_check_recorded, run_compare_recorded, run_report_recorded,
     run_table_report_recorded,
@@ -43,7 +43,8 @@ const ACCEPTED: &[u8] = b"accepted S1: 2 sets, 2 targets, 4 directions, greatest
 aa3a8284e08fbd449811233917dcb0758ce46bee9eac082e94f1f864251ebb9d  S1.csv\n";
 
 /// What is printed of the comparison.
-const AGREES: &[u8] = b"agrees S1: 2 targets, within 0.000 mgon, limit 0.000 mgon\n\
+const AGREES: &[u8] = b"agrees S1: 2 sets, 2 targets, within 0.000 mgon, limit 0.000 mgon, \
+greatest residual 0.005 mgon\n\
 2f4ee076b5c212dab3274b4ac86ac3e8ed63b631b5c22f66f8f7e428f77bd167  job.gsi\n\
 f5da1d3d1ff629ae485cd880ec2cf3c8bf17d9e17aa2aff7b23099abe37dc41e  S1.csv\n";
 
@@ -146,6 +147,14 @@ fn limits(rt: &impl Abort) -> Limits {
     Limits::new(100, 100).expect(rt, "limits")
 }
 
+/// The same, with this limit of residuals in half units.
+fn held_to(rt: &impl Abort, half_units: u32) -> ResultLimits {
+    ResultLimits {
+        faces: limits(rt),
+        residual: ResidualLimit::new(half_units).expect(rt, "a limit"),
+    }
+}
+
 /// A check of a sheet, with a residual limit in half units where one is stated.
 fn checked(
     rt: &impl Abort,
@@ -161,18 +170,19 @@ fn checked(
     Ok(Printed { status, out, err })
 }
 
-/// A comparison of a table, within so many units.
+/// A comparison of a table, within so many units, with this limit of residuals in half units.
 fn compared(
     rt: &impl Abort,
     alloc: Global,
     gsi: File<'_>,
     table: File<'_>,
+    half_units: u32,
     within: u32,
     room: usize,
 ) -> Result<Printed, Fail> {
     let (mut out, mut err) = (held(alloc, room)?, held(alloc, AMPLE)?);
     let (gsi, table, within) = (gsi.reader(), table.reader(), Some(within));
-    let limits = limits(rt);
+    let limits = held_to(rt, half_units);
     let status = run_compare_recorded(
         alloc,
         gsi,
@@ -195,6 +205,7 @@ impl Report {
         gsi: File<'a>,
         table: File<'a>,
         station: &'a [u8],
+        half_units: u32,
     ) -> Option<Asked<'a>> {
         let (_, unit, within) = self.table?;
         Some(Asked {
@@ -202,12 +213,12 @@ impl Report {
             table_path: table.name,
             unit,
             station,
-            limits: limits(rt),
+            limits: held_to(rt, half_units),
             within: Some(within),
         })
     }
 
-    /// The report with the digests of its files.
+    /// The report with the digests of its files, with this limit of residuals in half units.
     fn recorded(
         self,
         rt: &impl Abort,
@@ -215,12 +226,13 @@ impl Report {
         gsi: File<'_>,
         table: File<'_>,
         station: &[u8],
+        half_units: u32,
         room: usize,
     ) -> Result<Printed, Fail> {
         let (mut out, mut err) = (held(alloc, room)?, held(alloc, AMPLE)?);
-        let status = match self.asked(rt, gsi, table, station) {
+        let status = match self.asked(rt, gsi, table, station, half_units) {
             None => {
-                let (gsi, limits) = (gsi.reader(), limits(rt));
+                let (gsi, limits) = (gsi.reader(), held_to(rt, half_units));
                 run_report_recorded(alloc, gsi, station, limits, &mut out, &mut err)
             }
             Some(asked) => {
@@ -241,9 +253,10 @@ impl Report {
         digests: &[u8],
     ) -> Result<Vec<u8>, Fail> {
         let (mut out, mut err) = (held(alloc, AMPLE)?, held(alloc, AMPLE)?);
-        match self.asked(rt, gsi, table, b"S1") {
+        match self.asked(rt, gsi, table, b"S1", LARGEST_RESIDUAL_LIMIT) {
             None => {
-                let (path, gsi, limits) = (gsi.name, gsi.bytes(), limits(rt));
+                let (path, gsi) = (gsi.name, gsi.bytes());
+                let limits = ResultLimits::of_faces(limits(rt));
                 run_report(alloc, gsi, path, b"S1", limits, &mut out, &mut err)
             }
             Some(asked) => {
@@ -300,7 +313,8 @@ fn a_check_prints_the_digests_of_files_in_pieces(rt: HostRuntime) -> Result<(), 
 fn a_comparison_prints_the_digests_of_files_in_pieces(rt: HostRuntime) -> Result<(), Fail> {
     for step in STEPS {
         let (gsi, table) = files(TABLE, step);
-        let printed = compared(&rt, rt.alloc(), gsi, table, 0, AMPLE)?;
+        let limit = LARGEST_RESIDUAL_LIMIT;
+        let printed = compared(&rt, rt.alloc(), gsi, table, limit, 0, AMPLE)?;
         expect_text(&rt, &printed, AGREES);
     }
     Ok(())
@@ -321,7 +335,8 @@ fn a_name_is_escaped_as_sha256sum_does(rt: HostRuntime) -> Result<(), Fail> {
 \\f5da1d3d1ff629ae485cd880ec2cf3c8bf17d9e17aa2aff7b23099abe37dc41e  \\n\n";
     let report = REPORTS[1];
     let text = report.text(&rt, rt.alloc(), gsi, table, digests)?;
-    let printed = report.recorded(&rt, rt.alloc(), gsi, table, b"S1", AMPLE)?;
+    let limit = LARGEST_RESIDUAL_LIMIT;
+    let printed = report.recorded(&rt, rt.alloc(), gsi, table, b"S1", limit, AMPLE)?;
     expect_text(&rt, &printed, text.as_slice());
     Ok(())
 }
@@ -334,7 +349,8 @@ fn a_report_prints_the_digests_of_files_in_pieces(rt: HostRuntime) -> Result<(),
         let text = report.text(&rt, rt.alloc(), gsi, table, report.digests)?;
         for step in STEPS {
             let (gsi, table) = report.files(step);
-            let printed = report.recorded(&rt, rt.alloc(), gsi, table, b"S1", AMPLE)?;
+            let limit = LARGEST_RESIDUAL_LIMIT;
+            let printed = report.recorded(&rt, rt.alloc(), gsi, table, b"S1", limit, AMPLE)?;
             assert_eq!(rt; printed.out.bytes(), text.as_slice());
             assert_eq!(rt; printed.err.bytes(), report.refused);
             assert_eq!(rt; printed.status, u8::from(!report.refused.is_empty()));
@@ -372,18 +388,21 @@ fn a_refused_comparison_prints_no_digest(rt: HostRuntime) -> Result<(), Fail> {
         let alloc = rt.alloc();
         let (gsi, table) = files(TABLE, step);
         let (_, other) = files(b"A,0\nB,50.00005\n", step);
-        let cases: [(File<'_>, File<'_>, &[u8]); 4] = [
+        // Each residual of S1 is one half unit in size.
+        let cases: [(File<'_>, File<'_>, u32, &[u8]); 5] = [
             (
                 gsi,
                 other,
+                1,
                 b"refused: compare: Apart 0.010 mgon, limit 0.009 mgon\n",
             ),
-            (gsi.that_fails(), table, b"refused: block 13: Read\n"),
-            (gsi, table.that_fails(), b"refused: table: Read\n"),
-            (gsi, gsi, b"refused: table row 2: Number\n"),
+            (gsi, table, 0, b"refused: adjust: Residual 1\n"),
+            (gsi.that_fails(), table, 1, b"refused: block 13: Read\n"),
+            (gsi, table.that_fails(), 1, b"refused: table: Read\n"),
+            (gsi, gsi, 0, b"refused: table row 2: Number\n"),
         ];
-        for (gsi, table, line) in cases {
-            let printed = compared(&rt, alloc, gsi, table, 9, AMPLE)?;
+        for (gsi, table, half_units, line) in cases {
+            let printed = compared(&rt, alloc, gsi, table, half_units, 9, AMPLE)?;
             expect_refusal(&rt, &printed, line);
         }
     }
@@ -423,8 +442,13 @@ fn a_refused_report_prints_no_digest(rt: HostRuntime) -> Result<(), Fail> {
             ),
         ];
         for (report, gsi, table, station, line) in cases {
-            let printed = report.recorded(&rt, rt.alloc(), gsi, table, station, AMPLE)?;
+            let printed = report.recorded(&rt, rt.alloc(), gsi, table, station, 1, AMPLE)?;
             expect_refusal(&rt, &printed, line);
+        }
+        // Each residual of S1 is one half unit in size.
+        for report in [one, with_table] {
+            let printed = report.recorded(&rt, rt.alloc(), gsi, table, b"S1", 0, AMPLE)?;
+            expect_refusal(&rt, &printed, b"refused: adjust: Residual 1\n");
         }
     }
     Ok(())
@@ -434,6 +458,7 @@ fn a_refused_report_prints_no_digest(rt: HostRuntime) -> Result<(), Fail> {
 fn an_output_that_is_full_is_a_refusal(rt: HostRuntime) -> Result<(), Fail> {
     let alloc = rt.alloc();
     let line: &[u8] = b"refused: write failed\n";
+    let limit = LARGEST_RESIDUAL_LIMIT;
     for room in 0..ACCEPTED.len() {
         let (gsi, sheet) = files(SHEET, usize::MAX);
         let printed = checked(&rt, alloc, gsi, sheet, None, room)?;
@@ -442,7 +467,7 @@ fn an_output_that_is_full_is_a_refusal(rt: HostRuntime) -> Result<(), Fail> {
     }
     for room in 0..AGREES.len() {
         let (gsi, table) = files(TABLE, usize::MAX);
-        let printed = compared(&rt, alloc, gsi, table, 0, room)?;
+        let printed = compared(&rt, alloc, gsi, table, limit, 0, room)?;
         assert_eq!(rt; printed.err.bytes(), line);
         assert_eq!(rt; printed.status, 1);
     }
@@ -450,7 +475,7 @@ fn an_output_that_is_full_is_a_refusal(rt: HostRuntime) -> Result<(), Fail> {
         let (gsi, table) = report.files(usize::MAX);
         let text = report.text(&rt, alloc, gsi, table, report.digests)?;
         for room in text.len().saturating_sub(report.digests.len())..text.len() {
-            let printed = report.recorded(&rt, alloc, gsi, table, b"S1", room)?;
+            let printed = report.recorded(&rt, alloc, gsi, table, b"S1", limit, room)?;
             assert_eq!(rt; printed.out.bytes(), &text[..room]);
             assert_eq!(rt; printed.err.bytes(), line);
             assert_eq!(rt; printed.status, 1);

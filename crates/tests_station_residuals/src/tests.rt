@@ -1,14 +1,13 @@
 //! Stations worked in exact fractions: their observations, adjusted, and the text of these.
 
-use adjust_kernel::Station;
+use adjust_kernel::{ResidualLimit, Station};
 use byte_ends::{Held, Script};
 use exact_adjustment::{AdjustError, AdjustFault};
 use station_book::Limits;
 use station_check::Fault;
 use station_compare::CompareFault;
-use station_residuals::{
-    adjusted_observations, residuals_text, run_residuals, text_of, write_residuals,
-};
+use station_residuals::{residuals_text, run_residuals, text_of, write_residuals};
+use station_results::adjusted_observations;
 use std::alloc::Global;
 use std::process::Abort;
 use std::test::Fail;
@@ -25,9 +24,14 @@ fn limits(rt: &impl Abort) -> Limits {
     Limits::new(100, 100).expect(rt, "limits")
 }
 
+/// A limit of residuals, in half units.
+fn limit(rt: &impl Abort, half_units: u32) -> ResidualLimit {
+    ResidualLimit::new(half_units).expect(rt, "a limit")
+}
+
 /// The text of a station's residuals.
-fn text(alloc: Global, station: &Station) -> Result<Vec<u8>, Fail> {
-    let rows = adjusted_observations(alloc, station).map_err(|_| "no adjustment")?;
+fn text(alloc: Global, station: &Station, limit: ResidualLimit) -> Result<Vec<u8>, Fail> {
+    let rows = adjusted_observations(alloc, station, limit).map_err(|_| "no adjustment")?;
     Ok(text_of(alloc, &rows)?)
 }
 
@@ -128,18 +132,38 @@ fn observations_are_adjusted_and_rounded_once(rt: HostRuntime) -> Result<(), Fai
     ];
     for (sets, letters, observed, want) in cases {
         let station = station_of(rt.alloc(), sets, letters, observed)?;
-        assert_eq!(rt; text(rt.alloc(), &station)?.as_slice(), want);
+        let limit = limit(&rt, 2_000);
+        assert_eq!(rt; text(rt.alloc(), &station, limit)?.as_slice(), want);
     }
     Ok(())
 }
 
+/// The greatest residual of `HALVES` is half of one half unit, and of `GAPS` 79/15: the limit is of
+/// the exact one, and not of what is printed.
 #[test]
-fn a_residual_above_10_mgon_is_refused(rt: HostRuntime) -> Result<(), Fail> {
+fn a_residual_above_its_limit_is_refused(rt: HostRuntime) -> Result<(), Fail> {
     let mut above = LARGEST;
     above[5].2 += 1;
-    let station = station_of(rt.alloc(), 3, b"AB", &above)?;
-    let answer = adjusted_observations(rt.alloc(), &station);
-    assert!(rt; matches!(answer, Err(AdjustError::Fault(AdjustFault::Residual(5)))));
+    let cases: [(u16, &[u8], &[Observed], u32, Option<u32>); 7] = [
+        (3, b"AB", &above, 2_000, Some(5)),
+        (3, b"AB", &LARGEST, 2_000, None),
+        (3, b"AB", &LARGEST, 1_999, Some(5)),
+        (2, b"AB", &HALVES, 1, None),
+        (2, b"AB", &HALVES, 0, Some(1)),
+        (3, b"ABC", &GAPS, 6, None),
+        (3, b"ABC", &GAPS, 5, Some(2)),
+    ];
+    for (sets, letters, observed, half_units, number) in cases {
+        let station = station_of(rt.alloc(), sets, letters, observed)?;
+        let answer = adjusted_observations(rt.alloc(), &station, limit(&rt, half_units));
+        match (answer, number) {
+            (Ok(rows), None) => assert_eq!(rt; rows.len(), observed.len()),
+            (Err(AdjustError::Fault(fault)), Some(number)) => {
+                assert_eq!(rt; fault, AdjustFault::Residual(number));
+            }
+            _ => assert!(rt; false),
+        }
+    }
     Ok(())
 }
 

@@ -19,7 +19,8 @@ const STEP: usize = 7;
 const TABLE: &[u8] = b"A,0\nB,50.00003\n";
 
 /// The line of its agreement.
-const AGREES: &[u8] = b"agrees S1: 2 targets, within 0.000 mgon, limit 0.010 mgon\n";
+const AGREES: &[u8] =
+    b"agrees S1: 2 sets, 2 targets, within 0.000 mgon, limit 0.010 mgon, greatest residual 0.005 mgon\n";
 
 /// The least-squares directions of S1.
 const DIRECTIONS: &[u8] = b"A,0.000000\nB,50.000030\n";

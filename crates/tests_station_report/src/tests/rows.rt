@@ -1,6 +1,6 @@
 //! The rows of stations worked by hand.
 
-use super::worked::{AMPLE, STEPS, given, limits, refused, room_for, s1, s4};
+use super::worked::{AMPLE, STEPS, given, held, limits, limits_with, refused, room_for, s1, s4};
 use byte_ends::{OfRead, OfWrite};
 use report_rows::{report_rows_text, run_report_rows, write_report_rows};
 use station_compare::CompareFault;
@@ -40,6 +40,24 @@ fn a_station_without_rows_is_refused(rt: HostRuntime) -> Result<(), Fail> {
         assert_eq!(rt; err.bytes(), line);
         assert_eq!(rt; out.bytes(), b"".as_slice());
         assert_eq!(rt; status, 1);
+    }
+    Ok(())
+}
+
+#[test]
+fn rows_are_refused_above_their_limit_of_residuals(rt: HostRuntime) -> Result<(), Fail> {
+    for (worked, half_units, want) in held() {
+        let limits = limits_with(&rt, half_units);
+        let gsi = given(worked.gsi, usize::MAX, false);
+        let mut out = room_for(rt.alloc(), AMPLE, false)?;
+        let mut err = room_for(rt.alloc(), AMPLE, false)?;
+        let name = worked.name;
+        let status = run_report_rows(rt.alloc(), gsi, name, limits, &mut out, &mut err);
+        let (rows, line, wanted) = match want {
+            Ok(_) => (worked.rows, b"".as_slice(), 0),
+            Err(line) => (b"".as_slice(), line, 1),
+        };
+        assert_eq!(rt; (out.bytes(), err.bytes(), status), (rows, line, wanted));
     }
     Ok(())
 }

@@ -1,6 +1,10 @@
 //! Stations worked in exact fractions: what a report computes of them, and its text.
 
-use super::worked::{AMPLE, PATH, STEPS, given, limits, refused, report_of, room_for, s1, s4};
+use super::worked::{
+    AMPLE, PATH, STEPS, given, held, limits, limits_with, refused, report_of, room_for, s1, s4,
+    with_line,
+};
+use adjust_kernel::ResidualLimit;
 use exact_adjustment::{AdjustError, AdjustFault};
 use station_check::Fault;
 use station_compare::CompareFault;
@@ -48,7 +52,8 @@ fn the_standard_deviation_is_rounded_once(rt: HostRuntime) -> Result<(), Fail> {
     ];
     for (sets, letters, observed, degrees, deviation, greatest) in cases {
         let station = station_of(rt.alloc(), sets, letters, observed)?;
-        let computed = computed_of(rt.alloc(), &station).map_err(|_| "no adjustment")?;
+        let limit = ResidualLimit::new(2_000).expect(&rt, "a limit");
+        let computed = computed_of(rt.alloc(), &station, limit).map_err(|_| "no adjustment")?;
         assert_eq!(rt; degrees_of(&station), degrees);
         assert_eq!(rt; computed.deviation, deviation);
         assert_eq!(rt; computed.greatest, greatest);
@@ -66,19 +71,81 @@ fn the_most_sets_have_a_standard_deviation(rt: HostRuntime) -> Result<(), Fail> 
         observed.push((set, 1, set * 1_000 + 5_000_000 + set * set % 7))?;
     }
     let station = station_of(rt.alloc(), 40, b"AB", &observed)?;
-    let computed = computed_of(rt.alloc(), &station).map_err(|_| "no adjustment")?;
+    let limit = ResidualLimit::new(2).expect(&rt, "a limit");
+    let computed = computed_of(rt.alloc(), &station, limit).map_err(|_| "no adjustment")?;
     assert_eq!(rt; degrees_of(&station), 39);
     assert_eq!(rt; computed.deviation, Some(5));
     Ok(())
 }
 
 #[test]
-fn a_residual_above_10_mgon_is_refused(rt: HostRuntime) -> Result<(), Fail> {
+fn a_residual_above_its_limit_is_refused(rt: HostRuntime) -> Result<(), Fail> {
     let mut above = LARGEST;
     above[5].2 += 1;
-    let station = station_of(rt.alloc(), 3, b"AB", &above)?;
-    let answer = computed_of(rt.alloc(), &station);
-    assert!(rt; matches!(answer, Err(AdjustError::Fault(AdjustFault::Residual(5)))));
+    for (observed, half_units) in [(above, 2_000), (LARGEST, 1_999)] {
+        let station = station_of(rt.alloc(), 3, b"AB", &observed)?;
+        let limit = ResidualLimit::new(half_units).expect(&rt, "a limit");
+        let answer = computed_of(rt.alloc(), &station, limit);
+        assert!(rt; matches!(answer, Err(AdjustError::Fault(AdjustFault::Residual(5)))));
+    }
+    Ok(())
+}
+
+#[test]
+fn a_report_says_the_limit_that_its_residuals_keep(rt: HostRuntime) -> Result<(), Fail> {
+    for (worked, half_units, want) in held() {
+        let limits = limits_with(&rt, half_units);
+        let gsi = given(worked.gsi, usize::MAX, false);
+        let mut out = room_for(rt.alloc(), AMPLE, false)?;
+        let mut err = room_for(rt.alloc(), AMPLE, false)?;
+        let name = worked.name;
+        let status = run_report(rt.alloc(), gsi, PATH, name, limits, &mut out, &mut err);
+        match want {
+            Ok(line) => {
+                let report = report_of(rt.alloc(), worked)?;
+                let report = with_line(rt.alloc(), &report, b"Limit of residuals", line)?;
+                assert_eq!(rt; out.bytes(), report.as_slice());
+                assert_eq!(rt; (err.bytes(), status), (b"".as_slice(), 0));
+            }
+            Err(line) => assert_eq!(rt;
+                (out.bytes(), err.bytes(), status),
+                (b"".as_slice(), line, 1)
+            ),
+        }
+    }
+    Ok(())
+}
+
+/// Codes of control bytes, escapes as `sha256sum` prints them, and a backslash before a path with
+/// either.
+#[test]
+fn a_path_with_control_bytes_is_shown_by_codes(rt: HostRuntime) -> Result<(), Fail> {
+    let paths: [(&[u8], &[u8]); 4] = [
+        (
+            b"\x1b[2Jfield.gsi",
+            b"Field file            \\\\x1b[2Jfield.gsi\n",
+        ),
+        (
+            b"\x00\x1f \x7f",
+            b"Field file            \\\\x00\\x1f \\x7f\n",
+        ),
+        (
+            b"a\\\n\r\tb",
+            b"Field file            \\a\\\\\\n\\r\\x09b\n",
+        ),
+        (b"\xc3\xa4~", b"Field file            \xc3\xa4~\n"),
+    ];
+    let report = report_of(rt.alloc(), s1())?;
+    for (path, line) in paths {
+        let gsi = given(s1().gsi, usize::MAX, false);
+        match report_text(rt.alloc(), gsi, path, s1().name, limits(&rt)) {
+            Ok(text) => {
+                let want = with_line(rt.alloc(), &report, b"Field file", line)?;
+                assert_eq!(rt; text.as_slice(), want.as_slice());
+            }
+            Err(fault) => assert!(rt; false, "{fault:?}"),
+        }
+    }
     Ok(())
 }
 

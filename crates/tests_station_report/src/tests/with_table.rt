@@ -1,6 +1,9 @@
 //! Reports of stations worked by hand, with tables beside their directions.
 
-use super::worked::{AMPLE, PATH, STEPS, Worked, given, joined, limits, refused, room_for, s1, s4};
+use super::worked::{
+    AMPLE, PATH, STEPS, Worked, given, joined, limits, limits_with, refused, room_for, s1, s4,
+    with_line,
+};
 use byte_ends::{OfRead, OfWrite};
 use direction_table::AngleUnit;
 use station_compare::{CompareFault, HowFar};
@@ -41,10 +44,11 @@ const TURNED: Beside = Beside {
     table: b"B;150,0001\nA;100,0001\n",
     unit: AngleUnit::Gon,
     within: None,
-    lines: b"  A                       100.000100         0.015\n\
-\x20 B                       150.000100        -0.015\n",
+    lines: b"  A                       100.000100         0.015              0.030\n\
+\x20 B                       150.000100        -0.015              0.000\n",
     limit: b"0.055",
-    verdict: b"agrees S1: 2 targets, within 0.015 mgon, limit 0.055 mgon",
+    verdict: b"agrees S1: 2 sets, 2 targets, within 0.015 mgon, limit 0.055 mgon, \
+greatest residual 0.005 mgon",
     beyond: None,
     refused: b"",
 };
@@ -69,7 +73,8 @@ fn tables() -> [Beside; 10] {
         Beside {
             within: Some(15),
             limit: b"0.015",
-            verdict: b"agrees S1: 2 targets, within 0.015 mgon, limit 0.015 mgon",
+            verdict: b"agrees S1: 2 sets, 2 targets, within 0.015 mgon, limit 0.015 mgon, \
+greatest residual 0.005 mgon",
             ..TURNED
         },
         APART,
@@ -77,8 +82,8 @@ fn tables() -> [Beside; 10] {
         Beside {
             table: b"A,0\nB,50.000031\n",
             within: Some(0),
-            lines: b"  A                         0.000000         0.000\n\
-\x20 B                        50.000031         0.001\n",
+            lines: b"  A                         0.000000         0.000              0.000\n\
+\x20 B                        50.000031         0.001              0.001\n",
             limit: b"0.000",
             verdict: b"apart S1: 2 targets, by 0.001 mgon, limit 0.000 mgon",
             beyond: Some(HowFar { apart: 1, limit: 0 }),
@@ -89,8 +94,8 @@ fn tables() -> [Beside; 10] {
         Beside {
             table: b"A 0\nB 250.00003\n",
             within: Some(1_000_000),
-            lines: b"  A                         0.000000   -100000.000\n\
-\x20 B                       250.000030    100000.000\n",
+            lines: b"  A                         0.000000   -100000.000              0.000\n\
+\x20 B                       250.000030    100000.000         200000.000\n",
             limit: b"1000.000",
             verdict: b"apart S1: 2 targets, by 100000.000 mgon, limit 1000.000 mgon",
             beyond: Some(HowFar {
@@ -104,18 +109,19 @@ fn tables() -> [Beside; 10] {
         Beside {
             table: b"A,0-00-00\nB,45-00-00.0972\n",
             unit: AngleUnit::Degrees,
-            lines: b"  A                         0.000000         0.000\n\
-\x20 B                        50.000030         0.000\n",
+            lines: b"  A                         0.000000         0.000              0.000\n\
+\x20 B                        50.000030         0.000              0.000\n",
             limit: b"0.010",
-            verdict: b"agrees S1: 2 targets, within 0.000 mgon, limit 0.010 mgon",
+            verdict: b"agrees S1: 2 sets, 2 targets, within 0.000 mgon, limit 0.010 mgon, \
+greatest residual 0.005 mgon",
             ..TURNED
         },
         // 0.2 seconds are 0.00006172839.. gon.
         Beside {
             table: b"B;45\xc2\xb000'00,20\"\nA;360\xc2\xb000'00,00\"\n",
             unit: AngleUnit::Degrees,
-            lines: b"  A                      0.000000000        -0.016\n\
-\x20 B                     50.000061728         0.016\n",
+            lines: b"  A                      0.000000000        -0.016              0.000\n\
+\x20 B                     50.000061728         0.016              0.032\n",
             limit: b"0.010",
             verdict: b"apart S1: 2 targets, by 0.016 mgon, limit 0.010 mgon",
             beyond: Some(HowFar {
@@ -129,19 +135,20 @@ fn tables() -> [Beside; 10] {
         Beside {
             table: b"A,90.0000\nB,135.0000\n",
             unit: AngleUnit::Degrees,
-            lines: b"  A                       100.000000         0.015\n\
-\x20 B                       150.000000        -0.015\n",
+            lines: b"  A                       100.000000         0.015              0.030\n\
+\x20 B                       150.000000        -0.015              0.000\n",
             limit: b"0.061",
-            verdict: b"agrees S1: 2 targets, within 0.015 mgon, limit 0.061 mgon",
+            verdict: b"agrees S1: 2 sets, 2 targets, within 0.015 mgon, limit 0.061 mgon, \
+greatest residual 0.005 mgon",
             ..TURNED
         },
         // Differences of 0, -62/3 and -61/3 units: half of the spread is 31/3, and rounded up 11.
         Beside {
             of: Of::S4,
             table: b"A,0.000000\n\"B,\"\"1\",50.000026\nC,150.000029\n",
-            lines: b"  A                         0.000000         0.010\n\
-\x20 B,\"1                     50.000026        -0.010\n\
-\x20 C                       150.000029        -0.010\n",
+            lines: b"  A                         0.000000         0.010              0.020\n\
+\x20 B,\"1                     50.000026        -0.010              0.000\n\
+\x20 C                       150.000029        -0.010              0.000\n",
             limit: b"0.010",
             verdict: b"apart S4: 3 targets, by 0.011 mgon, limit 0.010 mgon",
             beyond: Some(HowFar {
@@ -155,13 +162,36 @@ fn tables() -> [Beside; 10] {
             of: Of::S4,
             table: b"C\t150.000029\nB,\"1\t50.000026\nA\t0.000000\n",
             within: Some(11),
-            lines: b"  A                         0.000000         0.010\n\
-\x20 B,\"1                     50.000026        -0.010\n\
-\x20 C                       150.000029        -0.010\n",
+            lines: b"  A                         0.000000         0.010              0.020\n\
+\x20 B,\"1                     50.000026        -0.010              0.000\n\
+\x20 C                       150.000029        -0.010              0.000\n",
             limit: b"0.011",
-            verdict: b"agrees S4: 3 targets, within 0.011 mgon, limit 0.011 mgon",
+            verdict: b"agrees S4: 3 sets, 3 targets, within 0.011 mgon, limit 0.011 mgon, \
+greatest residual 0.026 mgon",
             ..TURNED
         },
+    ]
+}
+
+/// Tables that agree, each with a limit of residuals in half units and its line in the report, or the
+/// line of the refusal. That of S4 has the adjusted directions as they are printed.
+fn beside_held() -> [(Beside, u32, &'static [u8], &'static [u8]); 4] {
+    let level = Beside {
+        of: Of::S4,
+        table: b"A,0.000000\n\"B,\"\"1\",50.000047\nC,150.000049\n",
+        lines: b"  A                         0.000000         0.000              0.000\n\
+\x20 B,\"1                     50.000047         0.000              0.000\n\
+\x20 C                       150.000049         0.000              0.000\n",
+        limit: b"0.010",
+        verdict: b"agrees S4: 3 sets, 3 targets, within 0.001 mgon, limit 0.010 mgon, \
+greatest residual 0.026 mgon",
+        ..TURNED
+    };
+    [
+        (TURNED, 1, b"Limit of residuals    0.005 mgon\n", b""),
+        (TURNED, 0, b"", b"refused: adjust: Residual 1\n"),
+        (level, 6, b"Limit of residuals    0.030 mgon\n", b""),
+        (level, 5, b"", b"refused: adjust: Residual 2\n"),
     ]
 }
 
@@ -171,6 +201,14 @@ impl Beside {
         match self.of {
             Of::S1 => s1(),
             Of::S4 => s4(),
+        }
+    }
+
+    /// What is asked, where residuals are held to so many half units.
+    fn held_to(self, rt: &impl Abort, half_units: u32) -> Asked<'static> {
+        Asked {
+            limits: limits_with(rt, half_units),
+            ..self.asked(rt, b"table.csv")
         }
     }
 
@@ -195,7 +233,7 @@ impl Beside {
                 worked.before,
                 b"\nStated directions in gon, differences in mgon: stated less adjusted, \
 after the best rotation\n\n\
-\x20 Target                      Stated    Difference\n\n",
+\x20 Target                      Stated    Difference    From the median\n\n",
                 self.lines,
                 b"\nTable                 ",
                 shown_path,
@@ -255,6 +293,32 @@ fn a_table_that_is_apart_is_printed_and_then_refused(rt: HostRuntime) -> Result<
             assert_eq!(rt; err.bytes(), &line[..line.len().min(room)]);
             assert_eq!(rt; status, u8::from(beside.beyond.is_some()));
         }
+    }
+    Ok(())
+}
+
+/// Where a residual is above the limit, a table that agrees has no report either.
+#[test]
+fn a_report_with_a_table_says_the_limit_that_its_residuals_keep(
+    rt: HostRuntime,
+) -> Result<(), Fail> {
+    for (beside, half_units, line, refused) in beside_held() {
+        let report = beside.report(rt.alloc(), b"table.csv")?;
+        let report = with_line(rt.alloc(), &report, b"Limit of residuals", line)?;
+        let asked = beside.held_to(&rt, half_units);
+        let gsi = given(beside.worked().gsi, usize::MAX, false);
+        let mut table = given(beside.table, usize::MAX, false);
+        let mut out = room_for(rt.alloc(), AMPLE, false)?;
+        let mut err = room_for(rt.alloc(), AMPLE, false)?;
+        let status = run_table_report(rt.alloc(), gsi, &mut table, &asked, &mut out, &mut err);
+        let printed = if refused.is_empty() {
+            report.as_slice()
+        } else {
+            b""
+        };
+        assert_eq!(rt; out.bytes(), printed);
+        assert_eq!(rt; err.bytes(), refused);
+        assert_eq!(rt; status, u8::from(!refused.is_empty()));
     }
     Ok(())
 }

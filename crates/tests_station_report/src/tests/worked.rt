@@ -1,7 +1,8 @@
 //! Stations worked by hand, as field files, and what is printed of them.
 
+use adjust_kernel::ResidualLimit;
 use byte_ends::{Held, Script};
-use station_book::Limits;
+use station_book::{Limits, ResultLimits};
 use std::alloc::Global;
 use std::process::Abort;
 use std::test::Fail;
@@ -16,7 +17,8 @@ pub const STEPS: [usize; 4] = [1, 7, 64, usize::MAX];
 /// The path of the field file.
 pub const PATH: &[u8] = b"field.gsi";
 
-/// A station of a field file, and what is printed of it where both limits are 1 mgon.
+/// A station of a field file, and what is printed of it where both limits of face differences are 1
+/// mgon, and that of residuals is the largest.
 #[derive(Clone, Copy)]
 pub struct Worked {
     pub gsi: &'static [u8],
@@ -42,6 +44,7 @@ Targets               2\n\
 Two-face directions   4\n\
 Limit of 2c           1.00 mgon\n\
 Limit of 2i           1.00 mgon\n\
+Limit of residuals    10.000 mgon\n\
 \n\
 Readings in gon, mean of both faces counted from the first row of the set, 2c and 2i in mgon\n\
 \n\
@@ -112,6 +115,7 @@ Targets               3\n\
 Two-face directions   7\n\
 Limit of 2c           1.00 mgon\n\
 Limit of 2i           1.00 mgon\n\
+Limit of residuals    10.000 mgon\n\
 \n\
 Readings in gon, mean of both faces counted from the first row of the set, 2c and 2i in mgon\n\
 \n\
@@ -168,9 +172,37 @@ pub fn refused() -> [(&'static [u8], bool, &'static [u8], &'static [u8]); 4] {
     ]
 }
 
-/// The limits of face differences.
-pub fn limits(rt: &impl Abort) -> Limits {
-    Limits::new(100, 100).expect(rt, "limits")
+/// The limits of face differences, and the largest of residuals.
+pub fn limits(rt: &impl Abort) -> ResultLimits {
+    ResultLimits::of_faces(Limits::new(100, 100).expect(rt, "limits"))
+}
+
+/// The same, with a limit of residuals in half units.
+pub fn limits_with(rt: &impl Abort, residual: u32) -> ResultLimits {
+    ResultLimits {
+        residual: ResidualLimit::new(residual).expect(rt, "a limit"),
+        ..limits(rt)
+    }
+}
+
+/// Limits of residuals in half units at which S1 and S4 stand, and just below them: the line that
+/// says the limit, or that of the refusal. The greatest residuals are 1 half unit and 79/15.
+pub fn held() -> [(Worked, u32, Result<&'static [u8], &'static [u8]>); 4] {
+    [
+        (s1(), 1, Ok(b"Limit of residuals    0.005 mgon\n")),
+        (s1(), 0, Err(b"refused: adjust: Residual 1\n")),
+        (s4(), 6, Ok(b"Limit of residuals    0.030 mgon\n")),
+        (s4(), 5, Err(b"refused: adjust: Residual 2\n")),
+    ]
+}
+
+/// A text with another line in the place of each that begins so.
+pub fn with_line(alloc: Global, text: &[u8], begins: &[u8], line: &[u8]) -> Result<Vec<u8>, Fail> {
+    let mut changed = Vec::new(alloc);
+    for old in text.split_inclusive(|&byte| byte == b'\n') {
+        changed.extend_from_slice(if old.starts_with(begins) { line } else { old })?;
+    }
+    Ok(changed)
 }
 
 /// A reader that gives so many of these bytes at a time.

@@ -6,11 +6,11 @@ use Rattle.gsi_file.specs.FileAnswers.{file_answers}
 use Rattle.station_check.specs.Surveys.{Surveys}
 use Rattle.station_check.proofs.LawLemmas.{station_of_file}
 use Rattle.station_compare.proofs.Comparisons.{left_by_file}
+use Rattle.station_compare.proofs.StationTexts.{left_of_station, tells_of_station}
 use Rattle.station_compare.proofs.TablesOf.{none_by_file}
 use Rattle.station_compare.specs.Directions.{HasNoDirections}
 use Rattle.station_compare.specs.Faults.{of_file}
-use Rattle.report_rows.specs.Stating.{StatesReportRows}
-use Rattle.report_rows.proofs.AnswerLaws.{left_by_station, tells_by_station}
+use Rattle.report_rows.specs.Stating.{AreReportRows, StatesReportRows}
 use Rattle.report_rows.proofs.rows.report_rows_text.Goals as goal
 
 pub returns : goal.returns
@@ -19,29 +19,32 @@ returns g c =
     let its = c.in-Some.surveyed.now in
     let answer = c.text_of_surveyed.result in
     let file = rw c.in_ok-stations.was at c.stations_of_file-surveyed.ensures.surveys in
-    let table = c.text_of_surveyed.ensures in (
+    let table = c.text_of_surveyed.ensures.text in (
       c.stations_of_file-surveyed.result.1,
       record {
         came = came_so _
-            (λ (gsi : Told). Surveys c.args.limits (file_answers gsi) (Ok stations))
+            (λ (gsi : Told). Surveys c.args.limits.faces (file_answers gsi) (Ok stations))
             (λ (gsi : Told).
             MatchResult answer
             (λ text. StatesReportRows c.args.limits (file_answers gsi) c.args.name.now text.items)
             (HasNoDirections c.args.limits (file_answers gsi) c.args.name.now))
             file.came
             (λ gsi survey.
-            tells_by_station (λ text. text.items) c.args.limits
-            (file_answers gsi) c.args.name.now its answer
-            ((station_of_file c.args.limits (file_answers gsi) c.args.name.now its
-            c.recall.ensures).0
+            let station = (station_of_file c.args.limits.faces (file_answers gsi) c.args.name.now
+            its c.recall.ensures).0
             (record {
               stations = stations;
               survey = survey;
               named = sym c.get.ensures
                   ∙ ap option_copied c.in-Some.is;
-            }))
-            table);
-        left = left_by_station (λ text. text.items) its answer _ table file.left;
+            }) in
+            tells_of_station (λ text. AreReportRows its text.items)
+            (λ text. StatesReportRows c.args.limits (file_answers gsi) c.args.name.now text.items)
+            c.args.limits (file_answers gsi) c.args.name.now its answer station table
+            c.text_of_surveyed.ensures.held
+            (λ text is held. record { its = its; station = station; held = held; rows = is }));
+        left = left_of_station (λ text. AreReportRows its text.items) its.station
+            c.args.limits.residual answer _ table file.left;
       },
     )
 

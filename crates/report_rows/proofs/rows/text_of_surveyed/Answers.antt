@@ -1,5 +1,5 @@
 use Rattle.std.proofs.Common.{◌∙◌, ap, length, rules}
-use Rattle.station_report.proofs.ComputedLaws.{as_many_rows}
+use Rattle.station_results.proofs.GreatestLaws.{as_many_rows}
 use Rattle.report_rows.proofs.rows.text_of_surveyed.Goals as goal
 
 pub text_of-requires : goal.text_of-requires
@@ -8,8 +8,8 @@ text_of-requires c =
     ap length c.deref.ensures.value
     ∙ as_many_rows c.args.surveyed.now.station c.in_ok-rows.rows.items adjusted.observed
 
-pub returns : goal.returns
-returns c = record {
+pub returns-clause-text : goal.returns-clause-text
+returns-clause-text c = record {
   rows = c.in_ok-rows.rows.items;
   text_is = search rules;
   adjusted = rw c.station.ensures at c.in_ok-rows.ensures.adjusted;

@@ -5,7 +5,7 @@ use Rattle.adjust_kernel.specs.Stations.{StationValue}
 use Rattle.report_rows.specs.RowTexts.{row_of}
 use Rattle.list_rows.proofs.RowLaws.{all-pairs, pair-joined}
 use Rattle.sheet_format.specs.Texts.{HasWritten, rows_text}
-use Rattle.station_residuals.specs.declared.adjusted.AdjustedObs.{AdjustedObs}
+use Rattle.station_results.specs.declared.adjusted.AdjustedObs.{AdjustedObs}
 use Rattle.report_rows.proofs.text.push_rows.Goals as goal
 
 pub observations-preserved : goal.observations-preserved

@@ -4,8 +4,10 @@ use Rattle.station_compare.proofs.agreement.agreement_line.Goals as goal
 pub returns : goal.returns
 returns c = rw (
   c.add-4.ensures.items,
+  c.add_thousandths.ensures.items,
   c.add_how_far.ensures.items,
   c.add-3.ensures.items,
+  c.add_numbered-2.ensures.items,
   c.add_numbered.ensures.items,
   c.add-2.ensures.items,
   c.bytes.ensures.value,

@@ -26,7 +26,7 @@ returns g c =
     let table = reader_change g.Q.Source.told g.Q.Source.failed g.Q.Source.gave c.args.table.now
     c.compare_station-answer.new.table in
     let q = subst (λ (station : StationValue). BytesCame table
-    (λ stated. ByInput c.args.unit station c.args.within
+    (λ stated. ByInput c.args.unit station c.args.limits.residual c.args.within
     (input_within LONGEST_TABLE stated) answer))
     c.station.ensures c.compare_station-answer.ensures.compares in
     let left = some_left (g.Q.Source.told c.compare_station-answer.new.table) in
@@ -38,12 +38,13 @@ returns g c =
       table_reads = q.by_reads;
       compares = λ gsi_left table_left gsi_may table_may.
           compares_by_table c.args.unit c.args.limits _ _ c.args.name.now c.args.within its answer
-          ((station_of_file c.args.limits _ c.args.name.now its c.recall.ensures).0 (record {
+          ((station_of_file c.args.limits.faces _ c.args.name.now its c.recall.ensures).0 (record {
             stations = stations;
             survey = s.so gsi_left gsi_may;
             named = sym c.get.ensures ∙ ap option_copied c.in-Some.is;
           })) (q.so table_left table_may);
-      gsi_reader = left_by_table c.args.unit its c.args.within answer _ _ by_input file.left;
+      gsi_reader = left_by_table c.args.unit its c.args.limits.residual c.args.within answer _ _
+          by_input file.left;
       table_reader = c.compare_station-answer.ensures.reader;
     }
 

@@ -1,8 +1,9 @@
 use Rattle.std.proofs.Common.{◌≡◌, Ok, Err, ap, rules, sym, subst, ◌∙◌, option_copied}
-use Rattle.std.specs.Prelude.{MatchResult}
+use Rattle.std.specs.Prelude.{MatchResult, OnOk}
 use Rattle.adjust_kernel.specs.Stations.{StationValue}
 use Rattle.byte_ends.proofs.Coming.{came_so}
 use Rattle.byte_ends.specs.Source.{Told}
+use Rattle.exact_adjustment.specs.LeastOf.{HasResidualsWithin}
 use Rattle.gsi_file.specs.FileAnswers.{file_answers}
 use Rattle.station_check.specs.Surveys.{Surveys}
 use Rattle.station_check.proofs.LawLemmas.{station_of_file}
@@ -21,11 +22,14 @@ returns g c =
     let file = rw c.in_ok-stations.was at c.stations_of_file-surveyed.ensures.surveys in
     let table = subst (λ (station : StationValue).
     MatchResult answer (λ text. IsDirectionsText station c.args.decimals text.items)
-    (HasNoTable station)) c.station.ensures c.text_of_station.ensures in (
+    (HasNoTable station c.args.limits.residual)) c.station.ensures c.text_of_station.ensures.text in
+    let held = subst (λ (station : StationValue).
+    OnOk answer (HasResidualsWithin station c.args.limits.residual)) c.station.ensures
+    c.text_of_station.ensures.held in (
       c.stations_of_file-surveyed.result.1,
       record {
         came = came_so _
-            (λ (gsi : Told). Surveys c.args.limits (file_answers gsi) (Ok stations))
+            (λ (gsi : Told). Surveys c.args.limits.faces (file_answers gsi) (Ok stations))
             (λ (gsi : Told).
             MatchResult answer
             (λ text. StatesDirections c.args.limits
@@ -35,7 +39,7 @@ returns g c =
             (λ gsi survey.
             tells_by_station (λ text. text.items) c.args.limits
             (file_answers gsi) c.args.name.now c.args.decimals its answer
-            ((station_of_file c.args.limits (file_answers gsi) c.args.name.now its
+            ((station_of_file c.args.limits.faces (file_answers gsi) c.args.name.now its
             c.recall.ensures).0
             (record {
               stations = stations;
@@ -43,8 +47,9 @@ returns g c =
               named = sym c.get.ensures
                   ∙ ap option_copied c.in-Some.is;
             }))
-            table);
-        left = left_by_no_table (λ text. text.items) its c.args.decimals answer _ table file.left;
+            table held);
+        left = left_by_no_table (λ text. text.items) its c.args.limits.residual c.args.decimals
+            answer _ table file.left;
       },
     )
 

@@ -8,8 +8,8 @@ use Rattle.station_compare.specs.Directions.{numbers_of}
 use Rattle.station_compare.proofs.directions.text_of_station.Goals as goal
 use Rattle.direction_table.specs.declared.unit.AngleUnit.TheVariants.{Gon}
 
-pub returns : goal.returns
-returns c =
+pub returns-clause-text : goal.returns-clause-text
+returns-clause-text c =
     let station = c.args.station.now in
     let count = c.args.decimals in
     let rows = c.in_ok-stated.stated.items in

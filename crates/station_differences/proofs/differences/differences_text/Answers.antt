@@ -1,12 +1,13 @@
 use Rattle.std.proofs.Common.{◌≡◌, Err, [], List, ℕ, ap, refl, rules, sym, subst, ◌∙◌}
 use Rattle.std.proofs.Common.{option_copied}
-use Rattle.std.specs.Prelude.{MatchResult}
+use Rattle.std.specs.Prelude.{MatchResult, OnOk}
 use Rattle.adjust_kernel.specs.Stations.{StationValue}
 use Rattle.byte_ends.proofs.Coming.{given_none, some_left}
 use Rattle.byte_ends.specs.Came.{BytesCame}
 use Rattle.byte_ends.specs.Input.{input_within}
 use Rattle.byte_ends.specs.Source.{given_then, reader_change}
 use Rattle.direction_table.specs.declared.reading.TheConstants.{LONGEST_TABLE}
+use Rattle.exact_adjustment.specs.LeastOf.{HasResidualsWithin}
 use Rattle.station_check.proofs.LawLemmas.{station_of_file}
 use Rattle.station_compare.proofs.Comparisons.{compares_by_file, left_alone, left_by_file}
 use Rattle.station_compare.specs.Faults.{of_file}
@@ -26,8 +27,11 @@ returns g c =
     let q = subst (λ (station : StationValue). BytesCame table
     (λ stated. MatchResult answer
     (λ text. IsTextOf c.args.unit station (input_within LONGEST_TABLE stated) text.items)
-    (HasNoneOfInput c.args.unit station (input_within LONGEST_TABLE stated))))
-    c.station.ensures c.text_of_station.ensures.tells in
+    (HasNoneOfInput c.args.unit station c.args.limits.residual
+    (input_within LONGEST_TABLE stated)))) c.station.ensures c.text_of_station.ensures.tells in
+    let held = subst (λ (station : StationValue).
+    OnOk answer (HasResidualsWithin station c.args.limits.residual)) c.station.ensures
+    c.text_of_station.ensures.held in
     let left = some_left (g.Q.Source.told c.text_of_station.new.table) in
     let by_input = q.so left.0 left.1 in (
       c.stations_of_file-surveyed.result.1,
@@ -39,15 +43,15 @@ returns g c =
         so = λ gsi_left table_left gsi_may table_may.
             tells_by_input c.args.unit (λ text. text.items) c.args.limits _ _ c.args.name.now its
             answer
-            ((station_of_file c.args.limits _ c.args.name.now its c.recall.ensures).0 (record {
+            ((station_of_file c.args.limits.faces _ c.args.name.now its
+            c.recall.ensures).0 (record {
               stations = stations;
               survey = s.so gsi_left gsi_may;
               named = sym c.get.ensures ∙ ap option_copied c.in-Some.is;
-            })) (q.so table_left table_may);
+            })) (q.so table_left table_may) held;
         gsi_reader = left_by_input c.args.unit (λ text. IsTextOf c.args.unit its.station
-            (input_within LONGEST_TABLE (given_then q.given left.0)) text.items) its.station _
-            answer _
-            by_input file.left;
+            (input_within LONGEST_TABLE (given_then q.given left.0)) text.items) its.station
+            c.args.limits.residual _ answer _ by_input file.left;
         table_reader = c.text_of_station.ensures.reader;
       },
     )

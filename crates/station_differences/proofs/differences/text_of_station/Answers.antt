@@ -15,5 +15,5 @@ returns-clause-tells g c =
 pub returns-clause-reader : goal.returns-clause-reader
 returns-clause-reader g c =
     left_by_bytes c.args.unit (λ text. IsDifferencesText c.args.unit c.args.station.now
-    c.deref.result.now text.items) c.args.station.now c.deref.result.now c.text_of_table.result _
-    c.text_of_table.ensures c.in_ok-bytes.ensures.left
+    c.deref.result.now text.items) c.args.station.now c.args.residual c.deref.result.now
+    c.text_of_table.result _ c.text_of_table.ensures.tells c.in_ok-bytes.ensures.left

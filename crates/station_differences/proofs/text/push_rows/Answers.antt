@@ -1,4 +1,5 @@
-use Rattle.std.proofs.Common.{List, ℕ, ◌-ℤ◌, Bool, ◌++◌, ◌∙◌, ap, map, take, subst, FitsSigned, rules}
+use Rattle.std.proofs.Common.{List, ℕ, ◌-ℤ◌, Bool, ◌++◌, ◌∙◌, ap, map, take, subst}
+use Rattle.std.proofs.Common.{FitsSigned, rules}
 use Rattle.std.specs.Int.{w32}
 use mir.Val.{to_z, of_z}
 use Rattle.std.proofs.lemmas.Int.{to_z-of_z}
@@ -29,14 +30,15 @@ loop-row-preserved g c text h =
     ∙ ap (λ (t : List ℕ). t ++ mgon_text (to_z w32 (of_z w32 row.difference)))
     c.clear-in-loop-row-2.ensures.items
     ∙ ap mgon_text (to_z-of_z w32 row.difference fits) in
-    let from_median = c.as_slice-in-loop-row-3.ensures.value ∙ c.in_ok-push_less.ensures
-    ∙ ap (λ (t : List ℕ). t ++ mgon_text (to_z w32 (of_z w32 row.difference) -ℤ
-    to_z w32 (of_z w32 found))) c.clear-in-loop-row-3.ensures.items
+    let from_median = c.as_slice-in-loop-row-3.ensures.value
+    ∙ c.in_ok-push_from_median.ensures.added
+    ∙ ap (λ (t : List ℕ). t ++ mgon_text (to_z w32 (of_z w32 row.difference)
+    -ℤ to_z w32 (of_z w32 found))) c.clear-in-loop-row-3.ensures.items
     ∙ ap (λ z. mgon_text (z -ℤ to_z w32 (of_z w32 found))) (to_z-of_z w32 row.difference fits)
     ∙ ap (λ z. mgon_text (row.difference -ℤ z)) (to_z-of_z w32 found found_fits)
     ∙ ap (λ z. mgon_text (row.difference -ℤ z)) c.median_of-median.ensures in
-    let before = text ++ rows_text (map (row_of short median) (take c.loop-row.row-index c.args.rows.now))
-    in
+    let before = text ++ rows_text (map (row_of short median)
+    (take c.loop-row.row-index c.args.rows.now)) in
     let written = rw (
       c.bytes.ensures.value,
       stated,

@@ -1,7 +1,7 @@
 use Rattle.std.proofs.Common.{◌∙◌, arith}
 use Rattle.least_directions.proofs.LeastLaws.{are_rounded}
-use Rattle.station_report.proofs.ComputedLaws.{as_many_rows, some_observation}
-use Rattle.station_residuals.proofs.LeastLaws.{are_adjusted}
+use Rattle.station_results.proofs.GreatestLaws.{as_many_rows, some_observation}
+use Rattle.station_results.proofs.LeastLaws.{are_adjusted}
 use Rattle.station_report.proofs.computing.computed_by.Goals as goal
 
 pub greatest_of-greatest-requires : goal.greatest_of-greatest-requires

@@ -2,7 +2,8 @@ use Rattle.std.proofs.Common.{◌≡◌, ◌∙◌, codes, rules, FitsSigned, to
 use Rattle.std.specs.Int.{w32}
 use Rattle.std.proofs.lemmas.Int.{to_z-of_z}
 use Rattle.angle_texts.specs.MgonTexts.{mgon_text}
-use Rattle.station_report.specs.ReportTexts.{place_text, residual_at}
+use Rattle.station_report.specs.ReportTexts.{place_text}
+use Rattle.station_results.specs.Greatest.{residual_at}
 use Rattle.station_report.proofs.PlaceLaws.{three}
 use Rattle.station_report.proofs.ending.push_greatest.Goals as goal
 

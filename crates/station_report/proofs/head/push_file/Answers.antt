@@ -1,5 +1,5 @@
 use Rattle.std.proofs.Common.{◌≡◌, ◌∙◌, ◌++◌, codes, rules}
-use Rattle.byte_digests.specs.DigestLines.{name_text}
+use Rattle.byte_digests.specs.NameTexts.{name_text}
 use Rattle.direction_table.proofs.Begun.{first_part, of_first, of_second}
 use Rattle.direction_table.proofs.FirstDecimals.{in_any_case}
 use Rattle.station_report.specs.Columns.{left_text}

@@ -1,4 +1,4 @@
-use Rattle.std.proofs.Common.{◌≡◌, ℕ, List, Ok, Err, ap, refl, rules, sym, ◌∙◌, option_copied}
+use Rattle.std.proofs.Common.{◌≡◌, ℕ, List, [], Ok, Err, ap, refl, rules, sym, ◌∙◌, option_copied}
 use Rattle.std.specs.Prelude.{MatchResult}
 use Rattle.byte_ends.proofs.Coming.{came_so}
 use Rattle.byte_ends.specs.Source.{Told}
@@ -6,11 +6,11 @@ use Rattle.gsi_file.specs.FileAnswers.{file_answers}
 use Rattle.station_check.specs.Surveys.{Surveys}
 use Rattle.station_check.proofs.LawLemmas.{station_of_file}
 use Rattle.station_compare.proofs.Comparisons.{left_by_file}
+use Rattle.station_compare.proofs.StationTexts.{left_of_station, tells_of_station}
 use Rattle.station_compare.proofs.TablesOf.{none_by_file}
 use Rattle.station_compare.specs.Directions.{HasNoDirections}
 use Rattle.station_compare.specs.Faults.{of_file}
-use Rattle.station_report.specs.Stating.{StatesReport}
-use Rattle.station_report.proofs.AnswerLaws.{left_by_station, tells_by_station}
+use Rattle.station_report.specs.Stating.{IsReportText, StatesReport}
 use Rattle.station_report.proofs.report.report_of_source.Goals as goal
 
 pub returns : goal.returns
@@ -19,10 +19,10 @@ returns g c =
     let its = c.in-Some.surveyed.now in
     let answer = c.text_of_surveyed-answer.result in
     let file = rw c.in-Ok.is at c.stations_of_file-surveyed.ensures.surveys in
-    let table = c.text_of_surveyed-answer.ensures in
+    let table = c.text_of_surveyed-answer.ensures.text in
     record {
       came = came_so _
-          (λ (gsi : Told). Surveys c.args.limits (file_answers gsi) (Ok stations))
+          (λ (gsi : Told). Surveys c.args.limits.faces (file_answers gsi) (Ok stations))
           (λ (gsi : Told).
           MatchResult answer
           (λ text. StatesReport c.args.path.now c.args.limits (file_answers gsi) c.args.name.now
@@ -30,18 +30,21 @@ returns g c =
           (HasNoDirections c.args.limits (file_answers gsi) c.args.name.now))
           file.came
           (λ gsi survey.
-          tells_by_station (λ text. text.items) c.args.path.now c.args.limits
-          (file_answers gsi) c.args.name.now its answer
-          ((station_of_file c.args.limits (file_answers gsi) c.args.name.now its
+          let station = (station_of_file c.args.limits.faces (file_answers gsi) c.args.name.now its
           c.recall.ensures).0
           (record {
             stations = stations;
             survey = survey;
             named = sym c.get.ensures ∙ ap option_copied c.in-Some.is;
-          }))
-          table);
-      left = left_by_station (λ text. text.items) c.args.path.now c.args.limits its answer _ table
-          file.left;
+          }) in
+          tells_of_station (λ text. IsReportText c.args.path.now c.args.limits its [] text.items)
+          (λ text. StatesReport c.args.path.now c.args.limits (file_answers gsi) c.args.name.now
+          text.items)
+          c.args.limits (file_answers gsi) c.args.name.now its answer station table
+          c.text_of_surveyed-answer.ensures.held
+          (λ text is held. record { its = its; station = station; held = held; report = is }));
+      left = left_of_station (λ text. IsReportText c.args.path.now c.args.limits its [] text.items)
+          its.station c.args.limits.residual answer _ table file.left;
     }
 
 pub returns-in_default : goal.returns-in_default

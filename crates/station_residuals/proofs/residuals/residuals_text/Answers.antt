@@ -1,17 +1,20 @@
-use Rattle.std.proofs.Common.{◌≡◌, Ok, Err, ap, rules, sym, subst, ◌∙◌, option_copied}
-use Rattle.std.specs.Prelude.{MatchResult}
+use Rattle.std.proofs.Common.{◌≡◌, ℕ, Ok, Err, ap, rules, sym, subst, ◌∙◌, option_copied}
+use Rattle.std.specs.Prelude.{MatchResult, OnOk}
 use Rattle.adjust_kernel.specs.Stations.{StationValue}
 use Rattle.byte_ends.proofs.Coming.{came_so}
 use Rattle.byte_ends.specs.Source.{Told}
+use Rattle.exact_adjustment.specs.LeastOf.{HasResidualsWithin}
 use Rattle.gsi_file.specs.FileAnswers.{file_answers}
+use Rattle.station_book.specs.ResultLimits.{of_faces}
+use Rattle.station_book.specs.declared.result_limits.ResultLimits.{ResultLimits}
 use Rattle.station_check.specs.Surveys.{Surveys}
 use Rattle.station_check.proofs.LawLemmas.{station_of_file}
 use Rattle.station_compare.proofs.Comparisons.{left_by_file}
+use Rattle.station_compare.proofs.StationTexts.{left_of_station, tells_of_station}
 use Rattle.station_compare.proofs.TablesOf.{none_by_file}
 use Rattle.station_compare.specs.Directions.{HasNoDirections, HasNoTable}
 use Rattle.station_compare.specs.Faults.{of_file}
 use Rattle.station_residuals.specs.Stating.{IsResidualsText, StatesResiduals}
-use Rattle.station_residuals.proofs.AnswerLaws.{left_by_station, tells_by_station}
 use Rattle.station_residuals.proofs.residuals.residuals_text.Goals as goal
 
 pub returns : goal.returns
@@ -20,9 +23,18 @@ returns g c =
     let its = c.in-Some.surveyed.now in
     let answer = c.text_of_station.result in
     let file = rw c.in_ok-stations.was at c.stations_of_file-surveyed.ensures.surveys in
-    let table = subst (λ (station : StationValue).
+    let largest = ap (λ (limits : ResultLimits). limits.residual) c.of_faces-limits.ensures in
+    let table = subst (λ (residual : ℕ).
+    MatchResult answer (λ text. IsResidualsText its.station text.items)
+    (HasNoTable its.station residual)) largest
+    (subst (λ (station : StationValue).
     MatchResult answer (λ text. IsResidualsText station text.items)
-    (HasNoTable station)) c.station.ensures c.text_of_station.ensures in (
+    (HasNoTable station c.of_faces-limits.result.residual)) c.station.ensures
+    c.text_of_station.ensures.text) in
+    let held = subst (λ (residual : ℕ). OnOk answer (HasResidualsWithin its.station residual)) largest
+    (subst (λ (station : StationValue).
+    OnOk answer (HasResidualsWithin station c.of_faces-limits.result.residual)) c.station.ensures
+    c.text_of_station.ensures.held) in (
       c.stations_of_file-surveyed.result.1,
       record {
         came = came_so _
@@ -30,21 +42,23 @@ returns g c =
             (λ (gsi : Told).
             MatchResult answer
             (λ text. StatesResiduals c.args.limits (file_answers gsi) c.args.name.now text.items)
-            (HasNoDirections c.args.limits (file_answers gsi) c.args.name.now))
+            (HasNoDirections (of_faces c.args.limits) (file_answers gsi) c.args.name.now))
             file.came
             (λ gsi survey.
-            tells_by_station (λ text. text.items) c.args.limits
-            (file_answers gsi) c.args.name.now its answer
-            ((station_of_file c.args.limits (file_answers gsi) c.args.name.now its
+            let station = (station_of_file c.args.limits (file_answers gsi) c.args.name.now its
             c.recall.ensures).0
             (record {
               stations = stations;
               survey = survey;
               named = sym c.get.ensures
                   ∙ ap option_copied c.in-Some.is;
-            }))
-            table);
-        left = left_by_station (λ text. text.items) its answer _ table file.left;
+            }) in
+            tells_of_station (λ text. IsResidualsText its.station text.items)
+            (λ text. StatesResiduals c.args.limits (file_answers gsi) c.args.name.now text.items)
+            (of_faces c.args.limits) (file_answers gsi) c.args.name.now its answer station table
+            held (λ text is within. record { its = its; station = station; residuals = is }));
+        left = left_of_station (λ text. IsResidualsText its.station text.items) its.station 2_000
+            answer _ table file.left;
       },
     )
 
@@ -73,7 +87,7 @@ returns-in_err-stations g c =
       record {
         came = came_so _ _ _ file.came
             (λ gsi survey. rw is_its
-            (none_by_file c.args.limits (file_answers gsi) c.args.name.now fault of_file_fault
+            (none_by_file (of_faces c.args.limits) (file_answers gsi) c.args.name.now fault of_file_fault
             survey));
         left = left_by_file _ fault c.from_residual.result _ c.in_err-stations.was is_its
             c.stations_of_file-surveyed.ensures.surveys.left;

@@ -14,6 +14,7 @@ returns c =
     let tied = c.requires.tied in
     let rows = c.in_ok-rows.rows.items in
     let valid = rw c.station-station.ensures at c.targets.ensures.valid in
+    let computed = rw c.station-station.ensures at c.in_ok-computed.ensures in
     record {
       section = c.in_ok-section.section.items;
       is_section = record {
@@ -24,9 +25,17 @@ returns c =
         are_apart = are_apart its.station valid a tied exact limited (stated_by stated)
             c.apart_of.result (rw c.requires.each at c.apart_of.ensures.apart);
         held_to = refl;
-        section_is = rw (c.station-station.ensures, c.deref.ensures.value) at
+        greatest = c.size_at-greatest.result;
+        is_greatest = record {
+          rows = c.in_ok-computed.computed.rows.items;
+          adjusted = computed.adjusted;
+          place = c.in_ok-computed.computed.greatest;
+          greatest = computed.is_greatest;
+          size_is = rw c.deref.ensures.value at c.size_at-greatest.ensures;
+        };
+        section_is = rw (c.station-station.ensures, c.deref-2.ensures.value) at
             c.in_ok-section.ensures;
         beyond_is = c.beyond.ensures;
       };
-      is_report = rw c.deref-2.ensures.value at c.in_ok-text.ensures;
+      is_report = rw c.deref-3.ensures.value at c.in_ok-text.ensures;
     }

@@ -17,5 +17,6 @@ pub returns-clause-reader : goal.returns-clause-reader
 returns-clause-reader g c =
     left_by_bytes c.args.asked.now.unit
     (λ report. IsReportOfTable (asked_of c.args.asked.now) c.args.surveyed.now
-    c.deref.result.now (value_of report)) c.args.surveyed.now.station c.deref.result.now
-    c.report_of_table.result _ c.report_of_table.ensures c.in_ok-bytes.ensures.left
+    c.deref.result.now (value_of report)) c.args.surveyed.now.station
+    c.args.asked.now.limits.residual c.deref.result.now c.report_of_table.result _
+    c.report_of_table.ensures.tells c.in_ok-bytes.ensures.left

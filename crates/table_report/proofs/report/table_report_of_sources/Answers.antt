@@ -31,14 +31,14 @@ returns g c =
       table_reads = q.by_reads;
       so = λ gsi_left table_left gsi_may table_may.
           tells_by_input value_of asked _ _ its answer
-          ((station_of_file asked.limits _ asked.station its c.recall.ensures).0 (record {
+          ((station_of_file asked.limits.faces _ asked.station its c.recall.ensures).0 (record {
             stations = c.in-Ok.stations;
             survey = s.so gsi_left gsi_may;
             named = sym c.get.ensures ∙ ap option_copied c.in-Some.is;
-          })) (q.so table_left table_may);
+          })) (q.so table_left table_may) c.report_of_station-answer.ensures.held;
       gsi_reader = left_by_input asked.unit (λ report. IsReportOfInput asked its
-          (input_within LONGEST_TABLE (given_then q.given left.0)) (value_of report)) its.station _
-          answer _ by_input file.left;
+          (input_within LONGEST_TABLE (given_then q.given left.0)) (value_of report)) its.station
+          asked.limits.residual _ answer _ by_input file.left;
       table_reader = c.report_of_station-answer.ensures.reader;
     }
 

@@ -1,5 +1,5 @@
 use Rattle.std.proofs.Common.{◌∙◌, List, ℕ, ◌++◌, ap, codes, decimal, length}
-use Rattle.station_compare.specs.FaultTexts.{how_far_text}
+use Rattle.station_compare.specs.AgreementTexts.{how_far_text}
 use Rattle.station_report.proofs.PlaceLaws.{three}
 use Rattle.table_report.proofs.section.push_apart.Goals as goal
 

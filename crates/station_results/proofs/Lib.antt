@@ -1,0 +1,5 @@
+pub mod Fractions
+pub mod ResidualLaws
+pub mod RowLaws
+pub mod LeastLaws
+pub mod GreatestLaws
