@@ -1,5 +1,5 @@
 -- The lines of the copy of a file are its blocks with the code lines between.
-use Rattle.std.proofs.Common.{◌≡◌, ℕ, false, ◌+◌, List, [], ◌∷◌, length, reverse, Option, None, sym}
+use Rattle.std.proofs.Common.{◌≡◌, ℕ, false, List, [], reverse, Option, None, sym}
 use Rattle.std.proofs.Common.{subst}
 use Rattle.std.specs.Prelude.{IfSome}
 use Rattle.std.specs.List.{AllZip}
@@ -7,38 +7,38 @@ use Rattle.gsi_word.specs.Blocks.{IsBlock}
 use Rattle.gsi_file.specs.Parts.{numbered_lines}
 use Rattle.adjust_kernel.specs.Names.{IsName}
 use Rattle.station_book.specs.Places.{History}
-use Rattle.station_book.proofs.readings.CleanBlocks.{all_none}
+use Rattle.set_marks.specs.declared.stated.Stated.{Stated}
 use Rattle.set_marks.specs.Stations.{stations_of, fault_of_blocks}
-use Rattle.set_marks.specs.Marking.{marks_of, fault_of, fault_of_stations, as_fault}
+use Rattle.set_marks.specs.Judging.{none_before, judged_of}
+use Rattle.set_marks.specs.Marking.{marks_of}
 use Rattle.set_marks.specs.Placing.{placed}
 use Rattle.set_marks.specs.Copies.{woven}
 use Rattle.set_marks.specs.MarkedFile.{copy_blocks}
 use Rattle.set_marks.proofs.BareNames.{bare_names}
 use Rattle.set_marks.proofs.CopyLines.{AreRoomy, copy_lines, lines_are_blocks}
 use Rattle.set_marks.proofs.Rooms.{marks_roomy}
-use Rattle.set_marks.proofs.MarkedFile.{copy_marked, no_flaw_there}
+use Rattle.set_marks.proofs.Judged.{all_sound}
+use Rattle.set_marks.proofs.MarkedFile.{copy_marked}
 
 -- What the code lines of the file say has room.
-pub all_roomy : (station : Option (List ℕ)) (bytes : List ℕ) (h : History)
+pub all_roomy : (station : Option (List ℕ)) (stated : Stated) (bytes : List ℕ) (h : History)
     → AllZip IsBlock (numbered_lines bytes) (reverse h) → IfSome station IsName
-    → fault_of station h ≡ None → AreRoomy (marks_of station h)
-all_roomy station bytes h zip is fault =
-    let none = all_none (fault_of_blocks station h
-    ∷ as_fault (fault_of_stations (length h + 1) [] (stations_of station h)) ∷ []) fault in
-    marks_roomy false [] (length h + 1) (stations_of station h)
-    (bare_names station (numbered_lines bytes) h zip is) (no_flaw_there _ none.1.0)
+    → AreRoomy (marks_of station stated h)
+all_roomy station stated bytes h zip is =
+    marks_roomy false [] (judged_of station stated h) (all_sound stated none_before
+    (stations_of station h) (bare_names station (numbered_lines bytes) h zip is))
 
 -- Each line of the copy is its block.
-pub copy_is_blocks : (station : Option (List ℕ)) (bytes : List ℕ) (h : History)
+pub copy_is_blocks : (station : Option (List ℕ)) (stated : Stated) (bytes : List ℕ) (h : History)
     → AllZip IsBlock (numbered_lines bytes) (reverse h) → IfSome station IsName
-    → fault_of station h ≡ None
-    → AllZip IsBlock (numbered_lines (woven 0 bytes (placed bytes (marks_of station h))))
-    (copy_blocks station h)
-copy_is_blocks station bytes h zip is fault =
+    → fault_of_blocks station h ≡ None
+    → AllZip IsBlock (numbered_lines (woven 0 bytes (placed bytes (marks_of station stated h))))
+    (copy_blocks station stated h)
+copy_is_blocks station stated bytes h zip is fault =
     let lines = numbered_lines bytes in
-    let marks = marks_of station h in
-    let roomy = all_roomy station bytes h zip is fault in
-    subst (λ (ls : List (List ℕ)). AllZip IsBlock ls (copy_blocks station h))
+    let marks = marks_of station stated h in
+    let roomy = all_roomy station stated bytes h zip is in
+    subst (λ (ls : List (List ℕ)). AllZip IsBlock ls (copy_blocks station stated h))
     (sym (copy_lines bytes marks roomy))
-    (lines_are_blocks 0 marks lines (reverse h) roomy (copy_marked station lines h zip is fault).up
-    zip)
+    (lines_are_blocks 0 marks lines (reverse h) roomy
+    (copy_marked station stated lines h zip is fault).up zip)

@@ -7,12 +7,20 @@ use Rattle.station_book.specs.Blocks.{role_of, target, named, number, angles, an
 use Rattle.station_book.specs.Blocks.{is_of_face, has_two, lacks}
 use Rattle.station_book.specs.Places.{History}
 use Rattle.set_marks.specs.declared.division.Divided.TheVariants.{Sets, Flawed}
+use Rattle.set_marks.specs.declared.fault.MarkKind.{MarkKind}
 use Rattle.set_marks.specs.declared.fault.MarkKind.TheVariants as kinds
 use Rattle.set_marks.specs.declared.mark.Code.TheVariants.{Station, Set, Close}
+use Rattle.set_marks.specs.declared.remarks.Remarks.{Remarks}
 use Rattle.set_marks.specs.declared.sight.Sight.{Sight}
 use Rattle.set_marks.specs.Stations.{sets_up, tells_set_up, sights_of}
 use Rattle.set_marks.specs.Divisions.{divided, starts_of, end_in}
-use Rattle.set_marks.specs.Marking.{marks_of}
+use Rattle.set_marks.specs.Stations.{Occupation}
+use Rattle.set_marks.specs.Judging.{none_before, judged, judged_from}
+use Rattle.set_marks.specs.Marking.{marks_of, recognized, recognized_from, refusal}
+use Rattle.set_marks.specs.declared.division.Divided.{Divided}
+use Rattle.set_marks.specs.declared.flaw.Flaw.{Flaw}
+use Rattle.set_marks.specs.declared.recognized.Recognized.{Recognized}
+use Rattle.set_marks.specs.declared.stated.Stated.{Stated}
 use Rattle.set_marks.specs.Found.{Found, found_in}
 use Rattle.set_marks.specs.MarkedFile.{copy_history, in_file}
 
@@ -56,6 +64,55 @@ by_targets = sight 1 (codes "A") false ∷ sight 2 (codes "A") true
     ∷ sight 5 (codes "C") false ∷ sight 6 (codes "C") true
     ∷ sight 7 (codes "D") false ∷ sight 8 (codes "D") true ∷ []
 
+-- A number of sets, and one of targets, are stated.
+abbrev numbers : Option ℕ → Option ℕ → Stated
+numbers sets targets = record { sets = sets; targets = targets; others = false }
+
+-- Nothing is stated; and that stations with a fault stay outside.
+abbrev nothing : Stated
+nothing = numbers None None
+
+abbrev others : Stated
+others = record { sets = None; targets = None; others = true }
+
+-- What these readings are, where these numbers are stated.
+abbrev read_as : List Sight → Option ℕ → Option ℕ → Divided
+read_as rs sets targets = divided (numbers sets targets) rs
+
+-- This is wrong at the first reading.
+abbrev at_first : MarkKind → Divided
+at_first kind = Flawed (record { block = 1; kind = kind })
+
+-- A station of this name and these readings: of a set of A and B, or of one with B read twice in
+-- one face.
+abbrev station : List ℕ → List Sight → Occupation
+station name rs = record { name = name; sights = rs }
+
+abbrev one_set : List Sight
+one_set = sight 1 (codes "A") false ∷ sight 2 (codes "B") false
+    ∷ sight 3 (codes "B") true ∷ sight 4 (codes "A") true ∷ []
+
+abbrev again : List Sight
+again = sight 6 (codes "A") false ∷ sight 7 (codes "B") false
+    ∷ sight 8 (codes "B") false ∷ sight 9 (codes "A") true ∷ []
+
+-- What is told of the stations P1, of one set, and P2, where A and B are read as above.
+abbrev told : List Recognized
+told = recognized_from (judged_from nothing none_before
+    (station (codes "P1") one_set ∷ station (codes "P2") again ∷ []))
+
+-- What is wrong with P2: with more leading readings the rest goes further.
+abbrev alone : Flaw
+alone = record { block = 9; kind = kinds.FaceMissing }
+
+-- An orientation in both faces to the last target, a set by targets, and another one that was
+-- broken off before that target: reading by reading these are two sets that begin with it.
+abbrev shifted : List Sight
+shifted = sight 1 (codes "B") false ∷ sight 2 (codes "B") true
+    ∷ sight 3 (codes "A") false ∷ sight 4 (codes "A") true
+    ∷ sight 5 (codes "B") false ∷ sight 6 (codes "B") true
+    ∷ sight 7 (codes "A") false ∷ sight 8 (codes "A") true ∷ []
+
 -- Two sets that have the opening target alone in common.
 abbrev other_targets : List Sight
 other_targets = sight 1 (codes "A") false ∷ sight 2 (codes "B") false
@@ -63,20 +120,33 @@ other_targets = sight 1 (codes "A") false ∷ sight 2 (codes "B") false
     ∷ sight 5 (codes "A") false ∷ sight 6 (codes "C") false
     ∷ sight 7 (codes "C") true ∷ sight 8 (codes "A") true ∷ []
 
+-- Two sets by faces, of which the second lacks C, and three readings after them: D is read in both
+-- faces, E in one.
+abbrev with_gap : List Sight
+with_gap = sight 1 (codes "A") false ∷ sight 2 (codes "C") false ∷ sight 3 (codes "B") false
+    ∷ sight 4 (codes "B") true ∷ sight 5 (codes "C") true ∷ sight 6 (codes "A") true
+    ∷ sight 7 (codes "A") false ∷ sight 8 (codes "B") false
+    ∷ sight 9 (codes "B") true ∷ sight 10 (codes "A") true
+    ∷ sight 11 (codes "D") false ∷ sight 12 (codes "E") false ∷ sight 13 (codes "D") true ∷ []
+
+-- what is told, beyond their numbers, of the sets that these readings are
+abbrev remarked : List Sight → Option Remarks
+remarked rs = (recognized (record { name = codes "P1"; sights = rs }) (Sets 0)).remarks
+
 -- what is found in such files
 record AreExamples : Type 0 where
   starts : starts_of (sights_of file) ≡ 0 ∷ 4 ∷ []
   end : end_in (sights_of file) ≡ 8
-  divides : divided (sights_of file) ≡ Sets 0
-  marks : marks_of None file
+  divides : divided nothing (sights_of file) ≡ Sets 0
+  marks : marks_of None nothing file
       ≡ record { block = 2; wide = false; code = Station (codes "P1") }
       ∷ record { block = 2; wide = false; code = Set 1 }
       ∷ record { block = 6; wide = false; code = Set 2 }
       ∷ record { block = 10; wide = false; code = Close } ∷ []
-  as_divided : in_file None file
+  as_divided : in_file None nothing file
       ≡ in_set 1 ∷ in_set 1 ∷ in_set 1 ∷ in_set 1
       ∷ in_set 2 ∷ in_set 2 ∷ in_set 2 ∷ in_set 2 ∷ None ∷ []
-  in_copy : found_in (copy_history None file)
+  in_copy : found_in (copy_history None nothing file)
       ≡ in_set 1 ∷ in_set 1 ∷ in_set 1 ∷ in_set 1
       ∷ in_set 2 ∷ in_set 2 ∷ in_set 2 ∷ in_set 2 ∷ None ∷ []
   uncoded : found_in file
@@ -84,8 +154,38 @@ record AreExamples : Type 0 where
   height : sets_up (b (w 11 a_name ∷ w 87 (codes "00001500") ∷ [])) ≡ false
   measured : sets_up (b (w 11 a_name ∷ w 22 (codes "10000000") ∷ w 31 (codes "00012345")
       ∷ w 87 (codes "00001500") ∷ w 88 (codes "00001543") ∷ [])) ≡ false
-  one_set : divided by_targets ≡ Flawed (record { block = 1; kind = kinds.OneSetByTargets })
-  strangers : divided other_targets ≡ Flawed (record { block = 5; kind = kinds.OtherTargets })
+  sets_asked : read_as by_targets None None ≡ at_first kinds.ByTargets
+  targets_asked : read_as by_targets (Some 1) None ≡ at_first kinds.ByTargets
+  two_by_two : read_as by_targets (Some 1) (Some 2) ≡ at_first kinds.TargetCount
+  as_stated : read_as by_targets (Some 1) (Some 4) ≡ Sets 0
+  unstated : read_as shifted None None ≡ at_first kinds.ByTargets
+  one_to_the_end : read_as shifted (Some 1) (Some 2) ≡ at_first kinds.SetCount
+  two_sets : read_as shifted (Some 2) None ≡ Sets 0
+  by_faces_told : remarked with_gap ≡ Some (record {
+    opening = codes "A";
+    turning = codes "B";
+    directions = 6;
+    missing = 1;
+    others = 1;
+  })
+  by_targets_told : remarked by_targets ≡ Some (record {
+    opening = codes "A";
+    turning = codes "D";
+    directions = 4;
+    missing = 0;
+    others = 0;
+  })
+  strangers : divided nothing other_targets
+      ≡ Flawed (record { block = 5; kind = kinds.OtherTargets })
+  sights_itself : judged nothing none_before (station (codes "B") one_set)
+      ≡ Flawed (record { block = 2; kind = kinds.SightsItself })
+  twice : judged nothing (record { marked = []; faulty = codes "P1" ∷ [] })
+      (station (codes "P1") one_set) ≡ at_first kinds.StationTwice
+  both_told : told
+      ≡ recognized (station (codes "P1") one_set) (Sets 0)
+      ∷ recognized (station (codes "P2") again) (Flawed alone) ∷ []
+  refused : refusal nothing 10 told ≡ Some alone
+  left_outside : refusal others 10 told ≡ None
 
 examples : AreExamples
 unfolding role_of target named number angles angle_fault is_of_face has_two lacks
@@ -100,6 +200,19 @@ examples = record {
   uncoded = refl;
   height = refl;
   measured = refl;
-  one_set = refl;
+  sets_asked = refl;
+  targets_asked = refl;
+  two_by_two = refl;
+  as_stated = refl;
+  unstated = refl;
+  one_to_the_end = refl;
+  by_faces_told = refl;
+  by_targets_told = refl;
+  two_sets = refl;
   strangers = refl;
+  sights_itself = refl;
+  twice = refl;
+  both_told = refl;
+  refused = refl;
+  left_outside = refl;
 }

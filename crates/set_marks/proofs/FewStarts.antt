@@ -1,18 +1,19 @@
 -- Of more sets than a station may have, one too many tells what is wrong.
 use Rattle.std.proofs.Common.{◌≡◌, ℕ, zero, suc, ◌+◌, ◌<◌, ◌≤◌, Bool, true, false, List, [], ◌∷◌}
-use Rattle.std.proofs.Common.{◌++◌, length, take, Option, Some, None, refl, sym, ap, ◌∙◌, arith}
+use Rattle.std.proofs.Common.{◌++◌, length, take, drop, Option, Some, None, refl, sym, ap, ◌∙◌, arith}
 use Rattle.std.proofs.Common.{inl, inr}
-use Rattle.std.specs.Prelude.{nat_le, nat_lt, slice_get, ◌&&◌, if◌then◌else◌}
-use Rattle.std.proofs.lemmas.Bool.{cases_lt, le-leb, le-ltb}
-use Rattle.std.proofs.lemmas.List.{append-nil, take_all, take-append-le}
+use Rattle.std.specs.Prelude.{nat_le, nat_lt, not, slice_get, ◌&&◌, if◌then◌else◌}
+use Rattle.std.proofs.lemmas.Bool.{cases_lt, le-leb}
+use Rattle.std.proofs.lemmas.List.{append-nil, take_all, take-append-le, length-take}
 use Rattle.adjust_kernel.specs.declared.bounds.TheConstants.{MOST_SETS}
 use Rattle.station_book.specs.Faults.{first_of}
 use Rattle.set_marks.specs.declared.flaw.Flaw.{Flaw}
 use Rattle.set_marks.specs.declared.fault.MarkKind.TheVariants as kinds
 use Rattle.set_marks.specs.declared.sight.Sight.{Sight}
-use Rattle.set_marks.specs.Divisions.{sets_flaw, set_flaw, first_set, end_by, part}
-use Rattle.set_marks.specs.Divisions.{flaw_at, flaw_when, starts_from, starts_of, is_of, end_in}
-use Rattle.set_marks.specs.Divisions.{rest_flaw}
+use Rattle.set_marks.specs.Divisions.{sets_flaw, set_flaw, first_cut, cut_end, cut_flaw, part}
+use Rattle.set_marks.specs.Divisions.{flaw_at, flaw_when, flaw_found, starts_from, starts_of, is_of}
+use Rattle.set_marks.specs.Divisions.{seconds_of, unknown_in, may_lead}
+use Rattle.set_marks.proofs.Few.{few}
 
 -- So many places are all, where there are so many of them.
 pub enough : (most : ℕ) (whole found : List ℕ) → length found ≤ most → found ++ [] ≡ whole
@@ -62,35 +63,80 @@ too_many first count (suc k) end end' (from ∷ to ∷ starts) rs e lt =
     (too_many first (suc count) k end end' (to ∷ starts) rs (omega (arith, e)) (omega (arith, lt)))
 
 same_first : (starts : List ℕ) (rs : List Sight)
-    → first_set (take (suc MOST_SETS) starts) rs ≡ first_set starts rs
+    → first_cut (take (suc MOST_SETS) starts) rs ≡ first_cut starts rs
 same_first [] rs = refl
 same_first (from ∷ []) rs = refl
 same_first (from ∷ to ∷ starts) rs = refl
 
 -- So what is wrong is the same.
 pub same_flaw : (starts : List ℕ) (rs : List Sight)
-    → sets_flaw (first_set (take (suc MOST_SETS) starts) rs) 0
-    (end_by (take (suc MOST_SETS) starts) rs) (take (suc MOST_SETS) starts) rs
-    ≡ sets_flaw (first_set starts rs) 0 (end_by starts rs) starts rs
+    → sets_flaw (first_cut (take (suc MOST_SETS) starts) rs) 0
+    (cut_end (take (suc MOST_SETS) starts) rs) (take (suc MOST_SETS) starts) rs
+    ≡ sets_flaw (first_cut starts rs) 0 (cut_end starts rs) starts rs
 same_flaw starts rs = elim (cases_lt MOST_SETS (length starts)) [
   | inl many ↦
-      ap (λ (f : List Sight). sets_flaw f 0 (end_by (take (suc MOST_SETS) starts) rs)
+      ap (λ (f : List Sight). sets_flaw f 0 (cut_end (take (suc MOST_SETS) starts) rs)
       (take (suc MOST_SETS) starts) rs) (same_first starts rs)
-      ∙ too_many (first_set starts rs) 0 MOST_SETS (end_by (take (suc MOST_SETS) starts) rs)
-      (end_by starts rs) starts rs (omega arith) many
+      ∙ too_many (first_cut starts rs) 0 MOST_SETS (cut_end (take (suc MOST_SETS) starts) rs)
+      (cut_end starts rs) starts rs (omega arith) many
   | inr few ↦
-      ap (λ (l : List ℕ). sets_flaw (first_set l rs) 0 (end_by l rs) l rs)
+      ap (λ (l : List ℕ). sets_flaw (first_cut l rs) 0 (cut_end l rs) l rs)
       (take_all (suc MOST_SETS) starts (omega (arith, few)))
 ]
 
--- There are two sets in both or in neither.
-pub same_two : (starts : List ℕ)
-    → nat_lt (length (take (suc MOST_SETS) starts)) 2 ≡ nat_lt (length starts) 2
-same_two [] = refl
-same_two (from ∷ []) = refl
-same_two (from ∷ to ∷ starts) =
-    le-ltb (length (take (suc MOST_SETS) (from ∷ to ∷ starts))) 2 (omega arith)
-    ∙ sym (le-ltb (length (from ∷ to ∷ starts)) 2 (omega arith))
+-- It is what is wrong with the sets.
+pub flaw_told : (all leading : List Sight) (place : ℕ) (starts : List ℕ) (rs : List Sight)
+    (f : Flaw) → starts ≡ take (MOST_SETS + 1) (starts_of rs)
+    → Some f ≡ sets_flaw (first_cut starts rs) 0 (cut_end starts rs) starts rs
+    → Some f ≡ cut_flaw all leading place (starts_of rs) rs
+flaw_told all leading place starts rs f are told =
+    let is = told
+    ∙ ap (λ (l : List ℕ). sets_flaw (first_cut l rs) 0 (cut_end l rs) l rs) are
+    ∙ same_flaw (starts_of rs) rs in
+    ap (λ (o : Option Flaw). first_of (o
+    ∷ flaw_found kinds.FaceMissing (unknown_in (seconds_of all)
+    (take (cut_end (starts_of rs) rs) (drop place all)))
+    ∷ flaw_when (nat_lt (length (starts_of rs)) 2 && not (may_lead rs leading place)) kinds.OneSet
+    (slice_get rs 0) ∷ [])) is
+
+-- Where nothing is wrong, there are no more.
+pub few_are_all : (starts : List ℕ) (rs : List Sight)
+    → starts ≡ take (MOST_SETS + 1) (starts_of rs)
+    → None ≡ sets_flaw (first_cut starts rs) 0 (cut_end starts rs) starts rs
+    → starts ≡ starts_of rs
+few_are_all starts rs are none =
+    let small = few (first_cut starts rs) 0 (cut_end starts rs) starts rs (omega arith) (sym none)
+    in
+    let long = ap (λ (l : List ℕ). length l) are
+    ∙ length-take (MOST_SETS + 1) (starts_of rs) in
+    are ∙ take_all (MOST_SETS + 1) (starts_of rs) (omega (arith, small, long))
+
+-- Then it is a detail among them, or what stands before a single one, or nothing.
+pub flaw_after : (all leading : List Sight) (place : ℕ) (starts : List ℕ) (rs : List Sight)
+    (o : Option Flaw) → starts ≡ take (MOST_SETS + 1) (starts_of rs)
+    → None ≡ sets_flaw (first_cut starts rs) 0 (cut_end starts rs) starts rs
+    → o ≡ first_of (
+    flaw_found kinds.FaceMissing (unknown_in (seconds_of all)
+    (take (cut_end starts rs) (drop place all)))
+    ∷ flaw_when (nat_lt (length starts) 2 && not (may_lead rs leading place)) kinds.OneSet
+    (slice_get rs 0) ∷ [])
+    → o ≡ cut_flaw all leading place (starts_of rs) rs
+flaw_after all leading place starts rs o are none is =
+    let whole = few_are_all starts rs are none in
+    is ∙ ap (λ (p : Option Flaw). first_of (p
+    ∷ flaw_found kinds.FaceMissing (unknown_in (seconds_of all)
+    (take (cut_end starts rs) (drop place all)))
+    ∷ flaw_when (nat_lt (length starts) 2 && not (may_lead rs leading place)) kinds.OneSet
+    (slice_get rs 0) ∷ [])) none
+    ∙ ap (λ (l : List ℕ). cut_flaw all leading place l rs) whole
+
+-- The first places are those of the sets.
+pub first_starts : (most : ℕ) (rs : List Sight) (r : Sight) → slice_get rs 0 ≡ Some r
+    → take most (starts_from r.target true 0 rs) ≡ take most (starts_of rs)
+first_starts most [] r e = cc
+first_starts most (x ∷ rs) r e =
+    let same : r ≡ x = cc in
+    ap (λ (s : Sight). take most (starts_from s.target true 0 (x ∷ rs))) same
 
 -- All places are asked for.
 pub all_starts : (rs : List Sight) (r : Sight) → slice_get rs 0 ≡ Some r
@@ -101,54 +147,3 @@ all_starts (x ∷ rs) r e =
     ap (λ (s : Sight). take (suc (length rs)) (starts_from s.target true 0 (x ∷ rs))) same
     ∙ take_all (suc (length rs)) (starts_from x.target true 0 (x ∷ rs))
     (few_starts x.target true 0 (x ∷ rs))
-
--- What is wrong with the sets that begin at the first places, with readings that begin with this.
-bounded : (x r : Sight) (rs : List Sight) (starts : List ℕ) (o : Option Flaw)
-    → slice_get (x ∷ rs) 0 ≡ Some r
-    → starts ≡ take (MOST_SETS + 1) (starts_from r.target true 0 (x ∷ rs))
-    → o ≡ sets_flaw (first_set starts (x ∷ rs)) 0 (end_by starts (x ∷ rs)) starts (x ∷ rs)
-    → (starts ≡ take (suc MOST_SETS) (starts_of (x ∷ rs)))
-    × (o ≡ sets_flaw (first_set (starts_of (x ∷ rs)) (x ∷ rs)) 0 (end_in (x ∷ rs))
-    (starts_of (x ∷ rs)) (x ∷ rs)) × (r ≡ x)
-bounded x r rs starts o first are told =
-    let same : r ≡ x = cc in
-    let all : starts ≡ take (suc MOST_SETS) (starts_of (x ∷ rs)) = are
-    ∙ ap (λ (s : Sight). take (MOST_SETS + 1) (starts_from s.target true 0 (x ∷ rs))) same in (
-      all,
-      told ∙ ap (λ (l : List ℕ). sets_flaw (first_set l (x ∷ rs)) 0 (end_by l (x ∷ rs)) l (x ∷ rs))
-          all ∙ same_flaw (starts_of (x ∷ rs)) (x ∷ rs),
-      same,
-    )
-
--- It is what is wrong.
-pub flaw_in_sets : (rs : List Sight) (r : Sight) (leading : ℕ) (starts : List ℕ) (f : Flaw)
-    → slice_get rs 0 ≡ Some r → starts ≡ take (MOST_SETS + 1) (starts_from r.target true 0 rs)
-    → Some f ≡ sets_flaw (first_set starts rs) 0 (end_by starts rs) starts rs
-    → Some f ≡ rest_flaw leading rs
-flaw_in_sets [] r leading starts f first are told = cc
-flaw_in_sets (x ∷ rs) r leading starts f first are told =
-    let b = bounded x r rs starts (Some f) first are told in
-    ap (λ (o : Option Flaw). first_of (o ∷ flaw_when (nat_lt 0 leading
-    && nat_lt (length (starts_of (x ∷ rs))) 2) kinds.OneSet (Some x) ∷ [])) b.1
-
--- Else it is that a single set stands after leading readings, or nothing.
-pub flaw_of_one : (rs : List Sight) (r : Sight) (leading : ℕ) (starts : List ℕ) (o : Option Flaw)
-    → slice_get rs 0 ≡ Some r → starts ≡ take (MOST_SETS + 1) (starts_from r.target true 0 rs)
-    → None ≡ sets_flaw (first_set starts rs) 0 (end_by starts rs) starts rs
-    → o ≡ flaw_when (nat_lt 0 leading && nat_lt (length starts) 2) kinds.OneSet (Some r)
-    → o ≡ rest_flaw leading rs
-flaw_of_one [] r leading starts o first are told is = cc
-flaw_of_one (x ∷ rs) r leading starts o first are told is =
-    let b = bounded x r rs starts None first are told in
-    is ∙ ap (λ (s : Sight). flaw_when (nat_lt 0 leading && nat_lt (length starts) 2) kinds.OneSet
-    (Some s)) b.2
-    ∙ ap (λ (t : Bool). flaw_when (nat_lt 0 leading && t) kinds.OneSet (Some x))
-    (ap (λ (l : List ℕ). nat_lt (length l) 2) b.0 ∙ same_two (starts_of (x ∷ rs)))
-    ∙ only_one (flaw_when (nat_lt 0 leading && nat_lt (length (starts_of (x ∷ rs))) 2)
-    kinds.OneSet (Some x))
-    ∙ ap (λ (p : Option Flaw). first_of (p ∷ flaw_when (nat_lt 0 leading
-    && nat_lt (length (starts_of (x ∷ rs))) 2) kinds.OneSet (Some x) ∷ [])) b.1
-  where
-    only_one : (p : Option Flaw) → p ≡ first_of (p ∷ [])
-    only_one None = refl
-    only_one (Some f) = refl

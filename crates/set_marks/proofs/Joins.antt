@@ -8,7 +8,8 @@ use Rattle.set_marks.specs.declared.mark.Code.TheVariants.{Station, Set, Close}
 use Rattle.set_marks.specs.declared.mark.BlockMark.{BlockMark}
 use Rattle.set_marks.specs.declared.sight.Sight.{Sight}
 use Rattle.set_marks.specs.Marks.{HasRoom, width_of}
-use Rattle.set_marks.specs.Marking.{is_too_long, mark_at, set_marks, close_mark, sets_marks}
+use Rattle.set_marks.specs.Judging.{is_too_long}
+use Rattle.set_marks.specs.Marking.{mark_at, set_marks, close_mark, sets_marks}
 use Rattle.set_marks.specs.Stations.{Occupation}
 use Rattle.set_marks.specs.Divisions.{starts_of, end_in}
 use Rattle.set_marks.specs.Placing.{marks_of_block, marks_after}

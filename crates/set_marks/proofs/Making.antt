@@ -1,46 +1,54 @@
 -- From what is kept and found to what is answered.
-use Rattle.std.proofs.Common.{◌≡◌, ℕ, ◌+◌, List, [], ◌∷◌, length, Option, Some, None, sym, ap}
-use Rattle.std.proofs.Common.{subst, ◌∙◌, All}
+use Rattle.std.proofs.Common.{◌≡◌, ℕ, ◌+◌, List, length, Option, None, Some, sym, ap, subst}
+use Rattle.std.proofs.Common.{◌∙◌, All}
 use Rattle.std.specs.Prelude.{Err}
 use Rattle.gsi_file.specs.FileAnswers.{FileAnswers}
-use Rattle.gsi_file.specs.declared.file_fault.FileFault.TheVariants as file
-use Rattle.station_book.specs.Faults.{first_of}
 use Rattle.station_book.specs.Places.{History}
 use Rattle.set_marks.specs.declared.fault.MarkFault.{MarkFault}
-use Rattle.set_marks.specs.declared.fault.MarkFault.TheVariants.{File, Reading, At, Memory}
 use Rattle.set_marks.specs.declared.readings.Readings.{Readings}
 use Rattle.set_marks.specs.declared.marking.Marking.{Marking}
 use Rattle.set_marks.specs.declared.marked.Marked.{Marked}
 use Rattle.set_marks.specs.declared.mark.Mark.{Mark}
+use Rattle.set_marks.specs.declared.flaw.Flaw.{Flaw}
+use Rattle.set_marks.specs.declared.recognized.Recognized.{Recognized}
+use Rattle.set_marks.specs.declared.refused.Refused.TheVariants as refused
+use Rattle.set_marks.specs.declared.stated.Stated.{Stated}
 use Rattle.set_marks.specs.Stations.{stations_of}
-use Rattle.set_marks.specs.Marking.{fault_of_stations, fault_of, as_fault, marks_of}
+use Rattle.set_marks.specs.Marking.{marks_of, refusal}
 use Rattle.set_marks.specs.Placing.{placed}
 use Rattle.set_marks.specs.Copies.{woven, AreOrdered, BeginsLine}
-use Rattle.set_marks.specs.Keeping.{Keeps, AreReadings, AnswersReadings, IsMemoryOr, AreMarked}
-use Rattle.set_marks.specs.Markings.{AnswersMark, IsMarking, copy_of}
+use Rattle.set_marks.specs.Keeping.{Keeps, AreReadings, AnswersReadings, AreMarked}
+use Rattle.set_marks.specs.Markings.{AnswersMark, IsMarking, IsRefused, copy_of}
 use Rattle.set_marks.proofs.Identity.{made_is_copy}
 
+-- All stations are judged, marked and told, of whatever is kept in these readings.
+abbrev AllMarked : Readings → Marking → Type 0
+AllMarked r m = (station : Option (List ℕ)) (stated : Stated) (h : History)
+    → Keeps station stated h r → AreMarked stated (stations_of station h) m
+
+-- The number after the last block is that of the blocks that came, and one more.
+last_is : (station : Option (List ℕ)) (stated : Stated) (h : History) (r : Readings) (end : ℕ)
+    → Keeps station stated h r → end ≡ r.blocks + 1 → end ≡ length h + 1
+last_is station stated h r end kept is = is ∙ ap (λ (n : ℕ). n + 1) kept.blocks
+
 -- The copy is made.
-pub is_marking : (station : Option (List ℕ)) (bytes : List ℕ) (answers : FileAnswers) (r : Readings)
-    (m : Marking) (found : List Mark) (made : Marked) → AreReadings station answers r
-    → ((station : Option (List ℕ)) (h : History) → Keeps station h r
-    → fault_of_stations (length h + 1) [] (stations_of station h) ≡ None)
-    → ((station : Option (List ℕ)) (h : History) → Keeps station h r
-    → AreMarked (stations_of station h) m) → found ≡ placed bytes m.marks.items
+pub is_marking : (station : Option (List ℕ)) (stated : Stated) (bytes : List ℕ)
+    (answers : FileAnswers) (r : Readings) (m : Marking) (found : List Mark) (made : Marked)
+    (end : ℕ) → AreReadings station stated answers r → AllMarked r m → end ≡ r.blocks + 1
+    → refusal stated end m.stations.items ≡ None → found ≡ placed bytes m.marks.items
     → AreOrdered 0 (length bytes) found → All (BeginsLine bytes) found
-    → made.marks.items ≡ found
-    → made.stations.items ≡ m.stations.items → IsMarking station bytes answers made
-is_marking station bytes answers r m found made are clean all is ordered begin kept told =
+    → made.marks.items ≡ found → made.stations.items ≡ m.stations.items
+    → IsMarking station stated bytes answers made
+is_marking station stated bytes answers r m found made end are all last none is ordered begin kept
+    told =
     let h = are.blocks in
-    let marked = all station h are.kept in
-    let marks : made.marks.items ≡ placed bytes (marks_of station h) =
+    let marked = all station stated h are.kept in
+    let marks : made.marks.items ≡ placed bytes (marks_of station stated h) =
     kept ∙ is ∙ ap (λ ms. placed bytes ms) marked.marks in
     record {
       blocks = h;
       are_blocks = are.are_blocks;
-      clean = ap (λ o. first_of (o ∷ as_fault
-          (fault_of_stations (length h + 1) [] (stations_of station h)) ∷ [])) are.clean
-          ∙ ap (λ o. first_of (as_fault o ∷ [])) (clean station h are.kept);
+      clean = are.clean;
       marks = marks;
       ordered = subst (λ (ms : List Mark). AreOrdered 0 (length bytes) ms) (sym kept) ordered;
       begin = subst (λ (ms : List Mark). All (BeginsLine bytes) ms) (sym kept) begin;
@@ -48,57 +56,33 @@ is_marking station bytes answers r m found made are clean all is ordered begin k
       identity = made_is_copy bytes (copy_of bytes made) found ordered begin
           (ap (λ ms. woven 0 bytes ms) kept);
       told = told ∙ marked.told;
+      unrefused = ap (λ (rs : List Recognized). refusal stated (length h + 1) rs) told
+          ∙ ap (λ (n : ℕ). refusal stated n m.stations.items)
+          (sym (last_is station stated h r end are.kept last)) ∙ none;
+    }
+
+-- The stations are refused.
+pub is_refused : (station : Option (List ℕ)) (stated : Stated) (answers : FileAnswers)
+    (r : Readings) (m : Marking) (flaw : Flaw) (end : ℕ) → AreReadings station stated answers r
+    → AllMarked r m → end ≡ r.blocks + 1 → refusal stated end m.stations.items ≡ Some flaw
+    → IsRefused station stated answers flaw m.stations.items
+is_refused station stated answers r m flaw end are all last is =
+    let h = are.blocks in
+    let marked = all station stated h are.kept in
+    record {
+      blocks = h;
+      are_blocks = are.are_blocks;
+      clean = are.clean;
+      told_is = marked.told;
+      fault_is = ap (λ (n : ℕ). refusal stated n m.stations.items)
+          (sym (last_is station stated h r end are.kept last)) ∙ is;
     }
 
 -- A fault of the lines or of a block.
-pub refused_before : (station : Option (List ℕ)) (bytes : List ℕ) (answers : FileAnswers)
-    (e : MarkFault) → AnswersReadings station answers (Err e)
-    → AnswersMark station bytes answers (Err e)
-refused_before station bytes answers (File (file.At number kind)) a = a
-refused_before station bytes answers (File file.Memory) a = a
-refused_before station bytes answers (Reading number kind) a = record {
-  blocks = a.blocks;
-  are_blocks = a.are_blocks;
-  fault_is = ap (λ o. first_of (o ∷ as_fault (fault_of_stations (length a.blocks + 1) []
-      (stations_of station a.blocks)) ∷ [])) a.fault_is;
-}
-refused_before station bytes answers (At number kind) a = record {
-  blocks = a.blocks;
-  are_blocks = a.are_blocks;
-  fault_is = ap (λ o. first_of (o ∷ as_fault (fault_of_stations (length a.blocks + 1) []
-      (stations_of station a.blocks)) ∷ [])) a.fault_is;
-}
-refused_before station bytes answers Memory a = tt
-
-later_fault : (station : Option (List ℕ)) (answers : FileAnswers) (r : Readings) (e : MarkFault)
-    (are : AreReadings station answers r)
-    → as_fault (fault_of_stations (length are.blocks + 1) [] (stations_of station are.blocks))
-    ≡ Some e → fault_of station are.blocks ≡ Some e
-later_fault station answers r e are f =
-    let h = are.blocks in
-    ap (λ o. first_of (o ∷ as_fault
-    (fault_of_stations (length h + 1) [] (stations_of station h)) ∷ [])) are.clean
-    ∙ ap (λ o. first_of (o ∷ [])) f
-
--- A fault of a station.
-pub refused_after : (station : Option (List ℕ)) (bytes : List ℕ) (answers : FileAnswers)
-    (r : Readings) (e : MarkFault) → AreReadings station answers r
-    → ((station : Option (List ℕ)) (h : History) → Keeps station h r
-    → IsMemoryOr (as_fault (fault_of_stations (length h + 1) [] (stations_of station h))) e)
-    → AnswersMark station bytes answers (Err e)
-refused_after station bytes answers r (File e) are f = absurd (f station are.blocks are.kept)
-refused_after station bytes answers r (Reading number kind) are f = record {
-  blocks = are.blocks;
-  are_blocks = are.are_blocks;
-  fault_is = later_fault station answers r (Reading number kind) are
-      (f station are.blocks are.kept);
-}
-refused_after station bytes answers r (At number kind) are f = record {
-  blocks = are.blocks;
-  are_blocks = are.are_blocks;
-  fault_is = later_fault station answers r (At number kind) are (f station are.blocks are.kept);
-}
-refused_after station bytes answers r Memory are f = tt
+pub refused_before : (station : Option (List ℕ)) (stated : Stated) (bytes : List ℕ)
+    (answers : FileAnswers) (e : MarkFault) → AnswersReadings station stated answers (Err e)
+    → AnswersMark station stated bytes answers (Err (refused.File e))
+refused_before station stated bytes answers e fault = fault
 
 -- A copy, or why there is none.
-pub ruleset as_answered = (is_marking, refused_before, refused_after)
+pub ruleset as_answered = (is_marking, is_refused, refused_before)

@@ -2,37 +2,35 @@
 use Rattle.std.proofs.Common.{◌≡◌, ℕ, zero, suc, Bool, true, false, ◌&&◌, cond, List, [], ◌∷◌, ◌++◌}
 use Rattle.std.proofs.Common.{length, filter, map, take, drop, Option, Some, None, is_none, refl}
 use Rattle.std.proofs.Common.{sym, ap, subst, ◌∙◌, arith, append_assoc, All}
-use Rattle.std.specs.Prelude.{◌==◌, slice_get, nat_lt, nat_le}
+use Rattle.std.specs.Prelude.{◌==◌, slice_get, nat_lt}
 use Rattle.std.specs.List.{AllByRecursion, list_any, flat_map}
 use Rattle.std.proofs.lemmas.Bool.{or_left, eq-eqb, lt-ltb}
 use Rattle.std.proofs.lemmas.List.{append-nil, map-append, take-append-drop, drop_at}
 use Rattle.std.proofs.lemmas.List.Folds.{list_any-append}
 use Rattle.std.proofs.lemmas.List.Elements.{All-head, All-tail, filter-append}
 use Rattle.gsi_word.specs.Blocks.{GsiBlock}
-use Rattle.station_book.specs.declared.bounds.TheConstants.{MOST_STATIONS}
 use Rattle.station_book.specs.Blocks.{has_direction}
 use Rattle.station_book.specs.Places.{is_among, is_empty}
-use Rattle.station_book.proofs.readings.CleanBlocks.{all_none}
 use Rattle.set_marks.specs.declared.mark.Code.{Code}
 use Rattle.set_marks.specs.declared.mark.Code.TheVariants.{Station, Set, Close}
 use Rattle.set_marks.specs.declared.mark.BlockMark.{BlockMark}
-use Rattle.set_marks.specs.declared.fault.MarkKind.TheVariants as kinds
 use Rattle.set_marks.specs.declared.division.Divided.{Divided}
 use Rattle.set_marks.specs.declared.division.Divided.TheVariants.{NoSets, Sets, Flawed}
 use Rattle.set_marks.specs.declared.sight.Sight.{Sight}
 use Rattle.set_marks.specs.Stations.{Occupation}
-use Rattle.set_marks.specs.Divisions.{divided, starts_of, end_in, sets_of, flaw_when}
+use Rattle.set_marks.specs.declared.stated.Stated.{Stated}
+use Rattle.set_marks.specs.Divisions.{starts_of, end_in, sets_of}
+use Rattle.set_marks.specs.Judging.{Before, Judged, judged, judged_from, names_after}
 use Rattle.set_marks.specs.Marks.{code_block}
 use Rattle.set_marks.specs.Marking.{mark_at, set_marks, close_mark, station_marks, is_open_after}
-use Rattle.set_marks.specs.Marking.{marks_from, station_fault, names_after, fault_of_stations}
-use Rattle.set_marks.specs.Marking.{is_too_long}
+use Rattle.set_marks.specs.Marking.{marks_from}
 use Rattle.set_marks.specs.SetsInWords.{one_after_another, ReadsEachOnce, AreSets}
 use Rattle.set_marks.specs.MarkedBlocks.{MarkedSet, MarkedStation, blocks_of_set, blocks_of_station}
 use Rattle.set_marks.specs.MarkedBlocks.{HaveNoCode, IsOutside, AreMarkedStations, for_readings}
 use Rattle.set_marks.specs.MarkedBlocks.{told_of_sets, told_of_station}
 use Rattle.set_marks.specs.Found.{Found}
 use Rattle.set_marks.specs.MarkedFile.{with_codes, for_each, in_sets, in_station}
-use Rattle.set_marks.proofs.BareNames.{IsBareName, HaveBareNames}
+use Rattle.set_marks.proofs.BareNames.{IsBareName}
 use Rattle.set_marks.proofs.ReadingBlocks.{sights_from, IsClean, no_codes}
 use Rattle.set_marks.proofs.CodeBlocks.{opens_station_as, station_once, station_named}
 use Rattle.set_marks.proofs.CodeBlocks.{closes_set_as}
@@ -43,8 +41,7 @@ use Rattle.set_marks.proofs.Segments.{segment}
 use Rattle.set_marks.proofs.MarkedSets.{marks_of_sets, mark_is, first_taken, set_marks_are}
 use Rattle.set_marks.proofs.MarkedSets.{of_first, of_more, of_both, of_sets, sets_done, set_is}
 use Rattle.set_marks.proofs.MarkedSets.{told_is}
-use Rattle.set_marks.proofs.EachTargetOnce.{no_flaw}
-use Rattle.set_marks.proofs.SetsInWords.{sets_in_words}
+use Rattle.set_marks.proofs.Judged.{IsSoundAs, AreSound, names_then}
 
 -- code 30 where a set is open
 abbrev closing : Bool → List Code
@@ -120,22 +117,32 @@ told_outside in_set rs n group more e =
 abbrev pub all_sights : List Occupation → List Sight
 all_sights ss = flat_map (λ s. s.sights) ss
 
+-- the same of stations that are judged
+abbrev pub sights_in : List Judged → List Sight
+sights_in js = flat_map (λ j. j.station.sights) js
+
+pub same_sights : (stated : Stated) (before : Before) (ss : List Occupation)
+    → sights_in (judged_from stated before ss) ≡ all_sights ss
+same_sights stated before [] = refl
+same_sights stated before (s ∷ ss) = ap (λ (rs : List Sight). s.sights ++ rs)
+    (same_sights stated (names_after before s (judged stated before s)) ss)
+
 -- where they are to be found
-abbrev pub in_all : List Occupation → List (Option Found)
-in_all ss = flat_map (λ s. in_station s (divided s.sights)) ss
+abbrev pub in_all : List Judged → List (Option Found)
+in_all js = flat_map (λ j. in_station j.station j.division) js
 
 -- The stations in the copy.
-pub record StationsDone (in_set : Bool) (names : List (List ℕ)) (ss : List Occupation) (n : ℕ)
+pub record StationsDone (in_set : Bool) (names : List (List ℕ)) (js : List Judged) (n : ℕ)
     (bs : List GsiBlock)
     : Type 0 where
   pub outside : List GsiBlock
   pub stations : List MarkedStation
-  pub copied : with_codes (marks_from in_set ss) n bs
+  pub copied : with_codes (marks_from in_set js) n bs
       ≡ outside ++ flat_map blocks_of_station stations
-  pub told : in_all ss ≡ for_readings None outside ++ flat_map told_of_station stations
+  pub told : in_all js ≡ for_readings None outside ++ flat_map told_of_station stations
   pub out : OutsideOf in_set outside
   pub are : AreMarkedStations names stations
-  pub up : AreUp n (marks_from in_set ss)
+  pub up : AreUp n (marks_from in_set js)
 
 nothing_out : (in_set : Bool) → OutsideOf in_set []
 nothing_out true = tt
@@ -158,21 +165,20 @@ no_station in_set names n (b ∷ bs) ready e = absurd
       not_empty rs e = cc
 
 -- A station without sets before those that are done.
-without_sets : (in_set : Bool) (names : List (List ℕ)) (s : Occupation) (ss : List Occupation)
+without_sets : (in_set : Bool) (names : List (List ℕ)) (s : Occupation) (js : List Judged)
     (n : ℕ) (bs : List GsiBlock) (d : Divided)
     → station_marks in_set s d ≡ close_mark in_set s.sights
     → is_open_after in_set s d ≡ (in_set && is_empty s.sights)
-    → in_station s d ≡ for_each None s.sights → divided s.sights ≡ d
-    → (g : Segment s.sights (all_sights ss) (closing in_set)
-    (marks_from (is_open_after in_set s d) ss) n bs)
-    → StationsDone (is_open_after in_set s d) names ss g.next g.rest
-    → StationsDone in_set names (s ∷ ss) n bs
-without_sets in_set names s ss n bs d marks after told is g done =
+    → in_station s d ≡ for_each None s.sights
+    → (g : Segment s.sights (sights_in js) (closing in_set)
+    (marks_from (is_open_after in_set s d) js) n bs)
+    → StationsDone (is_open_after in_set s d) names js g.next g.rest
+    → StationsDone in_set names (record { station = s; division = d } ∷ js) n bs
+without_sets in_set names s js n bs d marks after told g done =
     let rs = s.sights in
-    let here : marks_from in_set (s ∷ ss) ≡ marks_at rs (closing in_set)
-    ++ marks_from (is_open_after in_set s d) ss =
-    (λ i. station_marks in_set s (is i) ++ marks_from (is_open_after in_set s (is i)) ss)
-    ∙ ap (λ (ms : List BlockMark). ms ++ marks_from (is_open_after in_set s d) ss)
+    let here : marks_from in_set (record { station = s; division = d } ∷ js)
+    ≡ marks_at rs (closing in_set) ++ marks_from (is_open_after in_set s d) js =
+    ap (λ (ms : List BlockMark). ms ++ marks_from (is_open_after in_set s d) js)
     (marks ∙ close_is in_set rs) in
     let front = codes_at rs (closing in_set) ++ g.group in
     record {
@@ -181,8 +187,7 @@ without_sets in_set names s ss n bs d marks after told is g done =
       copied = ap (λ (ms : List BlockMark). with_codes ms n bs) here ∙ g.copied
           ∙ ap (λ (xs : List GsiBlock). front ++ xs) done.copied
           ∙ sym (append_assoc front done.outside (flat_map blocks_of_station done.stations));
-      told = (λ i. in_station s (is i) ++ in_all ss)
-          ∙ (λ i. told i ++ done.told i)
+      told = (λ i. told i ++ done.told i)
           ∙ sym (append_assoc (for_each None rs) (for_readings None done.outside)
           (flat_map told_of_station done.stations))
           ∙ ap (λ fs. fs ++ flat_map told_of_station done.stations)
@@ -240,16 +245,16 @@ of_station in_set s (Sets leading) =
     (of_set_marks 1 (starts_of beyond) beyond) (of_place beyond (end_in beyond) Close))))
 
 -- The code lines of stations are before their readings.
-pub of_stations : (in_set : Bool) (ss : List Occupation)
-    → AreMarksOf (all_sights ss) (marks_from in_set ss)
+pub of_stations : (in_set : Bool) (js : List Judged)
+    → AreMarksOf (sights_in js) (marks_from in_set js)
 of_stations in_set [] = tt
-of_stations in_set (s ∷ ss) =
-    let marks = station_marks in_set s (divided s.sights) in
-    let more = marks_from (is_open_after in_set s (divided s.sights)) ss in
-    of_both (s.sights ++ all_sights ss) marks more
-    (of_left s.sights (all_sights ss) marks (of_station in_set s (divided s.sights)))
-    (of_more s.sights (all_sights ss) more
-    (of_stations (is_open_after in_set s (divided s.sights)) ss))
+of_stations in_set (j ∷ js) =
+    let s = j.station in
+    let marks = station_marks in_set s j.division in
+    let more = marks_from (is_open_after in_set s j.division) js in
+    of_both (s.sights ++ sights_in js) marks more
+    (of_left s.sights (sights_in js) marks (of_station in_set s j.division))
+    (of_more s.sights (sights_in js) more (of_stations (is_open_after in_set s j.division) js))
 
 lead_is : (in_set : Bool) (leading : ℕ) (rs : List Sight)
     → close_mark (in_set && nat_lt 0 leading) rs ≡ marks_at (take leading rs) (closing in_set)
@@ -281,26 +286,26 @@ pub record Parted (rs : List Sight) (leading : ℕ) (r : Sight) (others : List S
       ++ drop (end_in (drop leading rs)) (drop leading rs))
 
 -- A station with sets before those that are done.
-pub with_sets : (in_set : Bool) (names : List (List ℕ)) (s : Occupation) (ss : List Occupation)
+pub with_sets : (in_set : Bool) (names : List (List ℕ)) (s : Occupation) (js : List Judged)
     (n : ℕ) (bs : List GsiBlock) (leading : ℕ) (r : Sight) (others : List Sight)
     (sets : List (List Sight)) → IsReady bs → AllByRecursion IsClean bs
-    → sights_from n bs ≡ s.sights ++ all_sights ss → divided s.sights ≡ Sets leading
+    → sights_from n bs ≡ s.sights ++ sights_in js
     → AreSets s.sights leading → Parted s.sights leading r others sets → IsBareName s.name
     → is_among names s.name ≡ false
     → ((next : ℕ) (rest : List GsiBlock) → IsReady rest → AllByRecursion IsClean rest
-    → sights_from next rest ≡ all_sights ss
-    → StationsDone (is_open_after in_set s (Sets leading)) (names ++ s.name ∷ []) ss next rest)
-    → StationsDone in_set names (s ∷ ss) n bs
-with_sets in_set names s ss n bs leading r others sets ready clean e is all parted bare new go =
+    → sights_from next rest ≡ sights_in js
+    → StationsDone (is_open_after in_set s (Sets leading)) (names ++ s.name ∷ []) js next rest)
+    → StationsDone in_set names (record { station = s; division = Sets leading } ∷ js) n bs
+with_sets in_set names s js n bs leading r others sets ready clean e all parted bare new go =
     let rs = s.sights in
     let lead = take leading rs in
     let beyond = drop leading rs in
     let set = r ∷ others in
     let last = drop (end_in beyond) beyond in
-    let more = all_sights ss in
+    let more = sights_in js in
     let after = is_open_after in_set s (Sets leading) in
-    let later = marks_from after ss in
-    let of_later = of_stations after ss in
+    let later = marks_from after js in
+    let of_later = of_stations after js in
     let closed = marks_at last (Close ∷ []) ++ later in
     let of_closed = of_both (last ++ more) (marks_at last (Close ∷ [])) later
     (of_first last more (Close ∷ [])) (of_more last more later of_later) in
@@ -346,9 +351,9 @@ with_sets in_set names s ss n bs leading r others sets ready clean e is all part
     ≡ for_readings f b.group ++ told_of_sets s.name 2 c.marked =
     ap (λ (xs : List (List Sight)). in_sets s.name 1 xs) parted.are
     ∙ sym (λ i. told_is f a.next b.group set b.here i ++ c.told i) in
-    let marks : marks_from in_set (s ∷ ss) ≡ marks_at lead (closing in_set) ++ from_set =
-    (λ i. station_marks in_set s (is i) ++ marks_from (is_open_after in_set s (is i)) ss)
-    ∙ ap (λ (ms : List BlockMark). ms ++ later)
+    let marks : marks_from in_set (record { station = s; division = Sets leading } ∷ js)
+    ≡ marks_at lead (closing in_set) ++ from_set =
+    ap (λ (ms : List BlockMark). ms ++ later)
     (λ i. lead_is in_set leading rs i
     ++ (begin i ++ (numbered i ++ mark_is (end_in beyond) beyond Close i)))
     ∙ append_assoc (marks_at lead (closing in_set))
@@ -367,7 +372,7 @@ with_sets in_set names s ss n bs leading r others sets ready clean e is all part
           ∙ regroup (code_block r.wide (Station s.name)) (code_block r.wide (Set 1) ∷ b.group)
           (flat_map blocks_of_set c.marked) (codes_at last (Close ∷ []) ++ d.group) done.outside
           (flat_map blocks_of_station done.stations));
-      told = (λ i. in_station s (is i) ++ done.told i)
+      told = ap (λ fs. in_station s (Sets leading) ++ fs) done.told
           ∙ (λ i. (lead_told i ++ (sets_told i ++ for_each None last))
           ++ (for_readings None done.outside ++ flat_map told_of_station done.stations))
           ∙ regroup_told (for_readings None front)
@@ -442,54 +447,36 @@ first_part rs leading are ((r ∷ others) ∷ sets) e =
     )
 
 -- The stations of a file in its copy.
-pub stations_done : (in_set : Bool) (names : List (List ℕ)) (end : ℕ) (ss : List Occupation) (n : ℕ)
+pub stations_done : (in_set : Bool) (names : List (List ℕ)) (js : List Judged) (n : ℕ)
     (bs : List GsiBlock) → IsReady bs → AllByRecursion IsClean bs
-    → sights_from n bs ≡ all_sights ss → fault_of_stations end names ss ≡ None
-    → HaveBareNames ss → StationsDone in_set names ss n bs
-stations_done in_set names end [] n bs ready clean e fault bare =
-    no_station in_set names n bs ready e
-stations_done in_set names end (s ∷ ss) n bs ready clean e fault bare =
-    let none = all_none (station_fault names s (divided s.sights)
-    ∷ fault_of_stations end (names_after names s (divided s.sights)) ss ∷ []) fault in
-    by (divided s.sights) refl none.0 none.1.0
-    (λ set more next rest. stations_done set more end ss next rest) where
-      by : (d : Divided) → divided s.sights ≡ d → station_fault names s (divided s.sights) ≡ None
-          → fault_of_stations end (names_after names s (divided s.sights)) ss ≡ None
+    → sights_from n bs ≡ sights_in js → AreSound names js → StationsDone in_set names js n bs
+stations_done in_set names [] n bs ready clean e are = no_station in_set names n bs ready e
+stations_done in_set names (j ∷ js) n bs ready clean e are =
+    by j.division are.0 are.1 (λ set more next rest. stations_done set more js next rest) where
+      by : (d : Divided) → IsSoundAs names j.station d
+          → AreSound (names_then names j.station d) js
           → ((set : Bool) (more : List (List ℕ)) (next : ℕ) (rest : List GsiBlock) → IsReady rest
-          → AllByRecursion IsClean rest → sights_from next rest ≡ all_sights ss
-          → fault_of_stations end more ss ≡ None
-          → All (λ (s : Occupation). IsBareName s.name) ss → StationsDone set more ss next rest)
-          → StationsDone in_set names (s ∷ ss) n bs
-      by NoSets is here there again =
+          → AllByRecursion IsClean rest → sights_from next rest ≡ sights_in js
+          → AreSound more js → StationsDone set more js next rest)
+          → StationsDone in_set names (record { station = j.station; division = d } ∷ js) n bs
+      by NoSets here there again =
+          let s = j.station in
           let after = in_set && is_empty s.sights in
-          let g = segment s.sights (all_sights ss) (closing in_set) (marks_from after ss) n bs ready
-          clean e (of_stations after ss) in
-          without_sets in_set names s ss n bs NoSets refl refl refl is g
-          (again after names g.next g.rest g.ready g.clean_rest g.there
-          (ap (λ (d : Divided). fault_of_stations end (names_after names s d) ss) (sym is) ∙ there)
-          (All-tail (λ (o : Occupation). IsBareName o.name) s ss bare))
-      by (Flawed f) is here there again =
+          let g = segment s.sights (sights_in js) (closing in_set) (marks_from after js) n bs ready
+          clean e (of_stations after js) in
+          without_sets in_set names s js n bs NoSets refl refl refl g
+          (again after names g.next g.rest g.ready g.clean_rest g.there there)
+      by (Flawed f) here there again =
+          let s = j.station in
           let after = in_set && is_empty s.sights in
-          let g = segment s.sights (all_sights ss) (closing in_set) (marks_from after ss) n bs ready
-          clean e (of_stations after ss) in
-          without_sets in_set names s ss n bs (Flawed f) refl refl refl is g
-          (again after names g.next g.rest g.ready g.clean_rest g.there
-          (ap (λ (d : Divided). fault_of_stations end (names_after names s d) ss) (sym is) ∙ there)
-          (All-tail (λ (o : Occupation). IsBareName o.name) s ss bare))
-      by (Sets leading) is here there again =
-          let all = sets_in_words s.sights leading is in
-          let p = first_part s.sights leading all (sets_of (drop leading s.sights)) refl in
-          let none = all_none (
-          flaw_when (is_among names s.name) kinds.StationTwice (slice_get s.sights 0)
-          ∷ flaw_when (nat_le MOST_STATIONS (length names)) kinds.TooManyStations
-          (slice_get s.sights 0)
-          ∷ flaw_when (is_too_long s.name (slice_get s.sights leading)) kinds.NameTooLong
-          (slice_get s.sights leading)
-          ∷ []) (ap (λ (d : Divided). station_fault names s d) (sym is) ∙ here) in
-          with_sets in_set names s ss n bs leading p.0 p.1 p.2 ready clean e is all p.3
-          (All-head (λ (o : Occupation). IsBareName o.name) s ss bare)
-          (no_flaw (is_among names s.name) kinds.StationTwice (slice_get s.sights 0) none.0)
+          let g = segment s.sights (sights_in js) (closing in_set) (marks_from after js) n bs ready
+          clean e (of_stations after js) in
+          without_sets in_set names s js n bs (Flawed f) refl refl refl g
+          (again after names g.next g.rest g.ready g.clean_rest g.there there)
+      by (Sets leading) here there again =
+          let s = j.station in
+          let p = first_part s.sights leading here.are (sets_of (drop leading s.sights)) refl in
+          with_sets in_set names s js n bs leading p.0 p.1 p.2 ready clean e here.are p.3
+          here.bare here.new
           (λ next rest ready clean there'. again (is_open_after in_set s (Sets leading))
-          (names ++ s.name ∷ []) next rest ready clean there'
-          (ap (λ (d : Divided). fault_of_stations end (names_after names s d) ss) (sym is) ∙ there)
-          (All-tail (λ (o : Occupation). IsBareName o.name) s ss bare))
+          (names ++ s.name ∷ []) next rest ready clean there' there)

@@ -1,5 +1,5 @@
 -- Parts that are readings as most are written.
-use Rattle.std.proofs.Common.{◌≡◌, ◌∙◌, ℕ, ◌<◌, ◌≤◌, true, false, List, length}
+use Rattle.std.proofs.Common.{◌≡◌, ◌∙◌, ℕ, ◌+◌, ◌<◌, ◌≤◌, true, false, List, length}
 use Rattle.std.proofs.Common.{get_or, take, drop, not, inl, inr, refl, ap, All, Some, arith}
 use Rattle.std.specs.Prelude.{slice_index, slice_get, ◌==◌, Option, Result}
 use Rattle.std.specs.List.{position}
@@ -26,22 +26,20 @@ use Rattle.set_marks.proofs.Breaks.{printable_position}
 
 -- It is not empty.
 pub is_long : (part : List ℕ) → is_plain_reading part ≡ true → 47 ≤ length part
-is_long part e = let room = (reading_line part e).block.kept.room in omega (arith, room)
+is_long part e = (reading_line part e).reading.long
 
-begins_with_digit : (part : List ℕ) → is_plain_reading part ≡ true → 48 ≤ get_or part 0 0
-begins_with_digit part e =
-    let first = ((reading_line part e).block.kept.each 0 (omega arith)).digits.tens.0 in
-    omega (arith, first, get_or-take 15 part 0 0 (omega arith))
+begins_with_ink : (part : List ℕ) → is_plain_reading part ≡ true → 33 ≤ get_or part 0 0
+begins_with_ink part e = (reading_line part e).reading.ink
 
 -- Such a part is a line: its first byte is no blank.
 pub numbered : (part : List ℕ) → is_plain_reading part ≡ true → is_line part ≡ true
 numbered part e = elim (cases_Bool (is_blank part)) [
   | inl blank ↦
-      let digit = begins_with_digit part e in
+      let ink = begins_with_ink part e in
       let long = is_long part e in
       let first : get_or part 0 0 ≡ 32 = eqb-true (get_or part 0 0) 32
       (AllPass-from_list_all (λ b. b == 32) part blank 0 0 (omega (arith, long))) in
-      absurd (omega (arith, digit, first))
+      absurd (omega (arith, ink, first))
   | inr not_blank ↦ ap not not_blank
 ]
 
@@ -50,7 +48,7 @@ pub plain_position : (bytes : List ℕ) (at : ℕ) → at < length bytes
     → is_line_end (slice_index bytes at) ≡ true → is_plain_reading (take at bytes) ≡ true
     → Some at ≡ position is_line_end bytes
 plain_position bytes at inside end e = printable_position bytes at (λ k lt.
-    let all = (reading_line (take at bytes) e).block.printable k 0
+    let all = (reading_line (take at bytes) e).reading.block.printable k 0
     (omega (arith, lt, inside, length-take at bytes)) in
     let same : get_or (take at bytes) k 0 ≡ get_or bytes k 0 = get_or-take at bytes k 0 lt in
     let low = all.0 in
@@ -60,12 +58,11 @@ plain_position bytes at inside end e = printable_position bytes at (λ k lt.
 no_beginning : (w : GsiWord) → IsLater w → begins_line w ≡ false
 no_beginning w later =
     let low = later.0 in
-    let high = later.1 in
     let point : (w.index == 11) ≡ false = ne_eqb w.index 11 (λ e. absurd (omega (arith, low, e))) in
-    let code : (w.index == 41) ≡ false = ne_eqb w.index 41 (λ e. absurd (omega (arith, high, e))) in
+    let code : (w.index == 41) ≡ false = ne_eqb w.index 41 later.1 in
     rw (point, code) refl
 
--- A block is one line where the indices of the words after the first begin with 2 or 3.
+-- A block is one line where no word after the first is one that a line begins with.
 pub is_one_line : (b : GsiBlock) → All IsLater (drop 1 b.words) → is_two_lines b ≡ false
 unfolding is_two_lines
 is_one_line b later = list_any_none begins_line (drop 1 b.words)
@@ -78,12 +75,17 @@ pub is_known : (line : List ℕ) (b : GsiBlock) (said : Result (Option Reading) 
     → IsKnown (Some said) b
 unfolding role_of
 is_known line b said e is says =
-    let r = reading_line line e in (
-      is_one_line b (reading_goes_on line b r is),
-      (measures (reading_begins line b r is) r.point, says b is),
+    let p = reading_line line e in
+    let first = word_of (take (7 + p.width) p.bytes) in (
+      is_one_line b (reading_goes_on p.width p.n line p.bytes p.d p.z b p.reading is),
+      (
+        measures first (reading_begins p.width p.n line p.bytes p.d p.z b p.reading is)
+            p.reading.block.point,
+        says b is,
+      ),
     )
   where
-    measures : slice_get b.words 0 ≡ Some (word_of (take 15 line))
-        → (word_of (take 15 line)).index ≡ 11 → role_of b ≡ Measurement
-    measures first point = ap (λ (w : Option GsiWord). word_role w) first
-        ∙ rw (eq-eqb (word_of (take 15 line)).index 11 point) refl
+    measures : (w : GsiWord) → slice_get b.words 0 ≡ Some w → w.index ≡ 11
+        → role_of b ≡ Measurement
+    measures w first point = ap (λ (v : Option GsiWord). word_role v) first
+        ∙ rw (eq-eqb w.index 11 point) refl

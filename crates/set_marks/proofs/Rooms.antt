@@ -1,27 +1,22 @@
 -- What the code lines of a file say has room.
 use Rattle.std.proofs.Common.{◌≡◌, ℕ, suc, ◌+◌, ◌<◌, ◌≤◌, Bool, true, false, ◌&&◌, List, [], ◌∷◌}
-use Rattle.std.proofs.Common.{◌++◌, length, drop, Option, Some, None, refl, ap, arith}
-use Rattle.std.specs.Prelude.{slice_get, nat_lt, nat_le}
+use Rattle.std.proofs.Common.{◌++◌, length, drop, Option, Some, None, arith}
+use Rattle.std.specs.Prelude.{slice_get, nat_lt}
 use Rattle.std.proofs.lemmas.Bool.{ltb-false}
-use Rattle.std.proofs.lemmas.List.Elements.{All-head, All-tail}
-use Rattle.station_book.specs.declared.bounds.TheConstants.{MOST_STATIONS}
-use Rattle.station_book.specs.Places.{is_among}
-use Rattle.station_book.proofs.readings.CleanBlocks.{all_none}
-use Rattle.set_marks.specs.declared.fault.MarkKind.TheVariants as kinds
 use Rattle.set_marks.specs.declared.mark.Code.TheVariants.{Station, Set, Close}
 use Rattle.set_marks.specs.declared.mark.BlockMark.{BlockMark}
 use Rattle.set_marks.specs.declared.division.Divided.{Divided}
 use Rattle.set_marks.specs.declared.division.Divided.TheVariants.{NoSets, Sets, Flawed}
 use Rattle.set_marks.specs.declared.sight.Sight.{Sight}
 use Rattle.set_marks.specs.Stations.{Occupation}
-use Rattle.set_marks.specs.Divisions.{divided, starts_of, end_in, parts_at, flaw_when}
+use Rattle.set_marks.specs.Divisions.{starts_of, end_in}
+use Rattle.set_marks.specs.Judging.{Judged, is_too_long}
 use Rattle.set_marks.specs.Marking.{mark_at, set_marks, close_mark, station_marks, is_open_after}
-use Rattle.set_marks.specs.Marking.{marks_from, station_fault, names_after, fault_of_stations}
-use Rattle.set_marks.specs.Marking.{is_too_long}
-use Rattle.set_marks.proofs.BareNames.{IsBareName, HaveBareNames}
+use Rattle.set_marks.specs.Marking.{marks_from}
+use Rattle.set_marks.proofs.BareNames.{IsBareName}
 use Rattle.set_marks.proofs.CopyLines.{AreRoomy}
-use Rattle.set_marks.proofs.EachTargetOnce.{no_flaw}
-use Rattle.set_marks.proofs.SetsInWords.{sets_in_words}
+use Rattle.set_marks.proofs.Judged.{IsSoundAs, AreSound, names_then}
+use Rattle.set_marks.proofs.RowsOfSets.{as_many}
 
 both : (first ms : List BlockMark) → AreRoomy first → AreRoomy ms → AreRoomy (first ++ ms)
 both [] ms a b = b
@@ -46,54 +41,37 @@ sets_roomy k (from ∷ starts) rs le = both (mark_at (slice_get rs from) (Set k)
     (set_marks (suc k) starts rs) (set_here (slice_get rs from) k (omega arith))
     (sets_roomy (suc k) starts rs (omega arith))
 
-as_many : (end : ℕ) (starts : List ℕ) (rs : List Sight)
-    → length (parts_at end starts rs) ≡ length starts
-as_many end [] rs = refl
-as_many end (from ∷ starts) rs = ap (λ (k : ℕ). suc k) (as_many end starts rs)
-
 station_here : (o : Option Sight) (name : List ℕ) → IsBareName name → is_too_long name o ≡ false
     → AreRoomy (mark_at o (Station name))
 station_here None name bare short = tt
 station_here (Some r) name bare short = ((ltb-false _ (length name) short, bare.is_name), tt)
 
 station_roomy : (in_set : Bool) (names : List (List ℕ)) (s : Occupation) (d : Divided)
-    → divided s.sights ≡ d → IsBareName s.name → station_fault names s d ≡ None
-    → AreRoomy (station_marks in_set s d)
-station_roomy in_set names s NoSets is bare fault = close_roomy in_set s.sights
-station_roomy in_set names s (Flawed f) is bare fault = close_roomy in_set s.sights
-station_roomy in_set names s (Sets leading) is bare fault =
+    → IsSoundAs names s d → AreRoomy (station_marks in_set s d)
+station_roomy in_set names s NoSets is = close_roomy in_set s.sights
+station_roomy in_set names s (Flawed f) is = close_roomy in_set s.sights
+station_roomy in_set names s (Sets leading) is =
     let rs = s.sights in
     let beyond = drop leading rs in
-    let none = all_none (
-    flaw_when (is_among names s.name) kinds.StationTwice (slice_get rs 0)
-    ∷ flaw_when (nat_le MOST_STATIONS (length names)) kinds.TooManyStations (slice_get rs 0)
-    ∷ flaw_when (is_too_long s.name (slice_get rs leading)) kinds.NameTooLong (slice_get rs leading)
-    ∷ []) fault in
     let count = as_many (end_in beyond) (starts_of beyond) beyond in
-    let few = (sets_in_words rs leading is).few in
+    let few = is.are.few in
     let sets = set_marks 1 (starts_of beyond) beyond in
     let last = mark_at (slice_get beyond (end_in beyond)) Close in
     both (close_mark (in_set && nat_lt 0 leading) rs)
     (mark_at (slice_get rs leading) (Station s.name) ++ (sets ++ last))
     (close_roomy (in_set && nat_lt 0 leading) rs)
     (both (mark_at (slice_get rs leading) (Station s.name)) (sets ++ last)
-    (station_here (slice_get rs leading) s.name bare
-    (no_flaw (is_too_long s.name (slice_get rs leading)) kinds.NameTooLong (slice_get rs leading)
-    none.1.1.0))
+    (station_here (slice_get rs leading) s.name is.bare is.short)
     (both sets last (sets_roomy 1 (starts_of beyond) beyond (omega (arith, count, few)))
     (close_here (slice_get beyond (end_in beyond)))))
 
 -- What the code lines of stations say has room.
-pub marks_roomy : (in_set : Bool) (names : List (List ℕ)) (end : ℕ) (ss : List Occupation)
-    → HaveBareNames ss → fault_of_stations end names ss ≡ None → AreRoomy (marks_from in_set ss)
-marks_roomy in_set names end [] bare fault = tt
-marks_roomy in_set names end (s ∷ ss) bare fault =
-    let none = all_none (station_fault names s (divided s.sights)
-    ∷ fault_of_stations end (names_after names s (divided s.sights)) ss ∷ []) fault in
-    both (station_marks in_set s (divided s.sights))
-    (marks_from (is_open_after in_set s (divided s.sights)) ss)
-    (station_roomy in_set names s (divided s.sights) refl
-    (All-head (λ (o : Occupation). IsBareName o.name) s ss bare) none.0)
-    (marks_roomy (is_open_after in_set s (divided s.sights))
-    (names_after names s (divided s.sights))
-    end ss (All-tail (λ (o : Occupation). IsBareName o.name) s ss bare) none.1.0)
+pub marks_roomy : (in_set : Bool) (names : List (List ℕ)) (js : List Judged) → AreSound names js
+    → AreRoomy (marks_from in_set js)
+marks_roomy in_set names [] are = tt
+marks_roomy in_set names (j ∷ js) are =
+    both (station_marks in_set j.station j.division)
+    (marks_from (is_open_after in_set j.station j.division) js)
+    (station_roomy in_set names j.station j.division are.0)
+    (marks_roomy (is_open_after in_set j.station j.division)
+    (names_then names j.station j.division) js are.1)

@@ -1,119 +1,36 @@
 -- The sets that are recognized, in words.
-use Rattle.std.proofs.Common.{◌≡◌, ℕ, suc, ◌+◌, ◌-◌, ◌≤◌, true, false, ◌&&◌, List, [], ◌∷◌, ◌++◌}
-use Rattle.std.proofs.Common.{length, take, drop, Option, Some, None, is_none, refl, sym, ap, ◌∙◌}
-use Rattle.std.proofs.Common.{inl, inr, subst, arith, All}
+use Rattle.std.proofs.Common.{◌≡◌, ℕ, ◌≤◌, true, false, ◌&&◌, not, List, [], ◌∷◌, ◌++◌, length}
+use Rattle.std.proofs.Common.{take, drop, Option, Some, None, is_none, refl, sym, ap, ◌∙◌, inl, inr}
+use Rattle.std.proofs.Common.{subst, arith, All}
 use Rattle.std.specs.Prelude.{nat_lt, nat_le, slice_get}
-use Rattle.std.proofs.Math.Seq.{take-add}
 use Rattle.std.proofs.lemmas.Bool.{cases_Bool, false≢true, leb-false}
-use Rattle.std.proofs.lemmas.List.{take-append-drop, append-nil, length-take, drop-drop}
+use Rattle.std.proofs.lemmas.List.{take-append-drop, length-drop}
 use Rattle.std.proofs.lemmas.List.Elements.{All-nil, All-cons, All-head, All-tail}
-use Rattle.std.proofs.lemmas.Slice.Eq.{bytes_eq-Decides}
 use Rattle.station_book.proofs.readings.CleanBlocks.{all_none}
 use Rattle.adjust_kernel.specs.declared.bounds.TheConstants.{MOST_SETS}
 use Rattle.set_marks.specs.declared.fault.MarkKind.TheVariants as kinds
 use Rattle.set_marks.specs.declared.flaw.Flaw.{Flaw}
 use Rattle.set_marks.specs.declared.division.Divided.TheVariants.{NoSets, Sets}
 use Rattle.set_marks.specs.declared.sight.Sight.{Sight}
-use Rattle.set_marks.specs.Divisions.{set_flaw, sets_flaw, sets_of, parts_at, part, starts_of}
-use Rattle.set_marks.specs.Divisions.{starts_from, first_set, end_in, rest_flaw, flaw_of}
-use Rattle.set_marks.specs.Divisions.{is_division, leading_of, flaw_when, flaw_found, doubt_flaw}
-use Rattle.set_marks.specs.Divisions.{doubt_after, begins_in_two, may_be_shifted, is_one_by_targets}
-use Rattle.set_marks.specs.Divisions.{is_mostly_known, stranger_among, divided, divided_by}
-use Rattle.set_marks.specs.Divisions.{divided_unless, is_in_one_face, latest_flaw, later}
+use Rattle.set_marks.specs.declared.stated.Stated.{Stated}
+use Rattle.set_marks.specs.Divisions.{sets_flaw, starts_of, first_set, end_in, flaw_of}
+use Rattle.set_marks.specs.Divisions.{seconds_of, rest_of, place_of, unknown_in, cut_end, cut_of}
+use Rattle.set_marks.specs.Divisions.{first_cut, may_lead, cut_flaw}
+use Rattle.set_marks.specs.Divisions.{is_division, leading_of, flaw_at, flaw_when, flaw_found}
+use Rattle.set_marks.specs.Divisions.{doubt_flaw, doubt_after, begins_in_two, may_be_shifted}
+use Rattle.set_marks.specs.Divisions.{may_go_on, are_by_targets, numbers_flaw, is_mostly_known}
+use Rattle.set_marks.specs.Divisions.{stranger_among, divided, divided_by, divided_unless}
+use Rattle.set_marks.specs.Divisions.{has_no_sets, latest_flaw, later}
+use Rattle.set_marks.specs.Numbers.{is_asked}
 use Rattle.set_marks.specs.SetsInWords.{one_after_another, ReadsEachOnce, AreSets}
-use Rattle.set_marks.proofs.EachTargetOnce.{set_once, no_flaw, none_found}
+use Rattle.set_marks.proofs.EachTargetOnce.{none_found}
+use Rattle.set_marks.proofs.AmongDetails.{known_after}
+use Rattle.set_marks.proofs.SameSets.{HasSets, has_sets}
 use Rattle.set_marks.proofs.Fewest.{fewest}
-
--- Readings up to a place, and then those from there up to a later one.
-two_parts : (from to end : ℕ) (rs : List Sight) → from ≤ to → to ≤ end
-    → part from to rs ++ part to end rs ≡ part from end rs
-two_parts from to end rs le le2 =
-    let beyond : drop to rs ≡ drop (to - from) (drop from rs) =
-    sym (drop-drop (to - from) from rs ∙ ap (λ (k : ℕ). drop k rs) (omega arith)) in
-    ap (λ xs. part from to rs ++ take (end - to) xs) beyond
-    ∙ sym (take-add (to - from) (end - to) (drop from rs))
-    ∙ ap (λ (k : ℕ). take k (drop from rs)) (omega arith)
-
--- A part with readings ends after it begins.
-part_order : (from to : ℕ) (rs : List Sight) → 4 ≤ length (part from to rs) → from ≤ to
-part_order from to rs e = omega (arith, length-take (to - from) (drop from rs), e)
-
--- What is said of the sets that begin at these places, after so many.
-record Joined (count end from : ℕ) (starts : List ℕ) (rs : List Sight) : Type 0 where
-  pub order : from ≤ end
-  pub same : one_after_another (parts_at end (from ∷ starts) rs) ≡ part from end rs
-  pub each : All ReadsEachOnce (parts_at end (from ∷ starts) rs)
-  pub few : count + length (parts_at end (from ∷ starts) rs) ≤ MOST_SETS
-
-joined : (first : List Sight) (count end from : ℕ) (starts : List ℕ) (rs : List Sight)
-    → sets_flaw first count end (from ∷ starts) rs ≡ None → Joined count end from starts rs
-joined first count end from [] rs e =
-    let none = all_none (flaw_when (nat_le MOST_SETS count) kinds.TooManySets (slice_get rs from)
-    ∷ set_flaw first (part from end rs) ∷ None ∷ []) e in
-    let set = set_once first (part from end rs) none.1.0 in
-    let lt = leb-false MOST_SETS count
-    (no_flaw (nat_le MOST_SETS count) kinds.TooManySets (slice_get rs from) none.0) in
-    record {
-      order = part_order from end rs set.many;
-      same = append-nil (part from end rs);
-      each = All-cons ReadsEachOnce (part from end rs) [] set (All-nil ReadsEachOnce);
-      few = omega (arith, lt);
-    }
-joined first count end from (to ∷ starts) rs e =
-    let none = all_none (flaw_when (nat_le MOST_SETS count) kinds.TooManySets (slice_get rs from)
-    ∷ set_flaw first (part from to rs) ∷ sets_flaw first (suc count) end (to ∷ starts) rs ∷ []) e in
-    let set = set_once first (part from to rs) none.1.0 in
-    let rest = joined first (suc count) end to starts rs none.1.1.0 in
-    let le = part_order from to rs set.many in
-    record {
-      order = let le2 = rest.order in omega arith;
-      same = ap (λ xs. part from to rs ++ xs) rest.same ∙ two_parts from to end rs le rest.order;
-      each = All-cons ReadsEachOnce (part from to rs) (parts_at end (to ∷ starts) rs) set rest.each;
-      few = let n = rest.few in omega arith;
-    }
-
--- The first set begins with the first reading.
-pub first_start : (r : Sight) (rs : List Sight)
-    → starts_of (r ∷ rs) ≡ 0 ∷ starts_from r.target false 1 rs
-first_start r rs = rw ((bytes_eq-Decides r.target r.target).1 refl) refl
-
-whole : (end : ℕ) (rs : List Sight) → part 0 end rs ≡ take end rs
-whole end rs = ap (λ (k : ℕ). take k rs) (omega arith)
 
 none_is : {X : Type 0} (o : Option X) → is_none o ≡ true → o ≡ None
 none_is None e = refl
 none_is (Some x) e = cc
-
--- What is said of the readings that are sets.
-record AllAre (rs : List Sight) : Type 0 where
-  pub some : 1 ≤ length (sets_of rs)
-  pub few : length (sets_of rs) ≤ MOST_SETS
-  pub each : All ReadsEachOnce (sets_of rs)
-  pub same : one_after_another (sets_of rs) ≡ take (end_in rs) rs
-
-rest_are : (leading : ℕ) (rs : List Sight) → rest_flaw leading rs ≡ None → AllAre rs
-rest_are leading [] e = cc
-rest_are leading (r ∷ rs) e =
-    let all = r ∷ rs in
-    let none = all_none (
-    sets_flaw (first_set (starts_of all) all) 0 (end_in all) (starts_of all) all
-    ∷ flaw_when (nat_lt 0 leading && nat_lt (length (starts_of all)) 2) kinds.OneSet (Some r)
-    ∷ []) e in
-    let starts = starts_from r.target false 1 rs in
-    let at = first_start r rs in
-    let j = joined (first_set (starts_of all) all) 0 (end_in all) 0 starts all
-    (subst (λ (ps : List ℕ). sets_flaw (first_set (starts_of all) all) 0 (end_in all) ps all ≡ None)
-    at none.0) in
-    let same : sets_of all ≡ parts_at (end_in all) (0 ∷ starts) all =
-    ap (λ (ps : List ℕ). parts_at (end_in all) ps all) at in
-    record {
-      some = subst (λ (sets : List (List Sight)). 1 ≤ length sets) (sym same) (omega arith);
-      few = subst (λ (sets : List (List Sight)). length sets ≤ MOST_SETS) (sym same)
-          (let n = j.few in omega arith);
-      each = subst (λ (sets : List (List Sight)). All ReadsEachOnce sets) (sym same) j.each;
-      same = ap (λ (sets : List (List Sight)). one_after_another sets) same ∙ j.same
-          ∙ whole (end_in all) all;
-    }
 
 stays_some : (a b : Option Flaw) → is_none a ≡ false → is_none (later a b) ≡ false
 stays_some None b e = cc
@@ -139,22 +56,26 @@ something_wrong rs e f = elim (cases_Bool (is_division rs 0)) [
       false≢true (sym some ∙ none)
 ]
 
-by_leading : (rs : List Sight) (leading : ℕ) (o : Option ℕ) → leading_of rs ≡ o
-    → divided_by rs o ≡ Sets leading → o ≡ Some leading
-by_leading rs leading None none e = by (latest_flaw rs) refl e where
-  by : (o : Option Flaw) → latest_flaw rs ≡ o → divided_unless o 0 ≡ Sets leading
-      → None ≡ Some leading
+-- How many leading readings stand before the sets that are no details, and what is known of them.
+record Found (stated : Stated) (rs : List Sight) (place : ℕ) : Type 0 where
+  pub leading : ℕ
+  pub fewest : leading_of rs ≡ Some leading
+  pub place_is : place_of (seconds_of rs) leading rs ≡ place
+  pub sure : doubt_flaw stated rs leading ≡ None
+
+by_leading : (stated : Stated) (rs : List Sight) (place : ℕ) (o : Option ℕ) → leading_of rs ≡ o
+    → divided_by stated rs o ≡ Sets place → Found stated rs place
+by_leading stated rs place None none e = by (latest_flaw rs) refl e where
+  by : (o : Option Flaw) → latest_flaw rs ≡ o → divided_unless o 0 ≡ Sets place
+      → Found stated rs place
   by None is f = absurd (something_wrong rs none is)
   by (Some flaw) is f = cc
-by_leading rs leading (Some n) some e = by (doubt_flaw rs n) e where
-  by : (o : Option Flaw) → divided_unless o n ≡ Sets leading → Some n ≡ Some leading
-  by None f = let g : n ≡ leading = cc in ap (λ (k : ℕ). Some k) g
-  by (Some flaw) f = cc
-
--- Where sets are recognized, there is no doubt about them.
-no_doubt : (o : Option Flaw) (n leading : ℕ) → divided_unless o n ≡ Sets leading → o ≡ None
-no_doubt None n leading e = refl
-no_doubt (Some flaw) n leading e = cc
+by_leading stated rs place (Some n) some e = by (doubt_flaw stated rs n) refl e where
+  by : (o : Option Flaw) → doubt_flaw stated rs n ≡ o
+      → divided_unless o (place_of (seconds_of rs) n rs) ≡ Sets place → Found stated rs place
+  by None is f = let g : place_of (seconds_of rs) n rs ≡ place = cc in
+      record { leading = n; fewest = some; place_is = g; sure = is }
+  by (Some flaw) is f = cc
 
 -- Where no set has other targets than the first, each has mostly those.
 all_known : (first : List Sight) (sets : List (List Sight)) → All ReadsEachOnce sets
@@ -169,48 +90,108 @@ all_known first (set ∷ sets) each e = elim (cases_Bool (is_mostly_known first 
   some_reading [] many f = omega (arith, many)
   some_reading (r ∷ rs) many f = cc
 
--- What is said of readings about which there is no doubt.
-record AreSure (rs : List Sight) : Type 0 where
-  pub single : is_one_by_targets (sets_of rs) ≡ false
-  pub strangers : stranger_among (first_set (starts_of rs) rs) (sets_of rs) ≡ None
-
-are_sure : (leading rs : List Sight) → doubt_after leading rs ≡ None → AreSure rs
-are_sure leading rs e =
-    let none = all_none (
+-- the doubts about readings, one by one
+abbrev pub doubts : Stated → List Sight → List Sight → List (Option Flaw)
+doubts stated leading rs =
     flaw_when (begins_in_two rs) kinds.FirstFace (slice_get rs 0)
-    ∷ flaw_when (may_be_shifted leading (first_set (starts_of rs) rs)) kinds.MayBeShifted
+    ∷ flaw_when (may_be_shifted leading (first_cut (starts_of rs) rs)) kinds.MayBeShifted
     (slice_get rs 0)
-    ∷ flaw_when (is_one_by_targets (sets_of rs)) kinds.OneSetByTargets (slice_get rs 0)
-    ∷ flaw_found kinds.OtherTargets (stranger_among (first_set (starts_of rs) rs) (sets_of rs))
-    ∷ []) e in
-    record {
-      single = no_flaw (is_one_by_targets (sets_of rs)) kinds.OneSetByTargets (slice_get rs 0)
-          none.1.1.0;
-      strangers = none_found kinds.OtherTargets
-          (stranger_among (first_set (starts_of rs) rs) (sets_of rs)) none.1.1.1.0;
-    }
+    ∷ flaw_when (is_asked (are_by_targets rs) stated.sets) kinds.ByTargets (slice_get rs 0)
+    ∷ flaw_when (may_go_on rs) kinds.PairAfter (slice_get rs (cut_end (starts_of rs) rs))
+    ∷ numbers_flaw stated rs
+    ∷ flaw_found kinds.OtherTargets (stranger_among (first_cut (starts_of rs) rs) (cut_of rs))
+    ∷ []
 
--- Where sets are recognized, they are sets.
-pub sets_in_words : (rs : List Sight) (leading : ℕ) → divided rs ≡ Sets leading → AreSets rs leading
-sets_in_words rs leading e = elim (cases_Bool (is_in_one_face rs)) [
-  | inl h ↦ let f : NoSets ≡ Sets leading = rw h at e in cc
+-- Where there is no doubt about readings, no set has other targets.
+no_strangers : (stated : Stated) (leading rs : List Sight) → doubt_after stated leading rs ≡ None
+    → stranger_among (first_cut (starts_of rs) rs) (cut_of rs) ≡ None
+no_strangers stated leading rs e =
+    let none = all_none (doubts stated leading rs) e in
+    none_found kinds.OtherTargets (stranger_among (first_cut (starts_of rs) rs) (cut_of rs))
+    none.1.1.1.1.1.0
+
+-- What is known of a station whose readings are sets from this place on: of those that are no
+-- details (`rest`) after the leading ones (`before`).
+pub record DividedSets (stated : Stated) (rs : List Sight) (place : ℕ) : Type 0 where
+  pub before : List Sight
+  pub rest : List Sight
+  pub wrong : sets_flaw (first_cut (starts_of rest) rest) 0 (cut_end (starts_of rest) rest)
+      (starts_of rest) rest ≡ None
+  pub sets : HasSets (drop place rs) rest
+  pub known : All (λ set. is_mostly_known (first_cut (starts_of rest) rest) set ≡ true)
+      (cut_of rest)
+  pub sure : doubt_after stated before rest ≡ None
+
+no_flaw : (f : Flaw) → Some f ≡ None → ⊥
+no_flaw f e = cc
+
+-- Nothing is wrong with the sets after so many leading readings, and no detail stands among them.
+cut_right : (rs : List Sight) (leading : ℕ) → flaw_of rs leading ≡ None
+    → (1 ≤ length (drop leading (rest_of rs)))
+    × (cut_flaw rs (take leading (rest_of rs)) (place_of (seconds_of rs) leading rs)
+    (starts_of (drop leading (rest_of rs))) (drop leading (rest_of rs)) ≡ None)
+cut_right rs leading e = elim (cases_Bool (nat_le (length (rest_of rs)) leading)) [
+  | inl h ↦
+      let f : Some (flaw_at kinds.OneSet None) ≡ None = rw h at e in
+      absurd (no_flaw (flaw_at kinds.OneSet None) f)
   | inr h ↦
-      let found = by_leading rs leading (leading_of rs) refl (rw h at e) in
-      let divides = (fewest rs leading found).divides in
-      let are = rest_are leading (drop leading rs) (none_is (flaw_of rs leading) divides) in
-      let beyond = drop leading rs in
-      let by_them : divided_by rs (leading_of rs) ≡ Sets leading = rw h at e in
-      let sure = are_sure (take leading rs) beyond (no_doubt (doubt_flaw rs leading) leading leading
-      (ap (λ (o : Option ℕ). divided_by rs o) (sym found) ∙ by_them)) in
+      let more = leb-false (length (rest_of rs)) leading h in
+      let long = length-drop leading (rest_of rs) in
+      (omega (arith, more, long), rw h at e)
+]
+
+pub divided_sets : (stated : Stated) (rs : List Sight) (place : ℕ)
+    → divided stated rs ≡ Sets place → DividedSets stated rs place
+divided_sets stated rs place e = elim (cases_Bool (has_no_sets rs)) [
+  | inl h ↦ let f : NoSets ≡ Sets place = rw h at e in cc
+  | inr h ↦
+      let found = by_leading stated rs place (leading_of rs) refl (rw h at e) in
+      let leading = found.leading in
+      let rest = drop leading (rest_of rs) in
+      let twos = seconds_of rs in
+      let right = cut_right rs leading (none_is (flaw_of rs leading)
+      (fewest rs leading found.fewest).divides) in
+      let at = place_of twos leading rs in
+      let none = all_none (
+      sets_flaw (first_cut (starts_of rest) rest) 0 (cut_end (starts_of rest) rest)
+      (starts_of rest) rest
+      ∷ flaw_found kinds.FaceMissing (unknown_in twos (take (cut_end (starts_of rest) rest)
+      (drop at rs)))
+      ∷ flaw_when (nat_lt (length (starts_of rest)) 2
+      && not (may_lead rest (take leading (rest_of rs)) at)) kinds.OneSet (slice_get rest 0)
+      ∷ []) right.1 in
+      let clean = none_found kinds.FaceMissing (unknown_in twos
+      (take (cut_end (starts_of rest) rest) (drop at rs))) none.1.0 in
+      let sets = has_sets twos (take at rs) (drop at rs) rest (known_after twos leading rs)
+      (ap seconds_of (sym (take-append-drop at rs))) none.0 clean right.0 in
       record {
-        some = are.some;
-        few = are.few;
-        each = are.each;
-        single = sure.single;
-        known = all_known (first_set (starts_of beyond) beyond) (sets_of beyond) are.each
-            sure.strangers;
-        in_order = sym (take-append-drop leading rs)
-            ∙ ap (λ xs. take leading rs ++ xs) (sym (take-append-drop (end_in beyond) beyond)
-            ∙ ap (λ xs. xs ++ drop (end_in beyond) beyond) (sym are.same));
+        before = take leading (rest_of rs);
+        rest = rest;
+        wrong = none.0;
+        sets = subst (λ (k : ℕ). HasSets (drop k rs) rest) found.place_is sets;
+        known = all_known (first_cut (starts_of rest) rest) (cut_of rest) sets.each
+            (no_strangers stated (take leading (rest_of rs)) rest found.sure);
+        sure = found.sure;
       }
 ]
+
+-- Where sets are recognized, they are sets.
+pub sets_in_words : (stated : Stated) (rs : List Sight) (leading : ℕ)
+    → divided stated rs ≡ Sets leading → AreSets rs leading
+sets_in_words stated rs leading e =
+    let r = divided_sets stated rs leading e in
+    let all = r.sets in
+    let beyond = drop leading rs in
+    record {
+      some = subst (λ (l : List (List Sight)). 1 ≤ length l) (sym all.sets) all.some;
+      few = subst (λ (l : List (List Sight)). length l ≤ MOST_SETS) (sym all.sets) all.few;
+      each = subst (λ (l : List (List Sight)). All ReadsEachOnce l) (sym all.sets) all.each;
+      known = subst (λ (l : List (List Sight)). All (λ set. is_mostly_known
+          (first_set (starts_of beyond) beyond) set ≡ true) l) (sym all.sets)
+          (subst (λ (f : List Sight). All (λ set. is_mostly_known f set ≡ true) (cut_of r.rest))
+          (sym all.first) r.known);
+      in_order = sym (take-append-drop leading rs)
+          ∙ ap (λ xs. take leading rs ++ xs) (sym (take-append-drop (end_in beyond) beyond)
+          ∙ ap (λ xs. xs ++ drop (end_in beyond) beyond)
+          (sym (ap one_after_another all.sets ∙ all.same)));
+    }

@@ -61,20 +61,18 @@ no_set_up false b h = rw h (by (is_measurement (role_of b))) where
 pub adds_sight : (stated : Bool) (b : GsiBlock) (number : ℕ) (old new : Readings) (r : Reading)
     → role_of b ≡ Measurement → read b ≡ Ok (Some r)
     → new.station ≡ old.station → new.marking ≡ old.marking
-    → new.flaw ≡ old.flaw
     → new.sights.items ≡ old.sights.items ++ record {
       block = number;
       wide = b.width == 16;
       target = r.target;
       second = nat_lt HALF_CIRCLE r.angles.zenith && nat_lt r.angles.zenith CIRCLE;
     } ∷ [] → new.blocks ≡ number → Adds stated b number old new
-adds_sight stated b number old new r role e station marking flaw sights blocks = record {
+adds_sight stated b number old new r role e station marking sights blocks = record {
   adds = rw (no_set_up stated b (with_direction b r e)) (record {
     station = station;
     sights = sights ∙ ap (λ (l : List Sight). old.sights.items ++ l)
         (sym (sight_is number b r role e));
     marking = marking;
-    flaw = flaw;
   });
   blocks = blocks;
 }
@@ -88,15 +86,14 @@ no_set_up_line false b e = e
 pub adds_none : (stated : Bool) (b : GsiBlock) (number : ℕ) (old new : Readings)
     → has_direction b ≡ false → sets_up b ≡ false
     → new.station ≡ old.station → new.marking ≡ old.marking
-    → new.flaw ≡ old.flaw → new.sights.items ≡ old.sights.items
+    → new.sights.items ≡ old.sights.items
     → new.blocks ≡ number → Adds stated b number old new
-adds_none stated b number old new e sets station marking flaw sights blocks = record {
+adds_none stated b number old new e sets station marking sights blocks = record {
   adds = rw (no_set_up_line stated b sets) (record {
     station = station;
     sights = sights ∙ sym (ap (λ (l : List Sight). old.sights.items ++ l)
         (let none : sight_in number b ≡ [] = rw e refl in none) ∙ append-nil old.sights.items);
     marking = marking;
-    flaw = flaw;
   });
   blocks = blocks;
 }

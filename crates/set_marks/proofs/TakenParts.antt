@@ -20,6 +20,7 @@ use Rattle.gsi_file.proofs.Finding.{file_too_long, line_too_long}
 use Rattle.set_marks.specs.declared.fault.MarkFault.{MarkFault}
 use Rattle.set_marks.specs.declared.fault.MarkFault.TheVariants.{File, Reading, At, Memory}
 use Rattle.set_marks.specs.declared.readings.Readings.{Readings}
+use Rattle.set_marks.specs.declared.stated.Stated.{Stated}
 use Rattle.set_marks.specs.declared.walk.Walk.{Walk}
 use Rattle.set_marks.specs.Stations.{is_stated}
 use Rattle.set_marks.specs.Keeping.{AnswersReadings}
@@ -75,13 +76,14 @@ over_part left n used rest fails first short lt (inr two) inside fits =
     ∙ ap (λ (k : ℕ). answers_within (left - used) (drop k rest) fails) (omega (arith, e)))
 
 -- A part is taken.
-pub part_taken : (b : Bool) (station : Option (List ℕ)) (first answers next : FileAnswers)
+pub part_taken : (b : Bool) (station : Option (List ℕ)) (stated : Stated)
+    (first answers next : FileAnswers)
     (at : ℕ) (part : List ℕ) (old new : Walk) → is_line part ≡ b
     → TakesPart b (is_stated station) at part old new → new.number ≤ LONGEST_FILE
     → answers ≡ with_line part next
-    → AreTaken station first (coming old.number answers) old.readings old.fault
-    → AreTaken station first (coming new.number next) new.readings new.fault
-part_taken true station first answers next at part old new line takes fits is taken =
+    → AreTaken station stated first (coming old.number answers) old.readings old.fault
+    → AreTaken station stated first (coming new.number next) new.readings new.fault
+part_taken true station stated first answers next at part old new line takes fits is taken =
     let gives : GivesLine (coming old.number answers) (coming new.number next) new.number
     takes.block = record {
       line = part;
@@ -94,16 +96,17 @@ part_taken true station first answers next at part old new line takes fits is ta
       limited = fits;
       after = refl;
     } in
-    line_taken station first (coming old.number answers) (coming new.number next) old.readings
+    line_taken station stated first (coming old.number answers)
+    (coming new.number next) old.readings
     new.readings old.fault new.fault new.number takes.block taken gives takes.fault takes.adds
-part_taken false station first answers next at part old new line takes fits is taken =
+part_taken false station stated first answers next at part old new line takes fits is taken =
     let same : answers ≡ next = is ∙ ap (λ (t : Bool). record {
       lines = cond t (part ∷ next.lines) next.lines;
       last = next.last;
     }) line in
-    subst (λ (w : Walk). AreTaken station first (coming w.number next) w.readings w.fault)
+    subst (λ (w : Walk). AreTaken station stated first (coming w.number next) w.readings w.fault)
     (sym takes)
-    (subst (λ (a : FileAnswers). AreTaken station first (coming old.number a) old.readings
+    (subst (λ (a : FileAnswers). AreTaken station stated first (coming old.number a) old.readings
     old.fault) same taken)
 
 -- The last part of a file that ends.
@@ -115,54 +118,64 @@ last_part left rest plain short fits = answers_end left rest plain short fits
 at_end : (number : ℕ) → GivesEnd (coming number (only None)) (coming number (only None))
 at_end number = record { here = refl; after = refl }
 
-pub whole_taken : (station : Option (List ℕ)) (first : FileAnswers) (number : ℕ) (r : Readings)
-    → AreTaken station first (coming number (only None)) r None
-    → AnswersReadings station first (Ok r)
-whole_taken station first number r taken = all_taken station first (coming number (only None))
+pub whole_taken : (station : Option (List ℕ)) (stated : Stated) (first : FileAnswers) (number : ℕ)
+    (r : Readings)
+    → AreTaken station stated first (coming number (only None)) r None
+    → AnswersReadings station stated first (Ok r)
+whole_taken station stated first number r taken = all_taken station stated first (coming number
+    (only None))
     (coming number (only None)) r taken (at_end number)
 
-pub fault_found : (station : Option (List ℕ)) (first : FileAnswers) (number : ℕ) (r : Readings)
-    (e : MarkFault) → AreTaken station first (coming number (only None)) r (Some e)
-    → AnswersReadings station first (Err e)
-fault_found station first number r e taken = fault_taken station first (coming number (only None))
+pub fault_found : (station : Option (List ℕ)) (stated : Stated) (first : FileAnswers) (number : ℕ)
+    (r : Readings)
+    (e : MarkFault) → AreTaken station stated first (coming number (only None)) r (Some e)
+    → AnswersReadings station stated first (Err e)
+fault_found station stated first number r e taken = fault_taken station stated first (coming number
+    (only None))
     (coming number (only None)) r e taken (at_end number)
 
 -- A fault of the file comes.
-pub refused_for : (station : Option (List ℕ)) (first answers : FileAnswers) (number : ℕ)
+pub refused_for : (station : Option (List ℕ)) (stated : Stated) (first answers : FileAnswers)
+    (number : ℕ)
     (r : Readings) (f : Option MarkFault) (kind : FileKind) → number + 1 ≤ LONGEST_FILE
-    → answers ≡ only (Some kind) → AreTaken station first (coming number answers) r f
-    → AnswersReadings station first (Err (File (file.At (number + 1) kind)))
-refused_for station first answers number r f kind fits is taken =
-    file_fault station first (coming number answers) (coming number (only (Some kind))) r f
+    → answers ≡ only (Some kind) → AreTaken station stated first (coming number answers) r f
+    → AnswersReadings station stated first (Err (File (file.At (number + 1) kind)))
+refused_for station stated first answers number r f kind fits is taken =
+    file_fault station stated first (coming number answers) (coming number (only (Some kind))) r f
     (number + 1) kind taken
     (record { here = inl is; counted = refl; limited = fits; after = refl })
 
 -- The next line has a fault.
-pub refused_at : (station : Option (List ℕ)) (first answers next : FileAnswers) (number : ℕ)
+pub refused_at : (station : Option (List ℕ)) (stated : Stated) (first answers next : FileAnswers)
+    (number : ℕ)
     (part : List ℕ) (r : Readings) (f : Option MarkFault) (e : MarkFault)
     → number + 1 ≤ LONGEST_FILE → is_line part ≡ true → answers ≡ with_line part next
-    → IsLineRefusal part (number + 1) e → AreTaken station first (coming number answers) r f
-    → AnswersReadings station first (Err e)
-refused_at station first answers next number part r f (File (file.At n kind)) fits line is fault
+    → IsLineRefusal part (number + 1) e → AreTaken station stated first (coming number answers) r f
+    → AnswersReadings station stated first (Err e)
+refused_at station stated first answers next number part r f (File
+    (file.At n kind)) fits line is fault
     taken =
     let lines : answers.lines ≡ part ∷ next.lines =
     ap (λ (a : FileAnswers). a.lines) is
     ∙ ap (λ (t : Bool). cond t (part ∷ next.lines) next.lines) line in
-    subst (λ (k : ℕ). AnswersReadings station first (Err (File (file.At k kind)))) (sym fault.0)
-    (file_fault station first (coming number answers) (coming number (only (Some kind))) r f
+    subst (λ (k : ℕ). AnswersReadings station stated first (Err (File (file.At k kind))))
+    (sym fault.0)
+    (file_fault station stated first (coming number answers) (coming number (only (Some kind))) r f
     (number + 1) kind taken (record {
       here = inr (part, next.lines, lines, fault.1);
       counted = refl;
       limited = fits;
       after = refl;
     }))
-refused_at station first answers next number part r f (File file.Memory) fits line is fault taken =
+refused_at station stated first answers next number part r f (File file.Memory) fits line is fault
+    taken =
     absurd fault
-refused_at station first answers next number part r f (Reading n kind) fits line is fault taken =
+refused_at station stated first answers next number part r f (Reading n kind) fits line is fault
+    taken =
     absurd fault
-refused_at station first answers next number part r f (At n kind) fits line is fault taken =
+refused_at station stated first answers next number part r f (At n kind) fits line is fault taken =
     absurd fault
-refused_at station first answers next number part r f Memory fits line is fault taken = tt
+refused_at station stated first answers next number part r f Memory fits line is fault taken = tt
 
 -- A limit is broken.
 abbrev told : Bool → Told

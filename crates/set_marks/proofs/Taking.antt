@@ -24,6 +24,7 @@ use Rattle.set_marks.specs.declared.fault.MarkFault.{MarkFault}
 use Rattle.set_marks.specs.declared.fault.MarkFault.TheVariants.{File, Reading, At, Memory}
 use Rattle.set_marks.specs.declared.fault.MarkKind.TheVariants as kinds
 use Rattle.set_marks.specs.declared.readings.Readings.{Readings}
+use Rattle.set_marks.specs.declared.stated.Stated.{Stated}
 use Rattle.set_marks.specs.Stations.{SetUp, begun, is_stated, is_two_lines, reading_fault}
 use Rattle.set_marks.specs.Stations.{fault_as, block_fault, own_fault, fault_of_blocks}
 use Rattle.set_marks.specs.Stations.{tells_set_up}
@@ -33,8 +34,8 @@ use Rattle.set_marks.proofs.EndedStations.{keeps_next}
 
 -- The lines of a file up to some place are blocks, and this is kept of them, or is the fault of the
 -- first that has one by itself.
-pub record AreTaken (station : Option (List ℕ)) (first : FileAnswers) (t : ToCome) (r : Readings)
-    (fault : Option MarkFault) : Type 0 where
+pub record AreTaken (station : Option (List ℕ)) (stated : Stated) (first : FileAnswers)
+    (t : ToCome) (r : Readings) (fault : Option MarkFault) : Type 0 where
   pub h : History
   pub done : List (List ℕ)
   pub left : FileAnswers
@@ -43,12 +44,14 @@ pub record AreTaken (station : Option (List ℕ)) (first : FileAnswers) (t : ToC
   pub each : AllZip IsBlock done (reverse h)
   pub number : t.number ≡ length h
   pub fault_is : fault ≡ fault_of_blocks station h
-  pub kept : fault ≡ None → Keeps station h r
+  pub kept : fault ≡ None → Keeps station stated h r
 
 -- Before the first line.
-pub none_taken : (station : Option (List ℕ)) (first : FileAnswers) (t : ToCome) (r : Readings)
-    → t.answers ≡ Some first → t.number ≡ 0 → Keeps station [] r → AreTaken station first t r None
-none_taken station first t r here number kept = record {
+pub none_taken : (station : Option (List ℕ)) (stated : Stated) (first : FileAnswers) (t : ToCome)
+    (r : Readings)
+    → t.answers ≡ Some first → t.number ≡ 0 → Keeps station stated [] r
+    → AreTaken station stated first t r None
+none_taken station stated first t r here number kept = record {
   h = [];
   done = [];
   left = first;
@@ -94,14 +97,15 @@ same_block_fault stated ss ts number b e =
     (same_fault (role_of b) stated ss ts number b e)
 
 -- The fault, whatever was kept where there was one already.
-next_fault : (station : Option (List ℕ)) (h : History) (r : Readings) (b : GsiBlock) (number : ℕ)
-    (f : Option MarkFault) → f ≡ fault_of_blocks station h → (f ≡ None → Keeps station h r)
+next_fault : (station : Option (List ℕ)) (stated : Stated) (h : History) (r : Readings)
+    (b : GsiBlock) (number : ℕ)
+    (f : Option MarkFault) → f ≡ fault_of_blocks station h → (f ≡ None → Keeps station stated h r)
     → number ≡ length h + 1
     → first_of (f ∷ block_fault (is_stated station) (begun_in r.station) number b ∷ [])
     ≡ fault_of_blocks station (b ∷ h)
-next_fault station h r b number (Some e) is kept counted =
+next_fault station stated h r b number (Some e) is kept counted =
     ap (λ o. first_of (o ∷ own_fault station h b ∷ [])) is
-next_fault station h r b number None is kept counted =
+next_fault station stated h r b number None is kept counted =
     let k = (kept refl).begun in
     rw (
       same_block_fault (is_stated station) (begun_in r.station) (begun station h) number b k,
@@ -125,13 +129,14 @@ one_more R (a ∷ xs) [] x y h r = absurd h
 one_more R (a ∷ xs) (b ∷ ys) x y h r = (h.0, one_more R xs ys x y h.1 r)
 
 -- One line more.
-pub line_taken : (station : Option (List ℕ)) (first : FileAnswers) (t t' : ToCome) (r r' : Readings)
+pub line_taken : (station : Option (List ℕ)) (stated : Stated) (first : FileAnswers) (t t' : ToCome)
+    (r r' : Readings)
     (f f' : Option MarkFault) (number : ℕ) (b : GsiBlock)
-    → AreTaken station first t r f → GivesLine t t' number b
+    → AreTaken station stated first t r f → GivesLine t t' number b
     → f' ≡ first_of (f ∷ block_fault (is_stated station) (begun_in r.station) number b ∷ [])
     → (f' ≡ None → Adds (is_stated station) b number r r')
-    → AreTaken station first t' r' f'
-line_taken station first t t' r r' f f' number b taken gives is adds =
+    → AreTaken station stated first t' r' f'
+line_taken station stated first t t' r r' f f' number b taken gives is adds =
     let counted : number ≡ length taken.h + 1 = gives.counted ∙ ap (λ n. n + 1) taken.number in
     let takes : TakesLine (Some taken.left) t'.answers gives.line =
     subst (λ (o : Option FileAnswers). TakesLine o t'.answers gives.line) taken.here gives.takes in
@@ -149,16 +154,19 @@ line_taken station first t t' r r' f f' number b taken gives is adds =
           (sym (reverse-append (b ∷ []) taken.h))
           (one_more IsBlock taken.done (reverse taken.h) gives.line b taken.each gives.is_block);
       number = gives.after ∙ counted ∙ omega arith;
-      fault_is = is ∙ next_fault station taken.h r b number f taken.fault_is taken.kept counted;
-      kept = λ e. keeps_next station taken.h b r r' (taken.kept (none_before f _ (sym is ∙ e)))
+      fault_is = is ∙ next_fault station stated taken.h r b number f taken.fault_is taken.kept
+          counted;
+      kept = λ e. keeps_next station stated taken.h b r r' (taken.kept (none_before f _
+          (sym is ∙ e)))
           (subst (λ n. Adds (is_stated station) b n r r') counted (adds e));
     }
 
 -- At the end of the file.
-are_blocks : (station : Option (List ℕ)) (first : FileAnswers) (t t' : ToCome) (r : Readings)
-    (f : Option MarkFault) (taken : AreTaken station first t r f) → GivesEnd t t'
+are_blocks : (station : Option (List ℕ)) (stated : Stated) (first : FileAnswers) (t t' : ToCome)
+    (r : Readings)
+    (f : Option MarkFault) (taken : AreTaken station stated first t r f) → GivesEnd t t'
     → AreBlocks first taken.h
-are_blocks station first t t' r f taken end =
+are_blocks station stated first t t' r f taken end =
     let over : taken.left ≡ only None =
     subst (λ (o : Option FileAnswers). IfSome o (λ a. a ≡ only None)) taken.here end.here in
     let whole : first.lines ≡ taken.done = ap (λ (a : FileAnswers). a.lines) taken.split
@@ -169,11 +177,12 @@ are_blocks station first t t' r f taken end =
           taken.each;
     }
 
-pub all_taken : (station : Option (List ℕ)) (first : FileAnswers) (t t' : ToCome) (r : Readings)
-    → AreTaken station first t r None → GivesEnd t t' → AreReadings station first r
-all_taken station first t t' r taken end = record {
+pub all_taken : (station : Option (List ℕ)) (stated : Stated) (first : FileAnswers) (t t' : ToCome)
+    (r : Readings)
+    → AreTaken station stated first t r None → GivesEnd t t' → AreReadings station stated first r
+all_taken station stated first t t' r taken end = record {
   blocks = taken.h;
-  are_blocks = are_blocks station first t t' r None taken end;
+  are_blocks = are_blocks station stated first t t' r None taken end;
   clean = sym taken.fault_is;
   kept = taken.kept refl;
 }
@@ -222,28 +231,31 @@ no_file_fault station (b ∷ h) x e = no_file_fault_first (fault_of_blocks stati
     (own_fault station h b) x (no_file_fault station h x)
     (no_file_fault_of_block (is_stated station) (begun station h) (length h + 1) b x) e
 
-pub fault_taken : (station : Option (List ℕ)) (first : FileAnswers) (t t' : ToCome) (r : Readings)
-    (e : MarkFault) → AreTaken station first t r (Some e) → GivesEnd t t'
-    → AnswersReadings station first (Err e)
-fault_taken station first t t' r (Reading n k) taken end = record {
+pub fault_taken : (station : Option (List ℕ)) (stated : Stated) (first : FileAnswers)
+    (t t' : ToCome) (r : Readings)
+    (e : MarkFault) → AreTaken station stated first t r (Some e) → GivesEnd t t'
+    → AnswersReadings station stated first (Err e)
+fault_taken station stated first t t' r (Reading n k) taken end = record {
   blocks = taken.h;
-  are_blocks = are_blocks station first t t' r (Some (Reading n k)) taken end;
+  are_blocks = are_blocks station stated first t t' r (Some (Reading n k)) taken end;
   fault_is = sym taken.fault_is;
 }
-fault_taken station first t t' r (At n k) taken end = record {
+fault_taken station stated first t t' r (At n k) taken end = record {
   blocks = taken.h;
-  are_blocks = are_blocks station first t t' r (Some (At n k)) taken end;
+  are_blocks = are_blocks station stated first t t' r (Some (At n k)) taken end;
   fault_is = sym taken.fault_is;
 }
-fault_taken station first t t' r (File x) taken end =
+fault_taken station stated first t t' r (File x) taken end =
     absurd (no_file_fault station taken.h x (sym taken.fault_is))
-fault_taken station first t t' r Memory taken end = tt
+fault_taken station stated first t t' r Memory taken end = tt
 
 -- At a fault of the file.
-pub file_fault : (station : Option (List ℕ)) (first : FileAnswers) (t t' : ToCome) (r : Readings)
+pub file_fault : (station : Option (List ℕ)) (stated : Stated) (first : FileAnswers) (t t' : ToCome)
+    (r : Readings)
     (f : Option MarkFault) (number : ℕ) (kind : FileKind)
-    → AreTaken station first t r f → GivesFault t t' number kind → IsFileFault first number kind
-file_fault station first t t' r f number kind taken gives = record {
+    → AreTaken station stated first t r f → GivesFault t t' number kind
+    → IsFileFault first number kind
+file_fault station stated first t t' r f number kind taken gives = record {
   blocks = taken.h;
   lines = taken.done;
   left = taken.left;
@@ -255,12 +267,13 @@ file_fault station first t t' r f number kind taken gives = record {
 }
 
 -- A fault of the file, as it is answered.
-pub file_refused : (station : Option (List ℕ)) (first : FileAnswers) (t t' : ToCome) (r : Readings)
-    (f : Option MarkFault) (fault : FileFault) → AreTaken station first t r f
-    → Answers t (Err fault) t' → AnswersReadings station first (Err (File fault))
-file_refused station first t t' r f (file.At number kind) taken gives =
-    file_fault station first t t' r f number kind taken gives
-file_refused station first t t' r f file.Memory taken gives = absurd gives
+pub file_refused : (station : Option (List ℕ)) (stated : Stated) (first : FileAnswers)
+    (t t' : ToCome) (r : Readings)
+    (f : Option MarkFault) (fault : FileFault) → AreTaken station stated first t r f
+    → Answers t (Err fault) t' → AnswersReadings station stated first (Err (File fault))
+file_refused station stated first t t' r f (file.At number kind) taken gives =
+    file_fault station stated first t t' r f number kind taken gives
+file_refused station stated first t t' r f file.Memory taken gives = absurd gives
 
 -- What is so of all answers that are told.
 pub for_told : (o : Option FileAnswers) (P : FileAnswers → Type 0)

@@ -39,13 +39,13 @@ places_from at (r ∷ rs) = at ∷ places_from (suc at) rs
 abbrev pub was_read : List Sight → List ℕ → Bool
 was_read rs name = list_any (is_of name) (take (last_place (starts_of rs)) rs)
 
--- Where the last of several sets ends: right after a reading of a target that a set before it has;
--- and no reading after that is of such a target.
-pub record EndsLastSet (rs : List Sight) : Type 0 where
+-- The last set ends right after a reading of a target of which this is so; and no reading after
+-- that is of such a target.
+pub record EndsLastSet (known : List ℕ → Bool) (rs : List Sight) : Type 0 where
   pub front : List Sight
   pub last : Sight
   pub after : List Sight
   pub readings : rs ≡ front ++ last ∷ after
   pub end : end_in rs ≡ length front + 1
-  pub known : was_read rs last.target ≡ true
-  pub strange : All (λ r. was_read rs r.target ≡ false) after
+  pub is_known : known last.target ≡ true
+  pub strange : All (λ r. known r.target ≡ false) after

@@ -23,12 +23,16 @@ mark_kind_name kind.TooManySets = codes "TooManySets"
 mark_kind_name kind.OneSet = codes "OneSet"
 mark_kind_name kind.FirstFace = codes "FirstFace"
 mark_kind_name kind.MayBeShifted = codes "MayBeShifted"
-mark_kind_name kind.OneSetByTargets = codes "OneSetByTargets"
+mark_kind_name kind.PairAfter = codes "PairAfter"
 mark_kind_name kind.OtherTargets = codes "OtherTargets"
+mark_kind_name kind.SightsItself = codes "SightsItself"
 mark_kind_name kind.StationTwice = codes "StationTwice"
 mark_kind_name kind.TooManyStations = codes "TooManyStations"
 mark_kind_name kind.NameTooLong = codes "NameTooLong"
 mark_kind_name kind.NoSets = codes "NoSets"
+mark_kind_name kind.ByTargets = codes "ByTargets"
+mark_kind_name kind.SetCount = codes "SetCount"
+mark_kind_name kind.TargetCount = codes "TargetCount"
 
 -- The name of a fault, or that memory ran out.
 abbrev pub mark_fault_name : MarkFault → List ℕ

@@ -1,5 +1,5 @@
--- How many leading readings the code finds to stand outside, or what is wrong where no number will
--- do.
+-- How many leading readings that are no details the code finds to stand outside, or what is wrong
+-- where no number will do.
 use Rattle.std.specs.Prelude.{◌≡◌, List, Some, None}
 use Rattle.set_marks.specs.declared.sight.Sight.{Sight}
 use Rattle.set_marks.specs.declared.division.Leading.{Leading}

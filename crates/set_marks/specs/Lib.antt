@@ -1,12 +1,16 @@
 -- The public definitions, in the order in which a reader needs them.
 pub mod Stations
+pub mod Numbers
 pub mod Divisions
 pub mod SetsInWords
 pub mod BeginsAndEnds
 pub mod Fewest
-pub mod Marking
+pub mod Remarks
 pub mod Lines
 pub mod Marks
+pub mod Judging
+pub mod Marking
+pub mod Stated
 pub mod Placing
 pub mod Copies
 pub mod Unmarked

@@ -11,9 +11,11 @@ use Rattle.set_marks.specs.declared.division.Divided.{Divided}
 use Rattle.set_marks.specs.declared.division.Divided.TheVariants.{Sets}
 use Rattle.set_marks.specs.declared.mark.BlockMark.{BlockMark}
 use Rattle.set_marks.specs.declared.sight.Sight.{Sight}
-use Rattle.set_marks.specs.Stations.{Occupation, stations_of}
-use Rattle.set_marks.specs.Divisions.{divided, sets_of, end_in}
+use Rattle.set_marks.specs.declared.stated.Stated.{Stated}
+use Rattle.set_marks.specs.Stations.{Occupation}
+use Rattle.set_marks.specs.Divisions.{sets_of, end_in}
 use Rattle.set_marks.specs.Marks.{code_block}
+use Rattle.set_marks.specs.Judging.{judged_of}
 use Rattle.set_marks.specs.Marking.{marks_of}
 use Rattle.set_marks.specs.MarkedBlocks.{grown}
 use Rattle.set_marks.specs.Found.{Found, found_in, HasNoFaultOfCodes}
@@ -28,12 +30,12 @@ with_codes marks n [] = []
 with_codes marks n (b ∷ bs) = codes_before marks n ++ (b ∷ with_codes marks (suc n) bs)
 
 -- the blocks of the copy of a file, in their order
-abbrev pub copy_blocks : Option (List ℕ) → History → List GsiBlock
-copy_blocks station h = with_codes (marks_of station h) 1 (reverse h)
+abbrev pub copy_blocks : Option (List ℕ) → Stated → History → List GsiBlock
+copy_blocks station stated h = with_codes (marks_of station stated h) 1 (reverse h)
 
 -- the history of the copy, whose newest block comes first
-abbrev pub copy_history : Option (List ℕ) → History → History
-copy_history station h = grown [] (copy_blocks station h)
+abbrev pub copy_history : Option (List ℕ) → Stated → History → History
+copy_history station stated h = grown [] (copy_blocks station stated h)
 
 -- one place for each of these readings
 abbrev pub for_each : Option Found → List Sight → List (Option Found)
@@ -54,18 +56,21 @@ in_station s (Sets leading) =
 in_station s d = for_each None s.sights
 
 -- where the readings of a file are to be found, in the file's order
-abbrev pub in_file : Option (List ℕ) → History → List (Option Found)
-in_file station h = flat_map (λ s. in_station s (divided s.sights)) (stations_of station h)
+abbrev pub in_file : Option (List ℕ) → Stated → History → List (Option Found)
+in_file station stated h =
+    flat_map (λ j. in_station j.station j.division) (judged_of station stated h)
 
 -- These are the blocks of the numbered lines of some bytes, the newest first.
 abbrev pub AreBlocksOf : List ℕ → History → Type 0
 AreBlocksOf bytes h = AllZip IsBlock (numbered_lines bytes) (reverse h)
 
 -- The book finds in the blocks of a copy what the division says of the file: each reading of a set
--- at its station and in its set, by their name and number, and each other reading in no set. No
+-- at its station and in its set, by their name and number, and each other reading in no set, those
+-- of a station with a fault too. No
 -- block, and not the end, has a fault that comes of the code lines: so no set is empty, and each
 -- has its readings in both faces.
-pub record IsFoundAsDivided (station : Option (List ℕ)) (h copy : History) : Type 0 where
-  pub found : found_in copy ≡ in_file station h
+pub record IsFoundAsDivided (station : Option (List ℕ)) (stated : Stated) (h copy : History)
+    : Type 0 where
+  pub found : found_in copy ≡ in_file station stated h
   pub faults : (limits : FaceLimits) → HasNoFaultOfCodes limits copy
   pub end : fault_at_end copy ≡ None

@@ -1,13 +1,13 @@
--- What is put into a field file, and what is told of it, by its blocks alone (profile).
-use Rattle.std.specs.Prelude.{ℕ, suc, ◌+◌, ◌-◌, Bool, false, ◌&&◌, List, [], ◌∷◌, ◌++◌, length}
-use Rattle.std.specs.Prelude.{drop, if◌then◌else◌, Option, Some, None, is_none, nat_le, nat_lt}
+-- What is put into a field file, what is told of it, and what it is refused for, by its blocks
+-- alone (profile).
+use Rattle.std.specs.Prelude.{ℕ, suc, ◌-◌, ◌==◌, Bool, true, false, ◌&&◌, not, List, [], ◌∷◌, ◌++◌}
+use Rattle.std.specs.Prelude.{length, drop, if◌then◌else◌, Option, Some, None, is_none, nat_lt}
 use Rattle.std.specs.Prelude.{slice_get}
-use Rattle.station_book.specs.declared.bounds.TheConstants.{MOST_STATIONS}
-use Rattle.station_book.specs.Places.{History, is_among, is_empty}
+use Rattle.std.specs.List.{list_any}
+use Rattle.station_book.specs.Places.{History, is_empty}
 use Rattle.station_book.specs.Faults.{first_of}
-use Rattle.set_marks.specs.declared.fault.MarkFault.{MarkFault}
-use Rattle.set_marks.specs.declared.fault.MarkFault.TheVariants.{At}
 use Rattle.set_marks.specs.declared.flaw.Flaw.{Flaw}
+use Rattle.set_marks.specs.declared.fault.MarkKind.{MarkKind}
 use Rattle.set_marks.specs.declared.fault.MarkKind.TheVariants as kinds
 use Rattle.set_marks.specs.declared.division.Divided.{Divided}
 use Rattle.set_marks.specs.declared.division.Divided.TheVariants.{NoSets, Sets, Flawed}
@@ -16,55 +16,11 @@ use Rattle.set_marks.specs.declared.mark.Code.TheVariants.{Station, Set, Close}
 use Rattle.set_marks.specs.declared.mark.BlockMark.{BlockMark}
 use Rattle.set_marks.specs.declared.recognized.Recognized.{Recognized}
 use Rattle.set_marks.specs.declared.sight.Sight.{Sight}
-use Rattle.set_marks.specs.Marks.{width_of}
-use Rattle.set_marks.specs.Stations.{Occupation, stations_of, fault_of_blocks}
-use Rattle.set_marks.specs.Divisions.{divided, starts_of, end_in, part, targets_of, flaw_when}
-
--- the name has no room in the width of the line of the reading at this place
-abbrev pub is_too_long : List ℕ → Option Sight → Bool
-is_too_long name None = false
-is_too_long name (Some r) = nat_lt (width_of r.wide) (length name)
-
--- The fault of a station, after the stations of these names that have sets: what is wrong with its
--- readings; or, where they are sets, that its name was had, that there are 1,000 stations, or that
--- its name has no room in a code line.
-abbrev pub station_fault : List (List ℕ) → Occupation → Divided → Option Flaw
-station_fault names s NoSets = None
-station_fault names s (Flawed f) = Some f
-station_fault names s (Sets leading) = first_of (
-    flaw_when (is_among names s.name) kinds.StationTwice (slice_get s.sights 0)
-    ∷ flaw_when (nat_le MOST_STATIONS (length names)) kinds.TooManyStations (slice_get s.sights 0)
-    ∷ flaw_when (is_too_long s.name (slice_get s.sights leading)) kinds.NameTooLong
-    (slice_get s.sights leading)
-    ∷ [])
-
--- the names, and that of a station that has sets
-abbrev pub names_after : List (List ℕ) → Occupation → Divided → List (List ℕ)
-names_after names s (Sets leading) = names ++ s.name ∷ []
-names_after names s d = names
-
--- The fault of the first station that has one, after the stations of these names that have sets;
--- or, where no station has sets, that of the end of the file, with this number.
-abbrev pub fault_of_stations : ℕ → List (List ℕ) → List Occupation → Option Flaw
-fault_of_stations end names [] =
-    if is_empty names then Some (record { block = end; kind = kinds.NoSets }) else None
-fault_of_stations end names (s ∷ ss) = first_of (
-    station_fault names s (divided s.sights)
-    ∷ fault_of_stations end (names_after names s (divided s.sights)) ss
-    ∷ [])
-
--- a flaw, as a fault
-abbrev pub as_fault : Option Flaw → Option MarkFault
-as_fault None = None
-as_fault (Some f) = Some (At f.block f.kind)
-
--- The first fault of a file that has no fault of its lines: that of a block, else that of a
--- station.
-abbrev pub fault_of : Option (List ℕ) → History → Option MarkFault
-fault_of station h = first_of (
-    fault_of_blocks station h
-    ∷ as_fault (fault_of_stations (length h + 1) [] (stations_of station h))
-    ∷ [])
+use Rattle.set_marks.specs.declared.stated.Stated.{Stated}
+use Rattle.set_marks.specs.Stations.{Occupation}
+use Rattle.set_marks.specs.Divisions.{starts_of, end_in, targets_of, in_sets_of, are_by_targets}
+use Rattle.set_marks.specs.Judging.{Judged, judged_of}
+use Rattle.set_marks.specs.Remarks.{remarks_of}
 
 -- a code line before the block of this reading, in the width of its line
 abbrev pub mark_at : Option Sight → Code → List BlockMark
@@ -103,37 +59,88 @@ is_open_after in_set s (Sets leading) =
 is_open_after in_set s d = in_set && is_empty s.sights
 
 -- the code lines of these stations, where a set is open before them or not
-abbrev pub marks_from : Bool → List Occupation → List BlockMark
+abbrev pub marks_from : Bool → List Judged → List BlockMark
 marks_from in_set [] = []
-marks_from in_set (s ∷ ss) =
-    station_marks in_set s (divided s.sights)
-    ++ marks_from (is_open_after in_set s (divided s.sights)) ss
+marks_from in_set (j ∷ js) =
+    station_marks in_set j.station j.division
+    ++ marks_from (is_open_after in_set j.station j.division) js
 
--- The code lines of a file, each with the number of the block before which it stands.
-abbrev pub marks_of : Option (List ℕ) → History → List BlockMark
-marks_of station h = marks_from false (stations_of station h)
+-- The code lines of a file, each with the number of the block before which it stands. A station
+-- with a fault has none of its own, as one without sets.
+abbrev pub marks_of : Option (List ℕ) → Stated → History → List BlockMark
+marks_of station stated h = marks_from false (judged_of station stated h)
+
+-- what is told of a station of which all readings stand outside, with its fault, if it has one
+abbrev pub outside : Occupation → Option Flaw → Recognized
+outside s fault = record {
+  name = s.name;
+  fault = fault;
+  sets = 0;
+  targets = 0;
+  by_targets = false;
+  before = length s.sights;
+  after = 0;
+  remarks = None;
+}
 
 -- what is told of a station
 abbrev pub recognized : Occupation → Divided → Recognized
+recognized s NoSets = outside s None
+recognized s (Flawed f) = outside s (Some f)
 recognized s (Sets leading) = record {
   name = s.name;
+  fault = None;
   sets = length (starts_of (drop leading s.sights));
-  targets = length (targets_of (part 0 (end_in (drop leading s.sights)) (drop leading s.sights)));
+  targets = length (targets_of (in_sets_of leading s.sights));
+  by_targets = are_by_targets (drop leading s.sights);
   before = leading;
   after = length (drop leading s.sights) - end_in (drop leading s.sights);
+  remarks = remarks_of (starts_of (drop leading s.sights)) (in_sets_of leading s.sights)
+      (drop (end_in (drop leading s.sights)) (drop leading s.sights));
 }
-recognized s d =
-    record { name = s.name; sets = 0; targets = 0; before = length s.sights; after = 0 }
 
--- the same; of a station without readings nothing is told
-abbrev pub told_of : Occupation → Divided → List Recognized
-told_of s d = if is_empty s.sights then [] else recognized s d ∷ []
-
--- what is told of these stations
-abbrev pub recognized_from : List Occupation → List Recognized
+-- what is told of these stations, also of one without readings
+abbrev pub recognized_from : List Judged → List Recognized
 recognized_from [] = []
-recognized_from (s ∷ ss) = told_of s (divided s.sights) ++ recognized_from ss
+recognized_from (j ∷ js) = recognized j.station j.division ∷ recognized_from js
 
--- What is told of a file.
-abbrev pub recognized_of : Option (List ℕ) → History → List Recognized
-recognized_of station h = recognized_from (stations_of station h)
+-- What is told of a file: of each station, in the file's order.
+abbrev pub recognized_of : Option (List ℕ) → Stated → History → List Recognized
+recognized_of station stated h = recognized_from (judged_of station stated h)
+
+-- the fault of the first of these stations that has one
+abbrev pub first_fault : List Recognized → Option Flaw
+first_fault [] = None
+first_fault (r ∷ rs) = first_of (r.fault ∷ first_fault rs ∷ [])
+
+-- one of them has sets
+abbrev pub have_sets : List Recognized → Bool
+have_sets rs = list_any (λ r. not (r.sets == 0)) rs
+
+-- of the end of the file, with this number, where no station has sets
+abbrev pub no_sets_fault : ℕ → List Recognized → Option Flaw
+no_sets_fault end rs =
+    if have_sets rs then None else Some (record { block = end; kind = kinds.NoSets })
+
+-- the fault is that a name comes again: this is a doubt about the file, and not about one station
+abbrev pub is_twice_kind : MarkKind → Bool
+is_twice_kind kinds.StationTwice = true
+is_twice_kind kind = false
+
+-- that the station's name was had
+abbrev pub is_twice : Option Flaw → Bool
+is_twice None = false
+is_twice (Some f) = is_twice_kind f.kind
+
+-- It is stated that stations with a fault stay outside, and they may: a station has sets, and no
+-- name comes again.
+abbrev pub may_stay_outside : Stated → List Recognized → Bool
+may_stay_outside stated rs =
+    stated.others && (have_sets rs && not (list_any (λ r. is_twice r.fault) rs))
+
+-- The fault for which a file is refused whose last block has the number before this one, and of
+-- whose stations this is told: that of the first station that has one, or that none has sets.
+abbrev pub refusal : Stated → ℕ → List Recognized → Option Flaw
+refusal stated end rs =
+    if may_stay_outside stated rs then None
+    else first_of (first_fault rs ∷ no_sets_fault end rs ∷ [])

@@ -1,6 +1,6 @@
--- What a field file comes to where codes are to be put in: a copy that has them, or its first
--- fault.
-use Rattle.std.specs.Prelude.{◌≡◌, ℕ, ◌+◌, List, ◌++◌, All, length, reverse, Option, Some}
+-- What a field file comes to where codes are to be put in: a copy that has them, or why there is
+-- none. What is stated of its sets refuses, and never changes a copy.
+use Rattle.std.specs.Prelude.{◌≡◌, ℕ, ◌+◌, List, [], ◌++◌, All, length, reverse, Option, Some}
 use Rattle.std.specs.Prelude.{None, Result, Ok, Err, ⊤}
 use Rattle.std.specs.List.{AllZip}
 use Rattle.gsi_word.specs.Blocks.{IsBlock}
@@ -11,10 +11,16 @@ use Rattle.gsi_file.specs.declared.file_fault.FileFault.TheVariants as file
 use Rattle.station_book.specs.Places.{History}
 use Rattle.set_marks.specs.declared.fault.MarkFault.{MarkFault}
 use Rattle.set_marks.specs.declared.fault.MarkFault.TheVariants.{File, Reading, At, Memory}
+use Rattle.set_marks.specs.declared.flaw.Flaw.{Flaw}
 use Rattle.set_marks.specs.declared.marked.Marked.{Marked}
+use Rattle.set_marks.specs.declared.recognized.Recognized.{Recognized}
+use Rattle.set_marks.specs.declared.refused.Refused.{Refused}
+use Rattle.set_marks.specs.declared.refused.Refused.TheVariants as refused
+use Rattle.set_marks.specs.declared.stated.Stated.{Stated}
+use Rattle.set_marks.specs.Stations.{fault_of_blocks}
 use Rattle.set_marks.specs.Placing.{placed}
 use Rattle.set_marks.specs.Copies.{woven, AreOrdered, BeginsLine, IsMarkedCopy}
-use Rattle.set_marks.specs.Marking.{fault_of, marks_of, recognized_of}
+use Rattle.set_marks.specs.Marking.{marks_of, recognized_of, refusal}
 
 -- The file ended without a fault of its lines, and these are its blocks, the newest first.
 pub record AreBlocks (answers : FileAnswers) (h : History) : Type 0 where
@@ -35,36 +41,63 @@ pub record IsFileFault (answers : FileAnswers) (number : ℕ) (kind : FileKind) 
 abbrev pub copy_of : List ℕ → Marked → List ℕ
 copy_of bytes m = woven 0 bytes m.marks.items
 
--- The file has no fault, these are its code lines, in order, each where a line begins, so that this
--- is its copy, and this is told of its stations.
-pub record IsMarking (station : Option (List ℕ)) (bytes : List ℕ) (answers : FileAnswers)
-    (m : Marked) : Type 0 where
+-- The file has no fault of its lines and blocks, these are its code lines, in order, each where a
+-- line begins, so that this is its copy, and this is told of its stations, for which it isn't
+-- refused.
+pub record IsMarking (station : Option (List ℕ)) (stated : Stated) (bytes : List ℕ)
+    (answers : FileAnswers) (m : Marked) : Type 0 where
   pub blocks : History
   pub are_blocks : AreBlocks answers blocks
-  pub clean : fault_of station blocks ≡ None
-  pub marks : m.marks.items ≡ placed bytes (marks_of station blocks)
+  pub clean : fault_of_blocks station blocks ≡ None
+  pub marks : m.marks.items ≡ placed bytes (marks_of station stated blocks)
   pub ordered : AreOrdered 0 (length bytes) m.marks.items
   pub begin : All (BeginsLine bytes) m.marks.items
-  pub copy : copy_of bytes m ≡ woven 0 bytes (placed bytes (marks_of station blocks))
+  pub copy : copy_of bytes m ≡ woven 0 bytes (placed bytes (marks_of station stated blocks))
   pub identity : IsMarkedCopy bytes (copy_of bytes m)
-  pub told : m.stations.items ≡ recognized_of station blocks
+  pub told : m.stations.items ≡ recognized_of station stated blocks
+  pub unrefused : refusal stated (length blocks + 1) m.stations.items ≡ None
 
--- The file's lines are blocks, and their first fault is this.
-pub record IsMarkFault (station : Option (List ℕ)) (answers : FileAnswers) (fault : MarkFault)
+-- The file's lines are blocks, and this is the fault of the first that has one by itself.
+pub record IsBlockFault (station : Option (List ℕ)) (answers : FileAnswers) (fault : MarkFault)
     : Type 0 where
   pub blocks : History
   pub are_blocks : AreBlocks answers blocks
-  pub fault_is : fault_of station blocks ≡ Some fault
+  pub fault_is : fault_of_blocks station blocks ≡ Some fault
 
--- What is answered: the marking, or the first fault: that of a line, else that of a block or of a
--- station; or that memory ran out.
-abbrev pub AnswersMark : Option (List ℕ) → List ℕ → FileAnswers → Result Marked MarkFault → Type 0
-AnswersMark station bytes answers (Ok m) = IsMarking station bytes answers m
-AnswersMark station bytes answers (Err (File (file.At number kind))) =
-    IsFileFault answers number kind
-AnswersMark station bytes answers (Err (File file.Memory)) = ⊥
-AnswersMark station bytes answers (Err (Reading number kind)) =
-    IsMarkFault station answers (Reading number kind)
-AnswersMark station bytes answers (Err (At number kind)) =
-    IsMarkFault station answers (At number kind)
-AnswersMark station bytes answers (Err Memory) = ⊤
+-- The file has no fault of its lines and blocks, this is told of its stations, of which each is
+-- judged by itself, and for this fault it is refused.
+pub record IsRefused (station : Option (List ℕ)) (stated : Stated) (answers : FileAnswers)
+    (flaw : Flaw) (told : List Recognized) : Type 0 where
+  pub blocks : History
+  pub are_blocks : AreBlocks answers blocks
+  pub clean : fault_of_blocks station blocks ≡ None
+  pub told_is : told ≡ recognized_of station stated blocks
+  pub fault_is : refusal stated (length blocks + 1) told ≡ Some flaw
+
+-- The first fault of the file's lines, or of its blocks by themselves; or memory ran out.
+abbrev pub IsFault : Option (List ℕ) → FileAnswers → MarkFault → Type 0
+IsFault station answers (File (file.At number kind)) = IsFileFault answers number kind
+IsFault station answers (File file.Memory) = ⊥
+IsFault station answers (Reading number kind) = IsBlockFault station answers (Reading number kind)
+IsFault station answers (At number kind) = IsBlockFault station answers (At number kind)
+IsFault station answers Memory = ⊤
+
+-- the fault for which a file is refused
+abbrev pub fault_in : Refused → MarkFault
+fault_in (refused.File fault) = fault
+fault_in (refused.Stations flaw told) = At flaw.block flaw.kind
+
+-- what is told of its stations, where they were judged
+abbrev pub told_in : Refused → List Recognized
+told_in (refused.File fault) = []
+told_in (refused.Stations flaw told) = told.items
+
+-- What is answered: the marking; or the first fault of a line, else of a block; else what is told
+-- of the stations, and the fault for which they are refused; or that memory ran out.
+abbrev pub AnswersMark : Option (List ℕ) → Stated → List ℕ → FileAnswers → Result Marked Refused
+    → Type 0
+AnswersMark station stated bytes answers (Ok m) = IsMarking station stated bytes answers m
+AnswersMark station stated bytes answers (Err (refused.File fault)) =
+    IsFault station answers fault
+AnswersMark station stated bytes answers (Err (refused.Stations flaw told)) =
+    IsRefused station stated answers flaw told.items

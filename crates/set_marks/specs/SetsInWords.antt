@@ -1,11 +1,11 @@
 -- The sets of a station in words.
-use Rattle.std.specs.Prelude.{◌≡◌, ◌≤◌, ℕ, Bool, true, false, ◌&&◌, List, ◌++◌, length, take, drop}
+use Rattle.std.specs.Prelude.{◌≡◌, ◌≤◌, ℕ, Bool, true, ◌&&◌, List, ◌++◌, length, take, drop}
 use Rattle.std.specs.Prelude.{filter, Contains, All}
 use Rattle.std.specs.List.{flat_map}
 use Rattle.adjust_kernel.specs.declared.bounds.TheConstants.{MOST_SETS}
 use Rattle.set_marks.specs.declared.sight.Sight.{Sight}
 use Rattle.set_marks.specs.Divisions.{is_of, is_same_face, sets_of, end_in, starts_of, first_set}
-use Rattle.set_marks.specs.Divisions.{is_one_by_targets, is_mostly_known}
+use Rattle.set_marks.specs.Divisions.{is_mostly_known}
 
 -- The readings of this target in this face.
 abbrev pub readings_in : List ℕ → Bool → List Sight → List Sight
@@ -24,13 +24,12 @@ one_after_another sets = flat_map (λ set. set) sets
 
 -- The readings of a station, of which so many stand outside before its sets. The readings are the
 -- leading ones, then those of the sets, one set after another, and then those after the last set:
--- none is missing, and none is in two sets. There is a set, and there are 40 at most. A single set
--- is not read by targets, and of each set more than half of the targets are targets of the first.
+-- none is missing, and none is in two sets. There is a set, and there are 40 at most. Of each set
+-- more than half of the targets are targets of the first.
 pub record AreSets (rs : List Sight) (leading : ℕ) : Type 0 where
   pub some : 1 ≤ length (sets_of (drop leading rs))
   pub few : length (sets_of (drop leading rs)) ≤ MOST_SETS
   pub each : All ReadsEachOnce (sets_of (drop leading rs))
-  pub single : is_one_by_targets (sets_of (drop leading rs)) ≡ false
   pub known : All (λ set. is_mostly_known
       (first_set (starts_of (drop leading rs)) (drop leading rs)) set ≡ true)
       (sets_of (drop leading rs))

@@ -1,52 +1,60 @@
 //! The division of a station's readings into sets.
 
-ghost use Rattle.std.specs.Prelude.{◌≡◌, ◌≤◌, List, IfOk, None, Some, length, drop, nat_lt};
-ghost use Rattle.std.specs.Prelude.{not, true, ◌&&◌};
+ghost use Rattle.std.specs.Prelude.{◌≡◌, ◌≤◌, ◌+◌, [], List, IfOk, None, Some, length, drop, take};
+ghost use Rattle.std.specs.Prelude.{not, true, ◌&&◌, ◌==◌, is_none};
 ghost use Rattle.std.specs.Bool.{OnTrue};
-ghost use Rattle.std.specs.Str.{bytes_eq};
-ghost use Rattle.std.specs.List.{list_any};
+ghost use Rattle.std.specs.List.{list_all, list_any};
+ghost use Rattle.adjust_kernel.specs.declared.bounds.TheConstants.{MOST_SETS};
 ghost use Rattle.set_marks.specs.declared.sight.Sight.{Sight};
+ghost use Rattle.set_marks.specs.declared.stated.Stated.{Stated};
 ghost use Rattle.set_marks.specs.Leading.{IsLeading};
 ghost use Rattle.set_marks.specs.Searching.{KnowsTargetsOf};
-ghost use Rattle.set_marks.specs.Divisions.{is_of, part, next_of, end_of, end_by, end_in};
-ghost use Rattle.set_marks.specs.Divisions.{starts_of, first_set, sets_flaw, flaw_of, later};
-ghost use Rattle.set_marks.specs.Divisions.{targets_of, begins_in_two};
-ghost use Rattle.set_marks.specs.Divisions.{is_pair, may_be_shifted, last_target, first_target};
-ghost use Rattle.set_marks.specs.Divisions.{divided, parts_at};
-ghost use Rattle.set_marks.specs.Divisions.{is_one_by_targets, known_in, is_mostly_known};
-ghost use Rattle.set_marks.specs.Divisions.{stranger_among, flaw_found, doubt_after, doubt_flaw};
+ghost use Rattle.set_marks.specs.Divisions.{part, next_of, end_of, end_by, cut_end, starts_of};
+ghost use Rattle.set_marks.specs.Divisions.{first_cut, sets_flaw, cut_flaw, flaw_of, later};
+ghost use Rattle.set_marks.specs.Divisions.{targets_of, seconds_of, rest_of, begins_in_two};
+ghost use Rattle.set_marks.specs.Divisions.{are_sights, sighted_before, may_lead};
+ghost use Rattle.set_marks.specs.Divisions.{is_pair, may_be_shifted, reads_end, leads_to_end};
+ghost use Rattle.set_marks.specs.Divisions.{divided, divided_by, divided_unless, leading_of};
+ghost use Rattle.set_marks.specs.Divisions.{parts_at};
+ghost use Rattle.set_marks.specs.Divisions.{is_of, are_by_targets, may_go_on};
+ghost use Rattle.set_marks.specs.Divisions.{known_in, is_mostly_known};
+ghost use Rattle.set_marks.specs.Divisions.{stranger_among, flaw_found, doubt_after};
+ghost use Rattle.set_marks.specs.Divisions.{numbers_flaw};
+ghost use Rattle.set_marks.specs.Numbers.{is_other};
 ghost use Rattle.set_marks.specs.declared.fault.MarkKind.TheVariants.{OtherTargets};
 
-use crate::bounds::MOST_READINGS;
+use crate::bounds::{MOST_READINGS, READINGS_OF_TWO};
+use crate::details::{has_no_sets, known_in, place_of, seconds_of, unknown_in};
 use crate::fault::MarkKind;
-use crate::flaw::{Flaw, flaw_at, flaw_found};
-use crate::known::Known;
+use crate::flaw::{Flaw, first_flaw, flaw_at, flaw_found, flaw_when};
+use crate::known::{Known, count_targets};
 use crate::set::{
-    first_target, front, has_pair, is_by_targets, is_clean, is_in_one_face, last_target,
-    later_flaw, reads_target, repeats, sight_at,
+    are_in_face, are_of, begins_with_pair, first_target, front, has_pair, is_by_targets, is_clean,
+    last_target, later_flaw, reads_target, repeats, sight_at,
 };
 use crate::sight::Sight;
 use crate::starts::{starts, starts_of};
+use crate::stated::{Stated, is_asked, is_other};
 use adjust_kernel::MOST_SETS;
 use std::alloc::{AllocError, Global};
 
 /// What a station's readings are.
 #[derive(Clone, Copy, Debug, PartialEq, Eq, Drop)]
 pub enum Divided {
-    /// All in one face, so that there are no sets.
+    /// None in face II, or a sight back in both faces and detail: there are no sets.
     NoSets,
-    /// Sets, after so many leading readings that stand outside.
+    /// Sets, after so many readings that stand outside.
     Sets(usize),
     /// Something is wrong.
     Flawed(Flaw),
 }
 
-/// How many leading readings stand outside.
+/// How many leading readings stand outside that are no details.
 #[derive(Clone, Copy, Drop)]
 enum Leading {
-    /// So many, and the rest are sets.
+    /// So many, and those after them are sets.
     Divides(usize),
-    /// With none so many are the rest sets: this is wrong.
+    /// With no number are those after them sets: this is wrong.
     Fails(Flaw),
 }
 
@@ -106,26 +114,43 @@ fn last_place(places: &[usize]) -> usize
     }
 }
 
+/// After the last reading of a target that the others have.
+fn end_after(alloc: Global, others: &[Sight], sights: &[Sight]) -> Result<usize, AllocError>
+    ensures { IfOk result (λ end. end ≡ end_of (targets_of others.now) 0 0 sights.now) }
+{
+    if ends_known(others, sights) {
+        return Ok(sights.len());
+    }
+    let mut known = Known::of(alloc, others)?;
+    Ok(end_of(&mut known, sights))
+}
+
 /// Where the last set ends.
 pub(crate) fn end_by(alloc: Global, starts: &[usize], sights: &[Sight]) -> Result<usize, AllocError>
     ensures { IfOk result (λ end. end ≡ end_by starts.now sights.now) }
 {
     match starts {
-        [] | [_] => Ok(sights.len()),
-        [_, rest @ ..] => {
-            let sets = front(last_place(rest), sights);
-            if ends_known(sets, sights) {
-                return Ok(sights.len());
-            }
-            let mut known = Known::of(alloc, sets)?;
-            Ok(end_of(&mut known, sights))
+        [] | [_] => {
+            let seconds = seconds_of(alloc, sights)?;
+            end_after(alloc, &seconds, sights)
         }
+        [_, rest @ ..] => end_after(alloc, front(last_place(rest), sights), sights),
     }
 }
 
-/// The readings of the first set.
-fn first_set<'a>(starts: &[usize], sights: &'a [Sight]) -> &'a [Sight]
-    ensures { result.now ≡ first_set starts.now sights.now }
+/// Where the last set ends of readings that are no details.
+fn cut_end(alloc: Global, starts: &[usize], sights: &[Sight]) -> Result<usize, AllocError>
+    ensures { IfOk result (λ end. end ≡ cut_end starts.now sights.now) }
+{
+    match starts {
+        [] | [_] => Ok(sights.len()),
+        [_, _, ..] => end_by(alloc, starts, sights),
+    }
+}
+
+/// The readings of the first set, of readings that are no details.
+pub(crate) fn first_cut<'a>(starts: &[usize], sights: &'a [Sight]) -> &'a [Sight]
+    ensures { result.now ≡ first_cut starts.now sights.now }
 {
     match starts {
         [] => &[],
@@ -141,10 +166,10 @@ fn end_of_set(
     starts: &[usize],
     sights: &[Sight],
 ) -> Result<usize, AllocError>
-    ensures { IfOk result (λ to. to ≡ next_of (end_by starts.now sights.now) later.now) }
+    ensures { IfOk result (λ to. to ≡ next_of (cut_end starts.now sights.now) later.now) }
 {
     match later {
-        [] => end_by(alloc, starts, sights),
+        [] => cut_end(alloc, starts, sights),
         [to, ..] => Ok(*to),
     }
 }
@@ -155,10 +180,10 @@ fn end_of_set(
 /// takes a step for each of their targets and each reading after them.
 #[tactic(auto, using(crate::proofs::Few::next_flaw))]
 fn sets_flaw(alloc: Global, starts: &[usize], sights: &[Sight]) -> Result<Option<Flaw>, AllocError>
-    ensures { IfOk result (λ o. o ≡ sets_flaw (first_set starts.now sights.now) 0
-        (end_by starts.now sights.now) starts.now sights.now) }
+    ensures { IfOk result (λ o. o ≡ sets_flaw (first_cut starts.now sights.now) 0
+        (cut_end starts.now sights.now) starts.now sights.now) }
 {
-    let first = first_set(starts, sights);
+    let first = first_cut(starts, sights);
     let clean = is_clean(alloc, first)?;
     let mut count = 0;
     let mut left = starts;
@@ -177,33 +202,113 @@ fn sets_flaw(alloc: Global, starts: &[usize], sights: &[Sight]) -> Result<Option
     Ok(None)
 }
 
-/// Whether readings stand outside before a single set.
-fn is_lone(leading: usize, starts: &[usize]) -> bool
-    ensures { result ≡ (nat_lt 0 leading && nat_lt (length starts.now) 2) }
+/// Where the first sets of readings that are no details begin: one more than a station may have
+/// tells that it has too many.
+fn few_starts(alloc: Global, sights: &[Sight]) -> Result<Vec<usize>, AllocError>
+    ensures { IfOk result
+        (λ starts. starts.items ≡ take (MOST_SETS + 1) (starts_of sights.now)) }
 {
-    leading > 0 && starts.len() < 2
+    match sights.first() {
+        Some(opening) => starts(alloc, &opening.target, sights, MOST_SETS + 1),
+        None => Ok(Vec::new(alloc)),
+    }
 }
 
-/// What is wrong first where so many leading readings stand outside, and the rest are sets.
-fn flaw_of(alloc: Global, sights: &[Sight], leading: usize) -> Result<Option<Flaw>, AllocError>
-    ensures { IfOk result (λ o. o ≡ flaw_of sights.now leading) }
+/// Whether all are in face I, or all of one target.
+fn are_sights(sights: &[Sight]) -> bool
+    ensures { result ≡ are_sights sights.now }
 {
-    let rest = rest_after(leading, sights);
-    let Some(opening) = rest.first() else {
-        return Ok(Some(Flaw {
-            block: 0,
-            kind: MarkKind::OneSet,
-        }));
-    };
-    // One more than a station may have tells that it has too many.
-    let starts = starts(alloc, &opening.target, rest, MOST_SETS + 1)?;
-    if let Some(flaw) = sets_flaw(alloc, &starts, rest)? {
+    match first_target(sights) {
+        Some(first) => are_in_face(false, sights) || are_of(&first, sights),
+        None => true,
+    }
+}
+
+/// The readings of the targets that may be sighted before a single set.
+fn sighted_before(set: &[Sight]) -> &[Sight]
+    ensures { result.now ≡ sighted_before set.now }
+{
+    if set.len() <= READINGS_OF_TWO {
+        front(1, set)
+    } else {
+        set
+    }
+}
+
+/// Whether each of these readings is of a target that the others have.
+fn are_among(others: &[Sight], sights: &[Sight]) -> bool
+    ensures { result ≡ list_all (λ r. list_any (is_of r.target) others.now) sights.now }
+{
+    sights
+        .iter()
+        .all(|sight| reads_target(others, &sight.target))
+}
+
+/// Whether these readings, which are no details, may stand before a single set at this place.
+fn may_lead(set: &[Sight], leading: &[Sight], place: usize) -> bool
+    ensures { result ≡ may_lead set.now leading.now place }
+{
+    are_among(sighted_before(set), leading) && are_sights(leading) && place <= leading.len()
+}
+
+/// What is wrong first with the sets of these readings that are no details.
+///
+/// They begin at this place of all readings of the station, after these leading ones that are no
+/// details either. The targets that are known are those that the station reads in face II.
+fn cut_flaw(
+    alloc: Global,
+    known: &mut Known,
+    all: &[Sight],
+    leading: &[Sight],
+    place: usize,
+    sights: &[Sight],
+) -> Result<Option<Flaw>, AllocError>
+    requires known { KnowsTargetsOf (seconds_of all.now) known.old }
+    ensures value { IfOk result (λ o. o
+        ≡ cut_flaw all.now leading.now place (starts_of sights.now) sights.now) }
+    ensures unchanged { known.new ≡ known.old }
+{
+    let starts = few_starts(alloc, sights)?;
+    if let Some(flaw) = sets_flaw(alloc, &starts, sights)? {
         return Ok(Some(flaw));
     }
-    if is_lone(leading, &starts) {
-        return Ok(Some(flaw_at(MarkKind::OneSet, Some(opening))));
+    let end = cut_end(alloc, &starts, sights)?;
+    let detail = unknown_in(known, front(end, rest_after(place, all)));
+    let among = flaw_found(MarkKind::FaceMissing, detail.as_ref());
+    let is_lone = starts.len() < 2 && !may_lead(sights, leading, place);
+    let lone = flaw_when(is_lone, MarkKind::OneSet, sight_at(sights, 0));
+    Ok(first_flaw(None, among, lone))
+}
+
+/// What is wrong first where so many leading readings stand outside that are no details.
+///
+/// `rest` are the readings of the station that are no details; the targets that are known are those
+/// that it reads in face II.
+fn flaw_of(
+    alloc: Global,
+    known: &mut Known,
+    sights: &[Sight],
+    rest: &[Sight],
+    leading: usize,
+) -> Result<Option<Flaw>, AllocError>
+    requires known { KnowsTargetsOf (seconds_of sights.now) known.old }
+    requires rest { rest.now ≡ rest_of sights.now }
+    ensures value { IfOk result (λ o. o ≡ flaw_of sights.now leading) }
+    ensures unchanged { known.new ≡ known.old }
+{
+    if rest.len() <= leading {
+        return Ok(Some(flaw_at(MarkKind::OneSet, None)));
     }
-    Ok(None)
+    let place = place_of(known, leading, sights);
+    let before = front(leading, rest);
+    cut_flaw(
+        alloc,
+        known,
+        sights,
+        before,
+        place,
+        rest_after(leading, rest),
+    )
 }
 
 /// Of two, what is wrong later in the file.
@@ -213,20 +318,29 @@ fn later(a: Flaw, b: Flaw) -> Flaw
     if a.block < b.block { b } else { a }
 }
 
-/// How many readings stand outside before the sets, or what is wrong where no number will do.
-fn find_leading(alloc: Global, sights: &[Sight]) -> Result<Leading, AllocError>
-    ensures { IfOk result (IsLeading sights.now) }
+/// How many readings that are no details stand outside before the sets, or what is wrong where no
+/// number will do.
+fn find_leading(
+    alloc: Global,
+    known: &mut Known,
+    sights: &[Sight],
+    rest: &[Sight],
+) -> Result<Leading, AllocError>
+    requires known { KnowsTargetsOf (seconds_of sights.now) known.old }
+    requires rest { rest.now ≡ rest_of sights.now }
+    ensures value { IfOk result (IsLeading sights.now) }
+    ensures unchanged { known.new ≡ known.old }
 {
-    let Some(none) = flaw_of(alloc, sights, 0)? else {
+    let Some(none) = flaw_of(alloc, known, sights, rest, 0)? else {
         return Ok(Leading::Divides(0));
     };
-    let Some(one) = flaw_of(alloc, sights, 1)? else {
+    let Some(one) = flaw_of(alloc, known, sights, rest, 1)? else {
         return Ok(Leading::Divides(1));
     };
-    let Some(two) = flaw_of(alloc, sights, 2)? else {
+    let Some(two) = flaw_of(alloc, known, sights, rest, 2)? else {
         return Ok(Leading::Divides(2));
     };
-    let Some(three) = flaw_of(alloc, sights, 3)? else {
+    let Some(three) = flaw_of(alloc, known, sights, rest, 3)? else {
         return Ok(Leading::Divides(3));
     };
     Ok(Leading::Fails(later(later(later(none, one), two), three)))
@@ -241,14 +355,29 @@ fn has_lone_second(leading: &[Sight]) -> bool
 }
 
 /// Whether one of the leading readings is of the target that ends the set and doesn't begin it.
-fn leads_to_end(leading: &[Sight], set: &[Sight]) -> bool
-    ensures { result ≡ (not (bytes_eq (last_target set.now) (first_target set.now))
-        && list_any (is_of (last_target set.now)) leading.now) }
+fn reads_end(leading: &[Sight], set: &[Sight]) -> bool
+    ensures { result ≡ reads_end leading.now set.now }
 {
     match (last_target(set), first_target(set)) {
         (Some(last), Some(first)) => !last.is_same(&first) && reads_target(leading, &last),
         _ => false,
     }
+}
+
+/// Whether one of these readings is in face II.
+fn has_second(sights: &[Sight]) -> bool
+    ensures { result ≡ list_any (λ r. r.second) sights.now }
+{
+    sights.iter().any(|sight| sight.second)
+}
+
+/// Whether a set that is read by targets may be shifted by the leading readings.
+fn leads_to_end(leading: &[Sight], set: &[Sight]) -> bool
+    ensures { result ≡ leads_to_end leading.now set.now }
+{
+    reads_end(leading, set)
+        && is_by_targets(set)
+        && (set.len() <= READINGS_OF_TWO || has_second(leading))
 }
 
 /// Whether the sets may be shifted by the leading readings.
@@ -268,15 +397,20 @@ fn begins_in_two(sights: &[Sight]) -> bool
     }
 }
 
-/// Whether there is a single set, and it is read by targets.
-fn is_one_by_targets(starts: &[usize], sights: &[Sight]) -> bool
-    ensures { result ≡ is_one_by_targets
-        (parts_at (end_by starts.now sights.now) starts.now sights.now) }
+/// Whether the sets that these readings are were read by targets.
+pub(crate) fn are_by_targets(sights: &[Sight]) -> bool
+    ensures { result ≡ are_by_targets sights.now }
 {
-    match starts {
-        [from] => is_by_targets(part(*from, sights.len(), sights)),
-        [] | [_, _, ..] => false,
-    }
+    begins_with_pair(sights)
+}
+
+/// Whether sets that were read by targets, of which the last ends at this place, are followed by a
+/// target in both faces.
+fn may_go_on(end: usize, sights: &[Sight]) -> bool
+    requires { end ≡ cut_end (starts_of sights.now) sights.now }
+    ensures { result ≡ may_go_on sights.now }
+{
+    are_by_targets(sights) && begins_with_pair(rest_after(end, sights))
 }
 
 /// How many of these readings are of targets that are known.
@@ -324,7 +458,7 @@ fn all_repeat(
     sights: &[Sight],
 ) -> Result<bool, AllocError>
     ensures { IfOk result (λ b. OnTrue b (stranger_among first.now
-        (parts_at (end_by starts.now sights.now) starts.now sights.now) ≡ None)) }
+        (parts_at (cut_end starts.now sights.now) starts.now sights.now) ≡ None)) }
 {
     let mut left = starts;
     'sets: while let Some((from, rest)) = left.split_first() {
@@ -344,10 +478,10 @@ fn strangers_flaw(
     sights: &[Sight],
 ) -> Result<Option<Flaw>, AllocError>
     ensures { IfOk result (λ o. o ≡ flaw_found OtherTargets
-        (stranger_among (first_set starts.now sights.now)
-        (parts_at (end_by starts.now sights.now) starts.now sights.now))) }
+        (stranger_among (first_cut starts.now sights.now)
+        (parts_at (cut_end starts.now sights.now) starts.now sights.now))) }
 {
-    let first = first_set(starts, sights);
+    let first = first_cut(starts, sights);
     // Mostly no table of its targets is needed.
     if all_repeat(alloc, first, starts, sights)? {
         return Ok(None);
@@ -365,47 +499,179 @@ fn strangers_flaw(
     Ok(None)
 }
 
-/// The doubt about readings that are sets after these leading ones.
+/// Whether there is a single set, and it is read by targets.
+fn is_one_by_targets(starts: &[usize], sights: &[Sight]) -> bool
+    requires { starts.now ≡ starts_of sights.now }
+    ensures { result ≡ (are_by_targets sights.now && (length (starts_of sights.now) == 1)) }
+{
+    are_by_targets(sights) && starts.len() == 1
+}
+
+/// Whether another number of targets is stated than these readings have.
+fn has_other_targets(
+    alloc: Global,
+    stated: Option<u32>,
+    sights: &[Sight],
+) -> Result<bool, AllocError>
+    ensures { IfOk result (λ b. b ≡ is_other stated (length (targets_of sights.now))) }
+{
+    if stated.is_none() {
+        return Ok(false);
+    }
+    Ok(is_other(stated, count_targets(alloc, sights)?))
+}
+
+/// What keeps sets that begin at these places, of which the last ends at this one, from being those
+/// that are stated.
+fn numbers_flaw(
+    alloc: Global,
+    stated: Stated,
+    starts: &[usize],
+    end: usize,
+    sights: &[Sight],
+) -> Result<Option<Flaw>, AllocError>
+    requires starts { starts.now ≡ starts_of sights.now }
+    requires end { end ≡ cut_end (starts_of sights.now) sights.now }
+    ensures { IfOk result (λ o. o ≡ numbers_flaw stated sights.now) }
+{
+    let first = sight_at(sights, 0);
+    if is_other(stated.sets, starts.len()) {
+        return Ok(Some(flaw_at(MarkKind::SetCount, first)));
+    }
+    if is_asked(is_one_by_targets(starts, sights), stated.targets) {
+        return Ok(Some(flaw_at(MarkKind::ByTargets, first)));
+    }
+    if has_other_targets(alloc, stated.targets, part(0, end, sights))? {
+        return Ok(Some(flaw_at(MarkKind::TargetCount, first)));
+    }
+    Ok(None)
+}
+
+/// The doubt about readings that are sets after these leading ones, and of which this is stated.
 fn doubt_after(
     alloc: Global,
+    stated: Stated,
     leading: &[Sight],
     sights: &[Sight],
 ) -> Result<Option<Flaw>, AllocError>
-    ensures { IfOk result (λ o. o ≡ doubt_after leading.now sights.now) }
+    ensures { IfOk result (λ o. o ≡ doubt_after stated leading.now sights.now) }
 {
     let first = sight_at(sights, 0);
     if begins_in_two(sights) {
         return Ok(Some(flaw_at(MarkKind::FirstFace, first)));
     }
     let starts = starts_of(alloc, sights)?;
-    if may_be_shifted(leading, first_set(&starts, sights)) {
+    if may_be_shifted(leading, first_cut(&starts, sights)) {
         return Ok(Some(flaw_at(MarkKind::MayBeShifted, first)));
     }
-    if is_one_by_targets(&starts, sights) {
-        return Ok(Some(flaw_at(MarkKind::OneSetByTargets, first)));
+    if is_asked(are_by_targets(sights), stated.sets) {
+        return Ok(Some(flaw_at(MarkKind::ByTargets, first)));
+    }
+    let end = cut_end(alloc, &starts, sights)?;
+    if may_go_on(end, sights) {
+        return Ok(Some(flaw_at(MarkKind::PairAfter, sight_at(sights, end))));
+    }
+    if let Some(flaw) = numbers_flaw(alloc, stated, &starts, end, sights)? {
+        return Ok(Some(flaw));
     }
     strangers_flaw(alloc, &starts, sights)
 }
 
-/// The doubt about readings that divide with so many leading ones.
-fn doubt_of(alloc: Global, sights: &[Sight], leading: usize) -> Result<Option<Flaw>, AllocError>
-    ensures { IfOk result (λ o. o ≡ doubt_flaw sights.now leading) }
+/// The doubt about readings that are no details, where they divide with so many leading ones.
+fn doubt_of(
+    alloc: Global,
+    stated: Stated,
+    rest: &[Sight],
+    leading: usize,
+) -> Result<Option<Flaw>, AllocError>
+    ensures { IfOk result
+        (λ o. o ≡ doubt_after stated (take leading rest.now) (drop leading rest.now)) }
 {
-    doubt_after(alloc, front(leading, sights), rest_after(leading, sights))
+    doubt_after(
+        alloc,
+        stated,
+        front(leading, rest),
+        rest_after(leading, rest),
+    )
 }
 
-/// What a station's readings are.
-pub fn divide(alloc: Global, sights: &[Sight]) -> Result<Divided, AllocError>
-    ensures { IfOk result (λ d. d ≡ divided sights.now) }
+/// What a station's readings are that has sets, or should have.
+///
+/// `rest` are those that are no details; the targets that are known are those that are read in
+/// face II.
+fn divide_rest(
+    alloc: Global,
+    stated: Stated,
+    known: &mut Known,
+    sights: &[Sight],
+    rest: &[Sight],
+) -> Result<Divided, AllocError>
+    requires known { KnowsTargetsOf (seconds_of sights.now) known.old }
+    requires rest { rest.now ≡ rest_of sights.now }
+    ensures { IfOk result (λ d. d ≡ divided_by stated sights.now (leading_of sights.now)) }
 {
-    if is_in_one_face(sights) {
-        return Ok(Divided::NoSets);
-    }
-    match find_leading(alloc, sights)? {
-        Leading::Divides(leading) => match doubt_of(alloc, sights, leading)? {
+    match find_leading(alloc, known, sights, rest)? {
+        Leading::Divides(leading) => match doubt_of(alloc, stated, rest, leading)? {
             Some(flaw) => Ok(Divided::Flawed(flaw)),
-            None => Ok(Divided::Sets(leading)),
+            None => Ok(Divided::Sets(place_of(known, leading, sights))),
         },
         Leading::Fails(flaw) => Ok(Divided::Flawed(flaw)),
     }
+}
+
+/// Whether nothing is wrong with the sets that begin at these places.
+fn are_sets(alloc: Global, starts: &[usize], sights: &[Sight]) -> Result<bool, AllocError>
+    ensures { IfOk result (λ b. b ≡ is_none (sets_flaw (first_cut starts.now sights.now) 0
+        (cut_end starts.now sights.now) starts.now sights.now)) }
+{
+    Ok(sets_flaw(alloc, starts, sights)?.is_none())
+}
+
+/// Whether sets take all readings of a station. Then none is a detail, and none stands before them.
+///
+/// It is asked only where the last reading is of a target of the first half: else some readings
+/// stand outside, or there is one set.
+fn are_all_in_sets(alloc: Global, sights: &[Sight]) -> Result<bool, AllocError>
+    ensures { IfOk result (λ whole. OnTrue whole ((stated : Stated)
+        → divided_by stated sights.now (leading_of sights.now)
+        ≡ divided_unless (doubt_after stated [] sights.now) 0)) }
+{
+    let Some((last, _)) = sights.split_last() else {
+        return Ok(false);
+    };
+    if !reads_target(front(sights.len() / 2, sights), &last.target) {
+        return Ok(false);
+    }
+    let starts = few_starts(alloc, sights)?;
+    if !are_sets(alloc, &starts, sights)? {
+        return Ok(false);
+    }
+    let end = cut_end(alloc, &starts, sights)?;
+    Ok(end == sights.len())
+}
+
+/// What a station's readings are that are all in sets.
+fn divide_whole(alloc: Global, stated: Stated, sights: &[Sight]) -> Result<Divided, AllocError>
+    ensures { IfOk result (λ d. d ≡ divided_unless (doubt_after stated [] sights.now) 0) }
+{
+    match doubt_after(alloc, stated, &[], sights)? {
+        Some(flaw) => Ok(Divided::Flawed(flaw)),
+        None => Ok(Divided::Sets(0)),
+    }
+}
+
+/// What a station's readings are, of whose sets this is stated.
+pub fn divide(alloc: Global, stated: Stated, sights: &[Sight]) -> Result<Divided, AllocError>
+    ensures { IfOk result (λ d. d ≡ divided stated sights.now) }
+{
+    if has_no_sets(sights) {
+        return Ok(Divided::NoSets);
+    }
+    if are_all_in_sets(alloc, sights)? {
+        return divide_whole(alloc, stated, sights);
+    }
+    let seconds = seconds_of(alloc, sights)?;
+    let mut known = Known::of(alloc, &seconds)?;
+    let rest = known_in(alloc, &mut known, sights)?;
+    divide_rest(alloc, stated, &mut known, sights, &rest)
 }

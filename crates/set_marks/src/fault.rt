@@ -5,8 +5,7 @@ ghost use Rattle.adjust_kernel.specs.declared.bounds.TheConstants.{LONGEST_FAULT
 ghost use Rattle.set_marks.specs.FaultNames.{mark_kind_name, mark_fault_name};
 ghost use Rattle.set_marks.specs.declared.fault.MarkFault.TheVariants.{File, Memory};
 
-use crate::bounds::MOST_READINGS;
-use adjust_kernel::MOST_SETS;
+use adjust_kernel::{MOST_SETS, MOST_TARGETS};
 use gsi_file::{FileFault, OutOfMemory};
 use station_book::{BookKind, MOST_STATIONS};
 use std::alloc::AllocError;
@@ -37,12 +36,12 @@ pub enum MarkKind {
     /// or another station. Mark a copy without it.
     #[error("the target was read in this face of this set before")]
     ReadTwice,
-    /// A set of more than 200 readings, so of more than 100 targets, the most that a station may
-    /// have: detail points stand before the sets, or in them.
-    #[error("the set has more than {MOST_READINGS} readings")]
+    /// More than 100 targets, the most that a station may have: a set of more than 200 readings, or
+    /// the 101st target of a station's sets.
+    #[error("the sets of the station have more than {MOST_TARGETS} targets")]
     TooManyTargets,
     /// The set has no reading of this target in the other face: add it, or mark a copy without the
-    /// target in this set.
+    /// target in this set; or without this detail point, where it stands among the sets.
     #[error("the target is read in one face of this set alone")]
     FaceMissing,
     /// The set has one target alone: an orientation in both faces, or a closing pair. Mark a copy
@@ -59,7 +58,8 @@ pub enum MarkKind {
     /// The station has 40 sets, the most that it may have.
     #[error("the station has more than {MOST_SETS} sets")]
     TooManySets,
-    /// There is a single set after readings that stand outside: nothing shows where it begins.
+    /// There is a single set, and before it stand other readings than sights to its targets:
+    /// nothing shows where it begins. Mark a copy without them.
     #[error("a single set stands after readings that are in no set")]
     OneSet,
     /// The first set begins in face II: nothing shows that no reading is missing before it.
@@ -68,16 +68,22 @@ pub enum MarkKind {
     /// The readings before the first set may belong to the sets, and these be shifted.
     #[error("the readings before the first set may belong to the sets")]
     MayBeShifted,
-    /// The station has a single set, read by targets: nothing shows that all its pairs are of one
-    /// set-up. Put codes 10 and 20 before it by hand, if the field book says so.
-    #[error("a single set is read by targets, and nothing shows that it is one")]
-    OneSetByTargets,
+    /// The station's sets are read by targets, and a target in both faces follows them, as a set
+    /// would go on: they may begin with another target.
+    #[error("a target in both faces follows sets that are read by targets")]
+    PairAfter,
     /// No more than half of the set's targets are targets of the station's first set: the
     /// instrument was set up again. Mark the readings before and after in copies of their own.
     #[error("no more than half of the set's targets are targets of the first set")]
     OtherTargets,
-    /// A station of this name had sets: the point was set up again.
-    #[error("a station of this name had sets before")]
+    /// The station reads a target of its own name in face II: so it is where the set-up line of the
+    /// next station is lost, whose backsight is this one; or the name of a target stands in a
+    /// set-up line. Detail in face I may have such a name.
+    #[error("the station reads a target of its own name in face II")]
+    SightsItself,
+    /// A station of this name had sets or a fault: the point was set up again, or its set-up line
+    /// was written again. Mark a copy with another name, or without the second line.
+    #[error("a station of this name had sets or a fault before")]
     StationTwice,
     /// 1,000 stations have sets: put this one into another file.
     #[error("{MOST_STATIONS} stations have sets")]
@@ -85,10 +91,22 @@ pub enum MarkKind {
     /// The station's name has more bytes than a line of GSI-8 has room for.
     #[error("the name of the station has no room in a line of this width")]
     NameTooLong,
-    /// No station has sets: all readings are in one face, or there is none. The number is that of
-    /// the last block plus 1.
+    /// No station has sets: none is read in face II, but for sights back before detail; or there
+    /// are no readings. The number is that of the last block plus 1.
     #[error("no station has sets")]
     NoSets,
+    /// The station's sets are read by targets, so that nothing shows where they begin: state how
+    /// many were read to the end; and of a single set how many targets it has.
+    #[error("the sets are read by targets, and their number or that of targets isn't stated")]
+    ByTargets,
+    /// The station has another number of sets than is stated: one was broken off, which doesn't
+    /// count, or read again, which does as long as it isn't left out.
+    #[error("the station has another number of sets than is stated")]
+    SetCount,
+    /// The station's sets have another number of targets than is stated: a target is missing, or
+    /// has two names.
+    #[error("the sets of the station have another number of targets than is stated")]
+    TargetCount,
 }
 
 impl MarkKind {
@@ -112,12 +130,16 @@ impl MarkKind {
             MarkKind::OneSet => "OneSet",
             MarkKind::FirstFace => "FirstFace",
             MarkKind::MayBeShifted => "MayBeShifted",
-            MarkKind::OneSetByTargets => "OneSetByTargets",
+            MarkKind::PairAfter => "PairAfter",
             MarkKind::OtherTargets => "OtherTargets",
+            MarkKind::SightsItself => "SightsItself",
             MarkKind::StationTwice => "StationTwice",
             MarkKind::TooManyStations => "TooManyStations",
             MarkKind::NameTooLong => "NameTooLong",
             MarkKind::NoSets => "NoSets",
+            MarkKind::ByTargets => "ByTargets",
+            MarkKind::SetCount => "SetCount",
+            MarkKind::TargetCount => "TargetCount",
         }
     }
 }

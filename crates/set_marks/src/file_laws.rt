@@ -7,28 +7,33 @@ ghost use Rattle.gsi_file.specs.FileAnswers.{file_answers};
 ghost use Rattle.adjust_kernel.specs.Names.{IsName};
 ghost use Rattle.station_book.specs.Places.{History};
 ghost use Rattle.set_marks.specs.declared.marked.Marked.{Marked};
+ghost use Rattle.set_marks.specs.declared.stated.Stated.{Stated};
 ghost use Rattle.set_marks.specs.Markings.{IsMarking, copy_of};
 ghost use Rattle.set_marks.specs.Unmarked.{is_put_in, unmarked, whole_lines};
 ghost use Rattle.set_marks.specs.MarkedFile.{AreBlocksOf, copy_history, IsFoundAsDivided};
 
 /// The copy of a marked file has the file's blocks, with those of the code lines before them. There
-/// the book finds each reading where the division puts it, and no fault that comes of the code
-/// lines. Without the lines that begin with four points after `41` the copy is the file, byte for
-/// byte, where the file has no such line.
+/// the book finds each reading where the division puts it, those of a station with a fault in no
+/// set, and no fault that comes of the code lines. Without the lines that begin with four points
+/// after `41` the copy is the file, byte for byte, where the file has no such line.
 pub fn copy_is_read()
-    ensures blocks { (station : Option (List ℕ)) (bytes : List ℕ) (fails : Bool) (m : Marked)
+    ensures blocks { (station : Option (List ℕ)) (stated : Stated) (bytes : List ℕ) (fails : Bool)
+        (m : Marked)
         → IfSome station IsName
-        → (marking : IsMarking station bytes
+        → (marking : IsMarking station stated bytes
         (file_answers (record { bytes = bytes; fails = fails })) m)
-        → AreBlocksOf (copy_of bytes m) (copy_history station marking.blocks) }
-    ensures found { (station : Option (List ℕ)) (bytes : List ℕ) (fails : Bool) (m : Marked)
+        → AreBlocksOf (copy_of bytes m) (copy_history station stated marking.blocks) }
+    ensures found { (station : Option (List ℕ)) (stated : Stated) (bytes : List ℕ) (fails : Bool)
+        (m : Marked)
         → IfSome station IsName
-        → (marking : IsMarking station bytes
+        → (marking : IsMarking station stated bytes
         (file_answers (record { bytes = bytes; fails = fails })) m)
         → (copy : History) → AreBlocksOf (copy_of bytes m) copy
-        → IsFoundAsDivided station marking.blocks copy }
-    ensures back { (station : Option (List ℕ)) (bytes : List ℕ) (fails : Bool) (m : Marked)
+        → IsFoundAsDivided station stated marking.blocks copy }
+    ensures back { (station : Option (List ℕ)) (stated : Stated) (bytes : List ℕ) (fails : Bool)
+        (m : Marked)
         → IfSome station IsName
-        → IsMarking station bytes (file_answers (record { bytes = bytes; fails = fails })) m
+        → IsMarking station stated bytes
+        (file_answers (record { bytes = bytes; fails = fails })) m
         → list_any is_put_in (whole_lines bytes) ≡ false → unmarked (copy_of bytes m) ≡ bytes }
 {}

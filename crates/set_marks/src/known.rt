@@ -1,14 +1,14 @@
 //! The targets of some readings, to be asked for.
 
-ghost use Rattle.std.specs.Prelude.{◌≡◌, IfOk, length};
-ghost use Rattle.set_marks.specs.Divisions.{targets_of};
+ghost use Rattle.std.specs.Prelude.{◌≡◌, [], IfOk, length, option_map};
+ghost use Rattle.set_marks.specs.Divisions.{one_too_many, targets_of};
 ghost use Rattle.set_marks.specs.Searching.{knows, KnowsTargetsOf};
 
 use crate::bounds::{FEW_READINGS, MOST_READINGS};
 use crate::names::Names;
 use crate::set::reads_target;
 use crate::sight::Sight;
-use adjust_kernel::Name;
+use adjust_kernel::{MOST_TARGETS, Name};
 use std::alloc::{AllocError, Global};
 
 /// The targets of some readings. Few are looked through, which takes less than a table of them.
@@ -59,6 +59,23 @@ pub(crate) fn count_targets(alloc: Global, sights: &[Sight]) -> Result<usize, Al
         return Ok(count_of_few(sights));
     }
     Ok(targets_of(alloc, sights)?.len())
+}
+
+/// The first of these readings of another target than 100 before it.
+pub(crate) fn one_too_many(alloc: Global, sights: &[Sight]) -> Result<Option<Sight>, AllocError>
+    ensures { IfOk result (λ o. o ≡ one_too_many [] sights.now) }
+{
+    let mut names = Names::with_room(alloc, MOST_TARGETS)?;
+    let mut left = sights;
+    'sights: while let Some((sight, rest)) = left.split_first() {
+        let is_new = !names.has(&sight.target);
+        if is_new && names.len() >= MOST_TARGETS {
+            return Ok(Some(*sight));
+        }
+        names.add(&sight.target)?;
+        left = rest;
+    }
+    Ok(None)
 }
 
 impl<'a> Known<'a> {

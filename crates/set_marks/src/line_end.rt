@@ -1,16 +1,19 @@
 //! How lines end.
 
-ghost use Rattle.std.specs.Prelude.{◌≡◌, ◌<◌, ℕ, IfSome, length, option_map, slice_index, take};
+ghost use Rattle.std.specs.Prelude.{◌≡◌, ◌<◌, ◌≤◌, ◌+◌, ℕ, IfSome, length, option_map, slice_index, take};
 ghost use Rattle.std.specs.Prelude.{true};
 ghost use Rattle.std.specs.List.{position};
 ghost use Rattle.gsi_word.specs.Words.{IsLineByte};
 ghost use Rattle.gsi_word.specs.PlainLines.{is_plain_reading};
+ghost use Rattle.gsi_file.specs.declared.bounds.TheConstants.{LONGEST_LINE};
 ghost use Rattle.gsi_file.specs.Parts.{is_line_end};
 ghost use Rattle.set_marks.specs.Lines.{end_bytes, end_from, end_before, end_beside};
 ghost use Rattle.set_marks.specs.Taking.{IsTested};
 
-use gsi_file::{CARRIAGE_RETURN, LINE_FEED};
-use gsi_word::steps::{LANES, PLAIN_LENGTH, is_plain_reading, printable_run};
+use gsi_file::{CARRIAGE_RETURN, LINE_FEED, LONGEST_LINE};
+use gsi_word::steps::{
+    LANES, PLAIN_LENGTH, WIDE_LENGTH, WORD_LENGTH, is_plain_reading, printable_run,
+};
 use memchr::memchr2;
 
 /// The bytes that end a line.
@@ -125,27 +128,60 @@ fn search_end(bytes: &[u8]) -> Option<usize>
     memchr2(LINE_FEED, CARRIAGE_RETURN, bytes)
 }
 
-/// Where a line at the front ends that is a reading as most are written; of 48 bytes or fewer it
-/// answers nothing, for it looks at two places.
+/// Where a line at the front ends that has so many bytes or one more, and is a reading as most are
+/// written; of that many bytes or fewer it answers nothing, for it looks at two places.
 #[inline(always)]
-fn plain_end(bytes: &[u8]) -> Option<usize>
+fn plain_end_at(bytes: &[u8], size: usize) -> Option<usize>
+    requires { size ≤ LONGEST_LINE + 16 }
     ensures { IfSome result (λ place. (place < length bytes.now)
         × ((is_line_end (slice_index bytes.now place) ≡ true)
         × (is_plain_reading (take place bytes.now) ≡ true))) }
 {
-    if bytes.len() <= PLAIN_LENGTH + 1 {
+    if bytes.len() <= size + 1 {
         return None;
     }
-    let place = if is_line_end(bytes[PLAIN_LENGTH]) {
-        PLAIN_LENGTH
+    let place = if is_line_end(bytes[size]) {
+        size
     } else {
-        PLAIN_LENGTH + 1
+        size + 1
     };
     if is_line_end(bytes[place]) && is_plain_reading(&bytes[..place]) {
         Some(place)
     } else {
         None
     }
+}
+
+/// Where the words end of a line at the front that has three words of GSI-8 or more, if it ends
+/// with a word or a blank: another place is harmless, for the line is tested up to it.
+#[inline(always)]
+fn words_end(bytes: &[u8]) -> usize
+    ensures { result ≤ LONGEST_LINE + 16 }
+{
+    let mut end = PLAIN_LENGTH;
+    'words: while end < LONGEST_LINE && end + 1 < bytes.len() && bytes[end] == b' ' {
+        if is_line_end(bytes[end + 1]) {
+            return end;
+        }
+        end += WORD_LENGTH;
+    }
+    end
+}
+
+/// Where a line at the front ends that is a reading as most are written.
+#[inline(always)]
+fn plain_end(bytes: &[u8]) -> Option<usize>
+    ensures { IfSome result (λ place. (place < length bytes.now)
+        × ((is_line_end (slice_index bytes.now place) ≡ true)
+        × (is_plain_reading (take place bytes.now) ≡ true))) }
+{
+    if let Some(place) = plain_end_at(bytes, PLAIN_LENGTH) {
+        return Some(place);
+    }
+    if byte_at(bytes, 0) == b'*' {
+        return plain_end_at(bytes, WIDE_LENGTH);
+    }
+    plain_end_at(bytes, words_end(bytes))
 }
 
 /// What `part_end` answers, of a part of any bytes.

@@ -3,10 +3,11 @@
 ghost use Rattle.gsi_file.specs.FileAnswers.{file_answers};
 ghost use Rattle.set_marks.specs.Markings.{AnswersMark};
 
-use crate::fault::MarkFault;
 use crate::mark::Mark;
 use crate::placing::placed;
 use crate::recognized::Recognized;
+use crate::refused::{Refused, refusal};
+use crate::stated::Stated;
 use crate::walk::readings_of;
 use adjust_kernel::Name;
 use std::alloc::Global;
@@ -17,7 +18,7 @@ use std::alloc::Global;
 pub struct Marked {
     /// The code lines, in the order of the file.
     pub marks: Vec<Mark>,
-    /// What was recognized of each station with readings, in the order of the file.
+    /// What was recognized of each station, in the order of the file.
     pub stations: Vec<Recognized>,
 }
 
@@ -25,24 +26,31 @@ pub struct Marked {
 /// 30 before the first reading after a set that is in none.
 ///
 /// `bytes` are those of the file; where `fails`, a read failed after them. `station` is the name of
-/// the file's one station, where its lines set none up.
+/// the file's one station, where its lines set none up. `stated` is what is stated of the file:
+/// where sets are read by targets, nothing else shows where they begin.
 ///
 /// # Errors
 ///
-/// The first fault of the file's lines; else the first of a block; else the first of a station; or
-/// `Memory`.
+/// The first fault of the file's lines; else the first of a block by itself; or `Memory`. Else each
+/// station is judged by itself, and the answer tells of all: the fault is that of the first station
+/// that has one, unless these may stay outside, or that none has sets.
 #[tactic(auto, using(crate::proofs::Making::as_answered))]
 pub fn mark_file(
     alloc: Global,
     bytes: &[u8],
     fails: bool,
     station: Option<Name>,
-) -> Result<Marked, MarkFault>
-    ensures { AnswersMark station bytes.now
+    stated: Stated,
+) -> Result<Marked, Refused>
+    ensures { AnswersMark station stated bytes.now
         (file_answers (record { bytes = bytes.now; fails = fails })) result }
 {
-    let walk = readings_of(alloc, bytes, fails, station)?;
+    let walk = readings_of(alloc, bytes, fails, station, stated)?;
+    let end = walk.readings.blocks + 1;
     let marking = walk.readings.finish(alloc)?;
+    if let Some(flaw) = refusal(stated, end, &marking.stations) {
+        return Err(Refused::Stations(flaw, marking.stations));
+    }
     let marks = placed(alloc, bytes, &walk.begins, &marking.marks)?;
     Ok(Marked {
         marks,

@@ -1,82 +1,45 @@
 //! The code lines of a file's stations, and what is told of them.
 
-ghost use Rattle.std.specs.Prelude.{◌≡◌, ◌<◌, ◌≤◌, ◌+◌, ◌++◌, ◌∷◌, [], All, IfNone, IfOk, IfSome};
-ghost use Rattle.std.specs.Prelude.{OnOk, length, drop, false, option_map, slice_get, nat_lt, ◌&&◌};
+ghost use Rattle.std.specs.Prelude.{◌≡◌, ◌<◌, ◌≤◌, ◌+◌, ◌++◌, ◌∷◌, [], All, IfOk, IfSome, None};
+ghost use Rattle.std.specs.Prelude.{OnOk, Some, length, drop, false, option_map, slice_get, nat_lt};
+ghost use Rattle.std.specs.Prelude.{◌&&◌};
 ghost use Rattle.adjust_kernel.specs.declared.bounds.TheConstants.{MOST_SETS};
-ghost use Rattle.set_marks.specs.declared.division.Divided.TheVariants.{NoSets, Sets};
-ghost use Rattle.set_marks.specs.Divisions.{divided, starts_of, end_in};
-ghost use Rattle.station_book.specs.Places.{is_among};
+ghost use Rattle.set_marks.specs.declared.division.Divided.TheVariants.{Flawed, NoSets, Sets};
+ghost use Rattle.set_marks.specs.Divisions.{divided_unless, starts_of, end_in};
+ghost use Rattle.set_marks.specs.Judging.{is_too_long, judged, sets_fault, targets_fault};
+ghost use Rattle.set_marks.specs.Judging.{none_before};
+ghost use Rattle.station_book.specs.Places.{is_empty};
 ghost use Rattle.set_marks.specs.Marks.{HasRoom, IsRoomy};
-ghost use Rattle.set_marks.specs.Marking.{is_too_long, station_fault, mark_at, set_marks};
-ghost use Rattle.set_marks.specs.Marking.{close_mark, sets_marks};
-ghost use Rattle.set_marks.specs.Keeping.{TakesStation};
+ghost use Rattle.set_marks.specs.Marking.{close_mark, mark_at, outside, set_marks, sets_marks};
+ghost use Rattle.set_marks.specs.Keeping.{TakesStation, before_in};
 
-use crate::division::{Divided, divide, end_by, part, rest_after};
-use crate::fault::MarkKind;
-use crate::flaw::{Flaw, first_flaw, flaw_when};
+use crate::division::{Divided, are_by_targets, divide, end_by, part, rest_after};
+use crate::flaw::Flaw;
+use crate::judging::{StationNames, sets_fault, targets_fault};
 use crate::known::count_targets;
-use crate::mark::{BlockMark, Code, width};
-use crate::names::Names;
+use crate::mark::{BlockMark, Code};
 use crate::recognized::Recognized;
+use crate::remarks::remarks_of;
 use crate::set::sight_at;
 use crate::sight::Sight;
 use crate::starts::starts_of;
+use crate::stated::Stated;
 use adjust_kernel::Name;
-use station_book::MOST_STATIONS;
 use std::alloc::{AllocError, Global};
 
 /// The code lines of some stations, and what is told of them.
 #[derive(Drop)]
 pub(crate) struct Marking {
+    /// What is stated of the file.
+    pub(crate) stated: Stated,
     /// The code lines.
     pub(crate) marks: Vec<BlockMark>,
-    /// What is told of each station with readings.
+    /// What is told of each station.
     pub(crate) stations: Vec<Recognized>,
-    /// The names of those that have sets.
-    pub(crate) names: Names,
+    /// The names of those that have sets, and of those that have a fault.
+    pub(crate) names: StationNames,
     /// Whether a set is open.
     pub(crate) in_set: bool,
-}
-
-/// Whether a name has no room in the width of the line of a reading.
-fn is_too_long(name: &Name, sight: Option<&Sight>) -> bool
-    ensures { result ≡ is_too_long name.now (option_map (λ s. s.now) sight.entry) }
-{
-    match sight {
-        Some(sight) => name.bytes().len() > width(sight.wide),
-        None => false,
-    }
-}
-
-/// The fault of a station, after the stations of these names that have sets.
-fn station_fault(names: &mut Names, name: &Name, sights: &[Sight], divided: Divided) -> Option<Flaw>
-    ensures fault { result ≡ station_fault names.old
-        (record { name = name.now; sights = sights.now }) divided }
-    ensures unchanged { names.new ≡ names.old }
-{
-    match divided {
-        Divided::NoSets => None,
-        Divided::Flawed(flaw) => Some(flaw),
-        Divided::Sets(leading) => sets_fault(names, name, sights, leading),
-    }
-}
-
-/// The fault of a station whose readings are sets after so many leading ones.
-fn sets_fault(names: &mut Names, name: &Name, sights: &[Sight], leading: usize) -> Option<Flaw>
-    ensures fault { result ≡ station_fault names.old
-        (record { name = name.now; sights = sights.now }) (Sets leading) }
-    ensures unchanged { names.new ≡ names.old }
-{
-    let first = sight_at(sights, 0);
-    let twice = flaw_when(names.has(name), MarkKind::StationTwice, first);
-    let many = flaw_when(
-        names.len() >= MOST_STATIONS,
-        MarkKind::TooManyStations,
-        first,
-    );
-    let opening = sight_at(sights, leading);
-    let long = flaw_when(is_too_long(name, opening), MarkKind::NameTooLong, opening);
-    first_flaw(twice, many, long)
 }
 
 /// Puts a code line before the block of a reading, if there is one.
@@ -174,44 +137,81 @@ fn put_station(
 
 impl Marking {
     /// No code lines.
-    pub(crate) fn new(alloc: Global) -> Marking
+    pub(crate) fn new(alloc: Global, stated: Stated) -> Marking
+        ensures stated { result.stated ≡ stated }
         ensures marks { result.marks.items ≡ [] }
         ensures stations { result.stations.items ≡ [] }
-        ensures names { result.names ≡ [] }
+        ensures names { before_in result.names ≡ none_before }
         ensures in_set { result.in_set ≡ false }
     {
         Marking {
+            stated,
             marks: Vec::new(alloc),
             stations: Vec::new(alloc),
-            names: Names::new(alloc),
+            names: StationNames::new(alloc),
             in_set: false,
         }
     }
 
+    /// Leaves the readings of a station outside.
+    fn leave_outside(
+        &mut self,
+        name: &Name,
+        sights: &[Sight],
+        fault: Option<Flaw>,
+    ) -> Result<(), AllocError>
+        requires room { All IsRoomy self.old.marks.items }
+        ensures room { All IsRoomy self.new.marks.items }
+        ensures stated { OnOk result (self.new.stated ≡ self.old.stated) }
+        ensures marks { OnOk result (self.new.marks.items
+            ≡ self.old.marks.items ++ close_mark self.old.in_set sights.now) }
+        ensures stations { OnOk result (self.new.stations.items ≡ self.old.stations.items
+            ++ outside (record { name = name.now; sights = sights.now }) fault ∷ []) }
+        ensures names { OnOk result (self.new.names ≡ self.old.names) }
+        ensures in_set { OnOk result
+            (self.new.in_set ≡ (self.old.in_set && is_empty sights.now)) }
+    {
+        put_close(&mut self.marks, self.in_set, sights)?;
+        self.in_set = self.in_set && sights.is_empty();
+        self.stations.push(Recognized {
+            name: *name,
+            fault,
+            sets: 0,
+            targets: 0,
+            by_targets: false,
+            before: sights.len(),
+            after: 0,
+            remarks: None,
+        })?;
+        Ok(())
+    }
+
     /// Takes a station that has no sets.
+    #[tactic(auto, using(crate::proofs::Taken::stays_outside))]
     fn take_without_sets(&mut self, name: &Name, sights: &[Sight]) -> Result<(), AllocError>
         requires room { All IsRoomy self.old.marks.items }
         ensures room { All IsRoomy self.new.marks.items }
         ensures takes { OnOk result (TakesStation (record { name = name.now; sights = sights.now })
             NoSets self.old self.new) }
     {
-        if sights.is_empty() {
-            return Ok(());
-        }
-        put_close(&mut self.marks, self.in_set, sights)?;
-        self.in_set = false;
-        self.stations.push(Recognized {
-            name: *name,
-            sets: 0,
-            targets: 0,
-            before: sights.len(),
-            after: 0,
-        })?;
+        self.leave_outside(name, sights, None)
+    }
+
+    /// Takes a station that has this fault.
+    #[tactic(auto, using(crate::proofs::Taken::stays_outside))]
+    fn take_faulty(&mut self, name: &Name, sights: &[Sight], flaw: Flaw) -> Result<(), AllocError>
+        requires room { All IsRoomy self.old.marks.items }
+        ensures room { All IsRoomy self.new.marks.items }
+        ensures takes { OnOk result (TakesStation (record { name = name.now; sights = sights.now })
+            (Flawed flaw) self.old self.new) }
+    {
+        self.leave_outside(name, sights, Some(flaw))?;
+        self.names.faulty.add(name)?;
         Ok(())
     }
 
-    /// Takes a station that has sets, after so many leading readings.
-    #[tactic(auto, using(crate::proofs::Few::is_told))]
+    /// Takes a station whose readings are sets after so many leading ones, unless its targets are
+    /// too many.
     fn take_sets(
         &mut self,
         alloc: Global,
@@ -220,17 +220,23 @@ impl Marking {
         leading: usize,
     ) -> Result<(), AllocError>
         requires few { length (starts_of (drop leading sights.now)) ≤ MOST_SETS }
-        requires some { 0 < length sights.now }
-        requires new { is_among self.old.names name.now ≡ false }
         requires here { is_too_long name.now (slice_get sights.now leading) ≡ false }
         requires room { All IsRoomy self.old.marks.items }
         ensures room { All IsRoomy self.new.marks.items }
         ensures takes { OnOk result (TakesStation (record { name = name.now; sights = sights.now })
-            (Sets leading) self.old self.new) }
+            (divided_unless (targets_fault (record { name = name.now; sights = sights.now })
+            leading) leading) self.old self.new) }
     {
         let rest = rest_after(leading, sights);
         let starts = starts_of(alloc, rest)?;
         let end = end_by(alloc, &starts, rest)?;
+        let in_sets = part(0, end, rest);
+        let targets = count_targets(alloc, in_sets)?;
+        if let Some(flaw) = targets_fault(alloc, targets, in_sets)? {
+            return self.take_faulty(name, sights, flaw);
+        }
+        let after = rest_after(end, rest);
+        let remarks = remarks_of(alloc, &starts, in_sets, targets, after)?;
         put_station(
             &mut self.marks,
             self.in_set,
@@ -240,43 +246,47 @@ impl Marking {
             &starts,
             end,
         )?;
-        let targets = count_targets(alloc, part(0, end, rest))?;
         self.in_set = sight_at(rest, end).is_none();
-        self.names.add(name)?;
+        self.names.marked.add(name)?;
         self.stations.push(Recognized {
             name: *name,
+            fault: None,
             sets: starts.len(),
             targets,
+            by_targets: are_by_targets(rest),
             before: leading,
             after: rest.len().saturating_sub(end),
+            remarks,
         })?;
         Ok(())
     }
 
-    /// Takes a station, or answers its flaw.
-    #[tactic(auto, using(crate::proofs::Few::with_sets))]
+    /// Takes a station: it is judged by itself, and marked where it has sets.
+    #[tactic(auto, using(crate::proofs::Taken::is_judged))]
     pub(crate) fn take(
         &mut self,
         alloc: Global,
         name: &Name,
         sights: &[Sight],
-    ) -> Result<Option<Flaw>, AllocError>
+    ) -> Result<(), AllocError>
         requires room { All IsRoomy self.old.marks.items }
         ensures room { All IsRoomy self.new.marks.items }
-        ensures flaw { IfOk result (λ flaw. flaw ≡ station_fault self.old.names
-            (record { name = name.now; sights = sights.now }) (divided sights.now)) }
-        ensures takes { IfOk result (λ flaw. IfNone flaw
-            (TakesStation (record { name = name.now; sights = sights.now }) (divided sights.now)
-            self.old self.new)) }
+        ensures takes { OnOk result (TakesStation (record { name = name.now; sights = sights.now })
+            (judged self.old.stated (before_in self.old.names)
+            (record { name = name.now; sights = sights.now })) self.old self.new) }
     {
-        let divided = divide(alloc, sights)?;
-        if let Some(flaw) = station_fault(&mut self.names, name, sights, divided) {
-            return Ok(Some(flaw));
+        match divide(alloc, self.stated, sights)? {
+            Divided::NoSets => self.take_without_sets(name, sights),
+            Divided::Flawed(flaw) => match self.names.twice_fault(name, sights) {
+                Some(twice) => self.take_faulty(name, sights, twice),
+                None => self.take_faulty(name, sights, flaw),
+            },
+            Divided::Sets(leading) => {
+                match sets_fault(&mut self.names, name, sights, leading) {
+                    Some(flaw) => self.take_faulty(name, sights, flaw),
+                    None => self.take_sets(alloc, name, sights, leading),
+                }
+            }
         }
-        match divided {
-            Divided::Sets(leading) => self.take_sets(alloc, name, sights, leading)?,
-            _ => self.take_without_sets(name, sights)?,
-        }
-        Ok(None)
     }
 }

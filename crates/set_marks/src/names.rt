@@ -11,7 +11,7 @@ use std::marker::Model;
 
 /// Names, each once, in the order in which they came first.
 #[derive(Drop)]
-pub(crate) struct Names {
+pub struct Names {
     kept: IndexSet<Name>,
     /// The place of the name that was asked for last: beside it the next one is looked for first,
     /// since targets are read in turn, and in face II mostly backwards.
@@ -28,7 +28,7 @@ impl Model for Names {
 
 impl Names {
     /// No name.
-    pub(crate) fn new(alloc: Global) -> Names
+    pub fn new(alloc: Global) -> Names
         ensures { result ≡ [] }
     {
         Names {
@@ -38,7 +38,7 @@ impl Names {
     }
 
     /// No name, with room for so many.
-    pub(crate) fn with_room(alloc: Global, count: usize) -> Result<Names, AllocError>
+    pub fn with_room(alloc: Global, count: usize) -> Result<Names, AllocError>
         ensures { IfOk result (λ names. names ≡ []) }
     {
         Ok(Names {
@@ -48,7 +48,7 @@ impl Names {
     }
 
     /// How many there are.
-    pub(crate) fn len(&self) -> usize
+    pub fn len(&self) -> usize
         ensures { result ≡ length self.now }
     {
         self.kept.len()
@@ -88,7 +88,7 @@ impl Names {
 
     /// Whether a name is among them.
     #[inline(always)]
-    pub(crate) fn has(&mut self, name: &Name) -> bool
+    pub fn has(&mut self, name: &Name) -> bool
         ensures value { result ≡ is_among self.old name.now }
         ensures unchanged { self.new ≡ self.old }
     {
@@ -111,7 +111,7 @@ impl Names {
 
     /// Adds a name, where it is new, and answers whether it was among them.
     #[inline(always)]
-    pub(crate) fn add(&mut self, name: &Name) -> Result<bool, AllocError>
+    pub fn add(&mut self, name: &Name) -> Result<bool, AllocError>
         ensures known { IfOk result (λ known. known ≡ is_among self.old name.now) }
         ensures added { OnOk result (self.new ≡ with_new self.old name.now) }
     {

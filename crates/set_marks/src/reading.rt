@@ -22,6 +22,7 @@ ghost use Rattle.set_marks.specs.Keeping.{Adds, Ends, IsMemoryOr, Keeps, begun_i
 use crate::fault::{MarkFault, MarkKind};
 use crate::readings::Readings;
 use crate::sight::Sight;
+use crate::stated::Stated;
 use adjust_kernel::Name;
 use gsi_word::{Block, CODE_NUMBER, Found, GSI_16, POINT_NUMBER, VERTICAL_ANGLE, Word};
 use station_book::{BookKind, CIRCLE, HALF_CIRCLE, Reading, Role, read, role_of, target};
@@ -135,13 +136,13 @@ fn bare(name: &Name) -> Name
 
 /// No readings: of a station, where its name is stated.
 #[tactic(auto, using(crate::proofs::EndedStations::none_kept))]
-pub(crate) fn no_readings(alloc: Global, station: Option<Name>) -> Readings
-    ensures keeps { Keeps station [] result }
+pub(crate) fn no_readings(alloc: Global, station: Option<Name>, stated: Stated) -> Readings
+    ensures keeps { Keeps station stated [] result }
     ensures room { All IsRoomy result.marking.marks.items }
 {
     match station {
-        Some(name) => Readings::new(alloc, Some(bare(&name))),
-        None => Readings::new(alloc, None),
+        Some(name) => Readings::new(alloc, Some(bare(&name)), stated),
+        None => Readings::new(alloc, None, stated),
     }
 }
 
@@ -312,7 +313,6 @@ impl Readings {
         requires { number ≤ LONGEST_FILE }
         ensures station { OnOk result (self.new.station ≡ self.old.station) }
         ensures marking { self.new.marking ≡ self.old.marking }
-        ensures flaw { OnOk result (self.new.flaw ≡ self.old.flaw) }
         ensures sights { OnOk result (self.new.sights.items ≡ self.old.sights.items ++ record {
           block = number;
           wide = wide;

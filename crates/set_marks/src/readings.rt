@@ -3,7 +3,6 @@
 ghost use Rattle.std.specs.Prelude.{◌≤◌};
 ghost use Rattle.gsi_file.specs.declared.bounds.TheConstants.{LONGEST_FILE};
 
-use crate::flaw::Flaw;
 use crate::marking::Marking;
 use crate::sight::Sight;
 use adjust_kernel::Name;
@@ -17,8 +16,6 @@ pub(crate) struct Readings {
     pub(crate) sights: Vec<Sight>,
     /// The code lines of the stations before it.
     pub(crate) marking: Marking,
-    /// The flaw of the first of these that has one. No station after it is marked.
-    pub(crate) flaw: Option<Flaw>,
     /// How many blocks came.
     pub(crate) blocks: u32,
     // no more than a file has bytes

@@ -1,14 +1,14 @@
 //! Whether some readings are a set, and what is wrong with them if they are not.
 
 ghost use Rattle.std.specs.Prelude.{◌≡◌, IfSome, IfNone, IfOk, [], take, option_map, slice_get};
-ghost use Rattle.std.specs.List.{list_any};
+ghost use Rattle.std.specs.List.{list_all, list_any};
 ghost use Rattle.std.specs.Str.{bytes_eq};
 ghost use Rattle.set_marks.specs.Divisions.{is_of, is_again, is_pair, is_same_face, again_in};
 ghost use Rattle.set_marks.specs.Divisions.{alone_in, are_in_face};
 ghost use Rattle.set_marks.specs.Divisions.{is_by_faces, is_by_targets, are_read_alike};
 ghost use Rattle.set_marks.specs.Divisions.{first_target, last_target};
 ghost use Rattle.set_marks.specs.Divisions.{readings_flaw, order_flaw, set_flaw, is_set};
-ghost use Rattle.set_marks.specs.Divisions.{is_in_one_face};
+ghost use Rattle.set_marks.specs.Divisions.{begins_with_pair};
 ghost use Rattle.set_marks.specs.Searching.{repeats, KeepsFaces};
 
 use crate::bounds::{FEW_READINGS, MOST_READINGS};
@@ -57,6 +57,13 @@ pub(crate) fn reads_target(sights: &[Sight], name: &Name) -> bool
     ensures { result ≡ list_any (is_of name.now) sights.now }
 {
     sights.iter().any(|sight| is_of(name, sight))
+}
+
+/// Whether all are of this target.
+pub(crate) fn are_of(name: &Name, sights: &[Sight]) -> bool
+    ensures { result ≡ list_all (is_of name.now) sights.now }
+{
+    sights.iter().all(|sight| is_of(name, sight))
 }
 
 /// Whether a set reads the targets of another in the same faces, in the same order.
@@ -114,19 +121,20 @@ fn alone_in(set: &[Sight]) -> Option<Sight>
     None
 }
 
-fn are_in_face(second: bool, set: &[Sight]) -> bool
+/// Whether all are in this face.
+pub(crate) fn are_in_face(second: bool, set: &[Sight]) -> bool
     ensures { result ≡ are_in_face second set.now }
 {
     set.iter().all(|sight| is_same_face(second, sight.second))
 }
 
-/// Whether all are in one face, or there are none.
-pub(crate) fn is_in_one_face(sights: &[Sight]) -> bool
-    ensures { result ≡ is_in_one_face sights.now }
+/// Whether the first two are of one target, one in each face.
+pub(crate) fn begins_with_pair(sights: &[Sight]) -> bool
+    ensures { result ≡ begins_with_pair sights.now }
 {
     match sights {
-        [] => true,
-        [first, rest @ ..] => are_in_face(first.second, rest),
+        [a, b, ..] => is_pair(a, b),
+        [] | [_] => false,
     }
 }
 

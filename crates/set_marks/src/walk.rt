@@ -27,6 +27,7 @@ use crate::fault::MarkFault;
 use crate::line_end::{Tested, part_end};
 use crate::reading::{Said, no_readings};
 use crate::readings::Readings;
+use crate::stated::Stated;
 use adjust_kernel::Name;
 use gsi_file::{FileFault, FileKind, LINE_FEED, LONGEST_FILE, LONGEST_LINE, is_blank};
 use gsi_word::Block;
@@ -113,15 +114,15 @@ fn after(count: usize, bytes: &[u8]) -> &[u8]
 
 impl Walk {
     /// Nothing was taken. A station of this name may be open.
-    fn new(alloc: Global, station: Option<Name>) -> Walk
-        ensures keeps { Keeps station [] result.readings }
+    fn new(alloc: Global, station: Option<Name>, stated: Stated) -> Walk
+        ensures keeps { Keeps station stated [] result.readings }
         ensures room { All IsRoomy result.readings.marking.marks.items }
         ensures fault { result.fault ≡ None }
         ensures begins { result.begins.items ≡ [] }
         ensures number { result.number ≡ 0 }
     {
         Walk {
-            readings: no_readings(alloc, station),
+            readings: no_readings(alloc, station, stated),
             fault: None,
             begins: Vec::new(alloc),
             number: 0,
@@ -256,13 +257,14 @@ pub(crate) fn readings_of(
     bytes: &[u8],
     fails: bool,
     station: Option<Name>,
+    stated: Stated,
 ) -> Result<Walk, MarkFault>
-    ensures answers { AnswersReadings station
+    ensures answers { AnswersReadings station stated
         (file_answers (record { bytes = bytes.now; fails = fails })) (readings_in result) }
     ensures room { IfOk result (λ w. All IsRoomy w.readings.marking.marks.items) }
     ensures begins { IfOk result (λ w. AreBegins bytes.now w.begins.items) }
 {
-    let mut walk = Walk::new(alloc, station);
+    let mut walk = Walk::new(alloc, station, stated);
     let mut at = 0;
     let mut rest = bytes;
     'parts: while let Some(end) = part_end(rest) {

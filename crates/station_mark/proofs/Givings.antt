@@ -1,23 +1,24 @@
 -- What a reader gave is all of the file, or enough for its answers.
-use Rattle.std.proofs.Common.{◌≡◌, ℕ, ◌<◌, Bool, true, false, List, [], ◌++◌, length, Option, None}
+use Rattle.std.proofs.Common.{◌≡◌, ℕ, Bool, true, false, List, [], length, Option, None}
 use Rattle.std.proofs.Common.{Some}
-use Rattle.std.proofs.Common.{Result, Ok, Err, ap, sym, subst, ◌∙◌, inl, inr, ◌⊎◌, refl}
+use Rattle.std.proofs.Common.{Result, Ok, Err, ap, sym, subst, ◌∙◌, inl, inr, refl}
 use Rattle.std.specs.Prelude.{IfOk}
 use Rattle.std.proofs.lemmas.List.{append-nil}
 use Rattle.byte_ends.proofs.Coming.{left_is}
-use Rattle.byte_ends.specs.Came.{IsReadOut, HasBroken, Leaves, NoReadFailed}
+use Rattle.byte_ends.specs.Came.{IsReadOut, HasBroken, Leaves}
 use Rattle.byte_ends.specs.Source.{Told, ReaderChange, MayGive, HasGiven, given_then, ended}
-use Rattle.byte_ends.specs.Source.{broken_off}
-use Rattle.gsi_file.specs.FileAnswers.{FileAnswers, file_answers, answers_within}
-use Rattle.gsi_file.specs.ToCome.{FaultIsNext, only}
+use Rattle.gsi_file.specs.FileAnswers.{FileAnswers, file_answers}
+use Rattle.gsi_file.specs.ToCome.{FaultIsNext}
 use Rattle.gsi_file.specs.declared.bounds.TheConstants.{LONGEST_FILE}
 use Rattle.gsi_file.specs.declared.file_fault.FileKind.{FileKind}
 use Rattle.gsi_file.specs.declared.file_fault.FileFault.TheVariants as file
 use Rattle.gsi_file.specs.declared.file_fault.FileKind.TheVariants as kind
 use Rattle.set_marks.specs.Copies.{AreOrdered}
 use Rattle.set_marks.specs.Markings.{AnswersMark, IsFileFault}
-use Rattle.set_marks.specs.declared.fault.MarkFault.{MarkFault}
+use Rattle.set_marks.specs.declared.stated.Stated.{Stated}
 use Rattle.set_marks.specs.declared.fault.MarkFault.TheVariants.{File, Reading, At, Memory}
+use Rattle.set_marks.specs.declared.refused.Refused.{Refused}
+use Rattle.set_marks.specs.declared.refused.Refused.TheVariants as refused
 use Rattle.station_mark.proofs.PastLimits.{past_limit, failed_at_end, past_at_end, no_read_at_end}
 use Rattle.station_mark.proofs.PastLimits.{IsFaultAtEnd, IsNoRead}
 use Rattle.station_mark.specs.Answers.{IsMarkAnswer, IsReadWhole, WasReadFor}
@@ -76,23 +77,32 @@ read_is_last a number h = ap (λ (b : FileAnswers). b.last) h.split ∙ next h.l
     next left (inr (line, rest, e, none)) = absurd none
 
 leaves : (reader : ReaderChange) (bytes : List ℕ) (fails : Bool) (station : Option (List ℕ))
-    (r : Result MarkedFile MarkFault) → IsLeft LONGEST_FILE (length bytes) fails reader
-    → AnswersMark station bytes (file_answers (told_of bytes fails)) (marking_in r)
+    (stated : Stated) (r : Result MarkedFile Refused)
+    → IsLeft LONGEST_FILE (length bytes) fails reader
+    → AnswersMark station stated bytes (file_answers (told_of bytes fails)) (marking_in r)
     → Leaves marked_left r reader
-leaves reader bytes fails station (Ok m) h a = ends reader bytes fails h a.are_blocks.ended
-leaves reader bytes fails station (Err (Reading number what)) h a =
+leaves reader bytes fails station stated (Ok m) h a = ends reader bytes fails h a.are_blocks.ended
+leaves reader bytes fails station stated (Err (refused.Stations flaw told)) h a =
     ends reader bytes fails h a.are_blocks.ended
-leaves reader bytes fails station (Err (At number what)) h a =
+leaves reader bytes fails station stated (Err (refused.File (Reading number what))) h a =
     ends reader bytes fails h a.are_blocks.ended
-leaves reader bytes fails station (Err (File (file.At number kind.Read))) h a =
+leaves reader bytes fails station stated (Err (refused.File (At number what))) h a =
+    ends reader bytes fails h a.are_blocks.ended
+leaves reader bytes fails station stated (Err (refused.File (File
+    (file.At number kind.Read)))) h a =
     breaks_off reader bytes fails h (read_is_last _ number a)
-leaves reader bytes fails station (Err (File (file.At number kind.FileTooLong))) h a = tt
-leaves reader bytes fails station (Err (File (file.At number kind.LineTooLong))) h a = tt
-leaves reader bytes fails station (Err (File (file.At number (kind.Byte at)))) h a = tt
-leaves reader bytes fails station (Err (File (file.At number (kind.Word nth)))) h a = tt
-leaves reader bytes fails station (Err (File (file.At number kind.FirstWord))) h a = tt
-leaves reader bytes fails station (Err (File file.Memory)) h a = tt
-leaves reader bytes fails station (Err Memory) h a = tt
+leaves reader bytes fails station stated
+    (Err (refused.File (File (file.At number kind.FileTooLong)))) h a = tt
+leaves reader bytes fails station stated
+    (Err (refused.File (File (file.At number kind.LineTooLong)))) h a = tt
+leaves reader bytes fails station stated
+    (Err (refused.File (File (file.At number (kind.Byte at))))) h a = tt
+leaves reader bytes fails station stated
+    (Err (refused.File (File (file.At number (kind.Word nth))))) h a = tt
+leaves reader bytes fails station stated
+    (Err (refused.File (File (file.At number kind.FirstWord)))) h a = tt
+leaves reader bytes fails station stated (Err (refused.File (File file.Memory))) h a = tt
+leaves reader bytes fails station stated (Err (refused.File Memory)) h a = tt
 
 -- A reader of which all is kept was read whole.
 read_whole : (reader : ReaderChange) (bytes : List ℕ) (fails : Bool)
@@ -102,33 +112,36 @@ read_whole reader bytes false (inl h) = inl h
 read_whole reader bytes false (inr h) = inr (inr h)
 
 -- And so for any answer.
-read_for : (r : Result MarkedFile MarkFault) (count : ℕ) (reader : ReaderChange)
+read_for : (r : Result MarkedFile Refused) (count : ℕ) (reader : ReaderChange)
     → IsReadWhole count reader → WasReadFor r count reader
 read_for (Ok m) count reader h = h
-read_for (Err (File fault)) count reader h = h
-read_for (Err (Reading number what)) count reader h = h
-read_for (Err (At number what)) count reader h = h
-read_for (Err Memory) count reader h = tt
+read_for (Err (refused.Stations flaw told)) count reader h = h
+read_for (Err (refused.File (File fault))) count reader h = h
+read_for (Err (refused.File (Reading number what))) count reader h = h
+read_for (Err (refused.File (At number what))) count reader h = h
+read_for (Err (refused.File Memory)) count reader h = tt
 
 -- What is answered of the bytes that were kept is the answer on what the reader gave.
-pub answered : (station : Option (List ℕ)) (reader : ReaderChange) (bytes : List ℕ) (fails : Bool)
-    (r : Result MarkedFile MarkFault) → IsAllGiven LONGEST_FILE reader bytes fails
-    → AnswersMark station bytes (file_answers (told_of bytes fails)) (marking_in r)
-    → IfOk r (λ file. file.bytes.items ≡ bytes) → IsMarkAnswer station reader r
-answered station reader bytes fails r h a kept = record {
+pub answered : (station : Option (List ℕ)) (stated : Stated) (reader : ReaderChange)
+    (bytes : List ℕ) (fails : Bool) (r : Result MarkedFile Refused)
+    → IsAllGiven LONGEST_FILE reader bytes fails
+    → AnswersMark station stated bytes (file_answers (told_of bytes fails)) (marking_in r)
+    → IfOk r (λ file. file.bytes.items ≡ bytes) → IsMarkAnswer station stated reader r
+answered station stated reader bytes fails r h a kept = record {
   bytes = bytes;
   reads = h.reads;
-  marks = λ left may. subst (λ (f : FileAnswers). AnswersMark station bytes f (marking_in r))
+  marks = λ left may. subst (λ (f : FileAnswers). AnswersMark station stated bytes f (marking_in r))
       (sym (same_answers reader bytes fails h.left left may)) a;
   kept = kept;
   whole = read_for r (length bytes) reader (read_whole reader bytes fails h.left);
-  reader = leaves reader bytes fails station r h.left a;
+  reader = leaves reader bytes fails station stated r h.left a;
 }
 
 -- Where memory ran out, nothing is said of the bytes that the reader gave.
-pub out_of_memory : (station : Option (List ℕ)) (reader : ReaderChange) (bytes : List ℕ)
-    → HasGiven reader bytes → IsMarkAnswer station reader (Err Memory)
-out_of_memory station reader bytes h = record {
+pub out_of_memory : (station : Option (List ℕ)) (stated : Stated) (reader : ReaderChange)
+    (bytes : List ℕ) → HasGiven reader bytes
+    → IsMarkAnswer station stated reader (Err (refused.File Memory))
+out_of_memory station stated reader bytes h = record {
   bytes = bytes;
   reads = h;
   marks = λ left may. tt;
@@ -138,10 +151,10 @@ out_of_memory station reader bytes h = record {
 }
 
 -- The code lines of a marked file stand in order.
-pub in_order : (station : Option (List ℕ)) (reader : ReaderChange) (file : MarkedFile)
-    → IsMarkAnswer station reader (Ok file)
+pub in_order : (station : Option (List ℕ)) (stated : Stated) (reader : ReaderChange)
+    (file : MarkedFile) → IsMarkAnswer station stated reader (Ok file)
     → AreOrdered 0 (length file.bytes.items) file.marked.marks.items
-in_order station reader file a =
+in_order station stated reader file a =
     let may : MayGive reader.told' ended =
     subst (λ (o : Option Told). MayGive o ended) (sym a.reader.ended) refl in
     subst (λ (b : List ℕ). AreOrdered 0 (length b) file.marked.marks.items) (sym a.kept)

@@ -3,3 +3,4 @@ pub mod Givings
 pub mod Telling
 pub mod Copying
 pub mod AnswerLaws
+pub mod Joined

@@ -1,8 +1,14 @@
--- What is told of a marked file, as text: to be compared with the field book (profile).
-use Rattle.std.specs.Prelude.{ℕ, List, [], ◌++◌, ◌==◌, if◌then◌else◌, codes, decimal}
-use Rattle.std.specs.List.{flat_map}
+-- What is told of the stations of a field file, as text: to be compared with the field book
+-- (profile).
+use Rattle.std.specs.Prelude.{ℕ, Bool, false, ◌&&◌, not, List, [], ◌∷◌, ◌++◌, ◌==◌}
+use Rattle.std.specs.Prelude.{if◌then◌else◌, Option, Some, None, codes, decimal}
+use Rattle.std.specs.Str.{bytes_eq}
+use Rattle.station_book.specs.Places.{is_among, with_new}
+use Rattle.set_marks.specs.FaultNames.{mark_kind_name}
+use Rattle.set_marks.specs.declared.flaw.Flaw.{Flaw}
 use Rattle.set_marks.specs.declared.marked.Marked.{Marked}
 use Rattle.set_marks.specs.declared.recognized.Recognized.{Recognized}
+use Rattle.set_marks.specs.declared.remarks.Remarks.{Remarks}
 
 -- the ending of a word for this many: none for one
 abbrev pub plural : ℕ → List ℕ
@@ -12,36 +18,139 @@ plural count = if count == 1 then [] else codes "s"
 abbrev pub counted : ℕ → List ℕ → List ℕ
 counted count thing = decimal count ++ (codes " " ++ (thing ++ plural count))
 
+-- so many readings are in no set of the copy: `37 readings stay outside`
+abbrev pub left_outside_text : ℕ → List ℕ
+left_outside_text readings = counted readings (codes "reading")
+    ++ (if readings == 1 then codes " stays outside" else codes " stay outside")
+
 -- of a station without sets, how many readings it has: `no sets; 37 readings stay outside`
 abbrev pub without_sets_text : ℕ → List ℕ
-without_sets_text readings =
-    codes "no sets; " ++ (counted readings (codes "reading")
-    ++ (if readings == 1 then codes " stays outside" else codes " stay outside"))
+without_sets_text readings = codes "no sets; " ++ left_outside_text readings
 
--- of a station with sets, how many, of how many targets, and the readings in none of them:
--- `4 sets, 6 targets; 1 reading before them and 2 after stay outside`
+-- a fault, and where it stands: `block 14: ReadTwice`
+unfoldable pub flaw_text : Flaw → List ℕ
+flaw_text f = codes "block " ++ (decimal f.block ++ (codes ": " ++ mark_kind_name f.kind))
+
+-- of a station with a fault, this and how many readings the station has:
+-- `not recognized, block 14: ReadTwice; 22 readings stay outside`
+abbrev pub fault_text : Flaw → ℕ → List ℕ
+fault_text f readings =
+    codes "not recognized, " ++ (flaw_text f ++ (codes "; " ++ left_outside_text readings))
+
+-- the target that opens the sets, and the one at which the first set turns: `, from TOWER to P12`
+abbrev pub ends_text : Option Remarks → List ℕ
+ends_text None = []
+ends_text (Some m) = codes ", from " ++ (m.opening ++ (codes " to " ++ m.turning))
+
+-- how many sets, and of how many targets: `4 sets, 6 targets`
+abbrev pub sets_text : Recognized → List ℕ
+sets_text r = counted r.sets (codes "set") ++ (codes ", " ++ counted r.targets (codes "target"))
+
+-- the readings in none of the sets: `; 1 reading before them and 2 after stay outside`
+abbrev pub outside_text : Recognized → List ℕ
+outside_text r =
+    codes "; " ++ (counted r.before (codes "reading") ++ (codes " before them and "
+    ++ (decimal r.after ++ codes " after stay outside")))
+
+-- what is told of a station with sets:
+-- `4 sets, 6 targets, from TOWER to P12; 1 reading before them and 2 after stay outside`
 abbrev pub with_sets_text : Recognized → List ℕ
-with_sets_text r =
-    counted r.sets (codes "set") ++ (codes ", " ++ (counted r.targets (codes "target")
-    ++ (codes "; " ++ (counted r.before (codes "reading") ++ (codes " before them and "
-    ++ (decimal r.after ++ codes " after stay outside"))))))
+with_sets_text r = sets_text r ++ (ends_text r.remarks ++ outside_text r)
 
--- what is told of a station
+-- what is told of a station with readings, and without a fault
+abbrev pub faultless_text : Recognized → List ℕ
+faultless_text r = if r.sets == 0 then without_sets_text r.before else with_sets_text r
+
+-- what is told of a station with readings, which may have a fault
+abbrev pub told_text : Recognized → Option Flaw → List ℕ
+told_text r None = faultless_text r
+told_text r (Some f) = fault_text f r.before
+
+-- what is told of a station with readings
 abbrev pub recognized_text : Recognized → List ℕ
-recognized_text r = if r.sets == 0 then without_sets_text r.before else with_sets_text r
+recognized_text r = told_text r r.fault
 
--- the line that tells of a station
-unfoldable pub note_line : Recognized → List ℕ
-note_line r =
-    codes "note: station " ++ (r.name ++ (codes ": " ++ (recognized_text r ++ codes "\n")))
+-- what the line of a station begins with
+abbrev pub line_head : List ℕ → List ℕ
+line_head name = codes "note: station " ++ (name ++ codes ": ")
+
+-- the line that tells this of a station
+abbrev pub note_line : List ℕ → List ℕ → List ℕ
+note_line name told = line_head name ++ (told ++ codes "\n")
+
+-- The same, but no line where there is none of what it tells.
+abbrev pub line_of_some : ℕ → List ℕ → List ℕ → List ℕ
+line_of_some count name told = if count == 0 then [] else note_line name told
+
+-- that so many are missing
+abbrev pub are_missing : ℕ → List ℕ
+are_missing count = if count == 1 then codes " is missing" else codes " are missing"
+
+-- what is missing: `4 of 28 directions are missing`
+abbrev pub missing_text : Remarks → List ℕ
+missing_text m =
+    decimal m.missing ++ (codes " of " ++ (counted m.directions (codes "direction")
+    ++ are_missing m.missing))
+
+-- what stands after the sets as sets of another station do:
+-- `2 targets after the sets in both faces: of another station?`
+abbrev pub others_text : Remarks → List ℕ
+others_text m =
+    counted m.others (codes "target")
+    ++ codes " after the sets in both faces: of another station?"
+
+-- the lines of what is told of a station's sets beyond their numbers, where it has any
+abbrev pub remarks_lines : List ℕ → Option Remarks → List ℕ
+remarks_lines name None = []
+remarks_lines name (Some m) =
+    line_of_some m.missing name (missing_text m) ++ line_of_some m.others name (others_text m)
+
+-- the line of a station that is set up again, where it is
+abbrev pub again_line : Bool → List ℕ → List ℕ
+again_line again name = if again then note_line name (codes "set up again") else []
+
+-- The lines of a station with readings, which is set up again or not.
+abbrev pub station_lines : Bool → Recognized → List ℕ
+station_lines again r =
+    again_line again r.name
+    ++ (note_line r.name (recognized_text r) ++ remarks_lines r.name r.remarks)
+
+-- Readings follow the station's set-up line.
+abbrev pub has_readings : Recognized → Bool
+has_readings r = not ((r.sets == 0) && (r.before == 0))
+
+-- The next set-up line has the same name: it is the same station, and its line was written again.
+abbrev pub is_named_again : List ℕ → List Recognized → Bool
+is_named_again name [] = false
+is_named_again name (r ∷ later) = bytes_eq r.name name
+
+-- The line of a station without readings, unless its set-up line was written again.
+abbrev pub unread_line : List ℕ → List Recognized → List ℕ
+unread_line name later =
+    if is_named_again name later then [] else note_line name (codes "no readings")
+
+-- The lines of a station before these others, after stations with readings that have these names.
+abbrev pub next_lines : List (List ℕ) → Recognized → List Recognized → List ℕ
+next_lines names r later =
+    if has_readings r then station_lines (is_among names r.name) r else unread_line r.name later
+
+-- these names, and that of a station with readings
+abbrev pub names_after : List (List ℕ) → Recognized → List (List ℕ)
+names_after names r = if has_readings r then with_new names r.name else names
+
+-- the lines of these stations, after stations with readings that have these names
+abbrev pub stations_text : List (List ℕ) → List Recognized → List ℕ
+stations_text names [] = []
+stations_text names (r ∷ later) =
+    next_lines names r later ++ stations_text (names_after names r) later
 
 -- the last line: that this is to be compared
 abbrev pub last_line : List ℕ
 last_line = codes "note: compare this with the field book\n"
 
--- The notes: a line for each of these stations, and the last line.
+-- The notes: the lines of these stations, and the last line.
 abbrev pub notes_text : List Recognized → List ℕ
-notes_text stations = flat_map note_line stations ++ last_line
+notes_text stations = stations_text [] stations ++ last_line
 
 -- the notes of a marked file
 abbrev pub notes_of : Marked → List ℕ

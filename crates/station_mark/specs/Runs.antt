@@ -3,13 +3,14 @@ use Rattle.std.specs.Prelude.{◌≡◌, ℕ, true, List, Option, Result, Ok, Er
 use Rattle.byte_ends.specs.Sink.{WriterChange}
 use Rattle.byte_ends.specs.Source.{ReaderChange}
 use Rattle.set_marks.specs.Markings.{copy_of}
-use Rattle.set_marks.specs.declared.fault.MarkFault.{MarkFault}
+use Rattle.set_marks.specs.declared.refused.Refused.{Refused}
+use Rattle.set_marks.specs.declared.stated.Stated.{Stated}
 use Rattle.station_check.specs.RunEndings.{IsWritten, IsCutShort}
 use Rattle.station_mark.specs.Answers.{IsMarkAnswer}
+use Rattle.station_mark.specs.FaultTexts.{Unprinted, unmarked, untold}
 use Rattle.station_mark.specs.Notes.{notes_of}
 use Rattle.station_mark.specs.declared.marked_file.MarkedFile.{MarkedFile}
-use Rattle.station_mark.specs.declared.fault.PrintFault.{PrintFault}
-use Rattle.station_mark.specs.declared.fault.PrintFault.TheVariants.{Mark, Write}
+use Rattle.station_mark.specs.declared.fault.PrintFault.TheVariants.{Write}
 
 -- the copy of a marked file
 abbrev pub copy_in : MarkedFile → List ℕ
@@ -22,16 +23,16 @@ notes_in file = notes_of file.marked
 -- What a marking makes of `out`, and what the run then answers: the marking, its copy whole and
 -- flushed; or that a call of `out` failed, which got some of the copy's first bytes; at a refusal
 -- nothing is asked of `out`, and the refusal is answered.
-abbrev pub PrintsCopy : Result MarkedFile MarkFault → Result MarkedFile PrintFault → WriterChange
+abbrev pub PrintsCopy : Result MarkedFile Refused → Result MarkedFile Unprinted → WriterChange
     → Type 0
 PrintsCopy (Ok file) (Ok printed) out =
     (printed ≡ file) × IsWritten (copy_in file) out × (out.is_flushed ≡ true)
-PrintsCopy (Ok file) (Err fault) out = (fault ≡ Write) × IsCutShort (copy_in file) out
-PrintsCopy (Err fault) r out = (r ≡ Err (Mark fault)) × out.is_unasked
+PrintsCopy (Ok file) (Err u) out = (u ≡ untold Write) × IsCutShort (copy_in file) out
+PrintsCopy (Err refused) r out = (r ≡ Err (unmarked refused)) × out.is_unasked
 
 -- A run that puts codes in: all that is promised of the marking, and how its copy was printed.
-pub record IsMarkRun (station : Option (List ℕ)) (gsi : ReaderChange)
-    (r : Result MarkedFile PrintFault) (out : WriterChange) : Type 0 where
-  pub marking : Result MarkedFile MarkFault
-  pub answers : IsMarkAnswer station gsi marking
+pub record IsMarkRun (station : Option (List ℕ)) (stated : Stated) (gsi : ReaderChange)
+    (r : Result MarkedFile Unprinted) (out : WriterChange) : Type 0 where
+  pub marking : Result MarkedFile Refused
+  pub answers : IsMarkAnswer station stated gsi marking
   pub printed : PrintsCopy marking r out

@@ -7,6 +7,7 @@
 //! | `mark_source` | the same, and gives the reader back |
 //! | `notes_text` | what is told of the stations of a marked file |
 //! | `refusal_line` | the line of a refusal |
+//! | `refusal_text` | the same of a marking, after the lines of each station |
 //! | `run_mark` | the command: the copy on `out`, the notes or the refusal on `err`, the status |
 //!
 //! The rule by which codes are put in is `set_marks`.
@@ -25,6 +26,6 @@ mod runs;
 pub use fault::PrintFault;
 pub use mark::{mark_bytes, mark_source};
 pub use marked_file::MarkedFile;
-pub use notes::{note_line, notes_text};
-pub use refused::refusal_line;
+pub use notes::notes_text;
+pub use refused::{refusal_line, refusal_text};
 pub use runs::run_mark;

@@ -11,27 +11,32 @@ use crate::marked_file::MarkedFile;
 use adjust_kernel::Name;
 use byte_ends::Source;
 use gsi_file::LONGEST_FILE;
-use set_marks::{MarkFault, mark_file};
+use set_marks::{MarkFault, Refused, Stated, mark_file};
 use std::alloc::Global;
 
 /// Finds where codes are put into a field file: 10 where a station begins, 20 where a set begins,
 /// 30 before the first reading after a set that is in none. `station` is the name of the file's one
-/// station, where its lines set none up.
+/// station, where its lines set none up. `stated` is what is stated of the file: where sets are
+/// read by targets, nothing else shows where they begin.
 ///
 /// The file is read whole first, whatever its lines are.
 ///
 /// # Errors
 ///
-/// The first fault of the file's lines, a failed read among them; else the first of a block; else
-/// the first of a station; or `Memory`.
+/// The first fault of the file's lines, a failed read among them; else the first of a block by
+/// itself; or `Memory`. Else each station is judged by itself, and the answer tells of all: the
+/// fault is that of the first station that has one, unless these may stay outside, or that none has
+/// sets.
 pub fn mark_bytes<R: Source>(
     alloc: Global,
     gsi: R,
     station: Option<Name>,
-) -> Result<MarkedFile, MarkFault>
-    ensures { UntilDropped R.told R.failed R.gave gsi (λ gsi. IsMarkAnswer station gsi result) }
+    stated: Stated,
+) -> Result<MarkedFile, Refused>
+    ensures { UntilDropped R.told R.failed R.gave gsi
+        (λ gsi. IsMarkAnswer station stated gsi result) }
 {
-    let (answer, _gsi) = mark_source(alloc, gsi, station);
+    let (answer, _gsi) = mark_source(alloc, gsi, station, stated);
     answer
 }
 
@@ -43,24 +48,31 @@ pub fn mark_source<R: Source>(
     alloc: Global,
     gsi: R,
     station: Option<Name>,
-) -> (Result<MarkedFile, MarkFault>, R)
-    ensures { IsMarkAnswer station (reader_change R.told R.failed R.gave gsi result.1) result.0 }
+    stated: Stated,
+) -> (Result<MarkedFile, Refused>, R)
+    ensures { IsMarkAnswer station stated
+        (reader_change R.told R.failed R.gave gsi result.1) result.0 }
 {
     let mut reader = gsi;
     match all_given(alloc, &mut reader, LONGEST_FILE) {
-        Ok(given) => (mark_given(alloc, given, station), reader),
-        Err(_) => (Err(MarkFault::Memory), reader),
+        Ok(given) => (mark_given(alloc, given, station, stated), reader),
+        Err(_) => (Err(Refused::File(MarkFault::Memory)), reader),
     }
 }
 
 /// Marks what a reader gave.
-fn mark_given(alloc: Global, given: Given, station: Option<Name>) -> Result<MarkedFile, MarkFault>
-    ensures answers { AnswersMark station given.bytes.items
+fn mark_given(
+    alloc: Global,
+    given: Given,
+    station: Option<Name>,
+    stated: Stated,
+) -> Result<MarkedFile, Refused>
+    ensures answers { AnswersMark station stated given.bytes.items
         (file_answers (record { bytes = given.bytes.items; fails = given.fails }))
         (marking_in result) }
     ensures kept { IfOk result (λ file. file.bytes.items ≡ given.bytes.items) }
 {
-    let marked = mark_file(alloc, &given.bytes, given.fails, station)?;
+    let marked = mark_file(alloc, &given.bytes, given.fails, station, stated)?;
     Ok(MarkedFile {
         bytes: given.bytes,
         marked,

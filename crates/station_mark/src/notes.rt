@@ -1,116 +1,346 @@
-//! What is told of a marked file.
+//! What is told of the stations of a field file.
 
-ghost use Rattle.std.specs.Prelude.{◌≡◌, ◌≤◌, ◌+◌, ◌++◌, IfOk, length, decimal};
-ghost use Rattle.arrayvec.specs.ArrayVec.{array_vec_len};
-ghost use Rattle.station_mark.specs.Notes.{counted, with_sets_text, without_sets_text};
-ghost use Rattle.station_mark.specs.Notes.{recognized_text};
+ghost use Rattle.std.specs.Prelude.{◌≡◌, ◌++◌, [], IfOk, OnOk, decimal, option_map};
+ghost use Rattle.station_mark.specs.Notes.{again_line, are_missing, counted, ends_text, fault_text};
+ghost use Rattle.station_mark.specs.Notes.{faultless_text, flaw_text, has_readings, is_named_again};
+ghost use Rattle.station_mark.specs.Notes.{left_outside_text, line_head, line_of_some, missing_text};
+ghost use Rattle.station_mark.specs.Notes.{names_after, next_lines, others_text, outside_text};
+ghost use Rattle.station_mark.specs.Notes.{recognized_text, remarks_lines, sets_text};
+ghost use Rattle.station_mark.specs.Notes.{station_lines, stations_text, unread_line};
+ghost use Rattle.station_mark.specs.Notes.{with_sets_text, without_sets_text};
 ghost use Rattle.station_mark.specs.Notes as spec;
 
+use adjust_kernel::Name;
 use itoa::Buffer;
-use set_marks::Recognized;
-use station_check::{LONGEST_U64, LONGEST_VERDICT_LINE, VerdictLine, add};
+use set_marks::{Flaw, Names, Recognized, Remarks};
 use std::alloc::{AllocError, Global};
 
 /// The last line of the notes.
 const LAST_LINE: &[u8] = b"note: compare this with the field book\n";
 
-/// Bytes of so many of a thing, at most, without the thing itself.
-const COUNT: usize = LONGEST_U64 + 2;
-
-/// Bytes of what is told of a station, at most: four numbers, and the words around them.
-const RECOGNIZED: usize = 4 * LONGEST_U64 + 62;
-
-/// The notes of a marked file: a line for each station with readings, and that they are to be
-/// compared with the field book.
+/// The notes of a marked file: lines for each station, and that they are to be compared with the
+/// field book.
 pub fn notes_text(alloc: Global, stations: &[Recognized]) -> Result<Vec<u8>, AllocError>
     ensures { IfOk result (λ text. text.items ≡ spec.notes_text stations.now) }
 {
     let mut text = Vec::new(alloc);
-    'stations: for station in stations {
-        text.extend_from_slice(note_line(station).as_slice())?;
-    }
+    add_stations(alloc, &mut text, stations)?;
     text.extend_from_slice(LAST_LINE)?;
     Ok(text)
 }
 
-/// The line that tells of a station.
-#[tactic(auto, unfolding(crate::specs::Notes::note_line))]
-pub fn note_line(station: &Recognized) -> VerdictLine
-    ensures { result.items ≡ spec.note_line station.now }
+/// Adds the lines of stations.
+pub(crate) fn add_stations(
+    alloc: Global,
+    text: &mut Vec<u8>,
+    stations: &[Recognized],
+) -> Result<(), AllocError>
+    ensures { OnOk result
+        (text.new.items ≡ text.old.items ++ stations_text [] stations.now) }
 {
-    let mut line = VerdictLine::new();
-    add(&mut line, b"note: station ");
-    add(&mut line, station.name.bytes());
-    add(&mut line, b": ");
-    add_recognized(&mut line, station);
-    add(&mut line, b"\n");
-    line
+    let mut names = Names::new(alloc);
+    let mut left = stations;
+    'stations: while let Some((station, later)) = left.split_first() {
+        add_next(text, &mut names, station, later)?;
+        left = later;
+    }
+    Ok(())
 }
 
-/// Adds what is told of a station, to a line that has room for it.
-fn add_recognized(line: &mut VerdictLine, station: &Recognized)
-    requires { array_vec_len line.old + RECOGNIZED ≤ LONGEST_VERDICT_LINE }
-    ensures items { line.new.items ≡ line.old.items ++ recognized_text station.now }
-    ensures len { array_vec_len line.new ≤ array_vec_len line.old + RECOGNIZED }
+/// Adds the lines of a station before these others, after stations with readings that have these
+/// names.
+fn add_next(
+    text: &mut Vec<u8>,
+    names: &mut Names,
+    station: &Recognized,
+    later: &[Recognized],
+) -> Result<(), AllocError>
+    ensures text { OnOk result (text.new.items
+        ≡ text.old.items ++ next_lines names.old station.now later.now) }
+    ensures names { OnOk result (names.new ≡ names_after names.old station.now) }
+{
+    if has_readings(station) {
+        let again = names.add(&station.name)?;
+        add_station(text, again, station)?;
+    } else {
+        add_unread(text, &station.name, later)?;
+    }
+    Ok(())
+}
+
+/// Whether readings follow the set-up line of a station.
+fn has_readings(station: &Recognized) -> bool
+    ensures { result ≡ has_readings station.now }
+{
+    !(station.sets == 0 && station.before == 0)
+}
+
+/// Adds the lines of a station with readings.
+fn add_station(text: &mut Vec<u8>, again: bool, station: &Recognized) -> Result<(), AllocError>
+    ensures { OnOk result
+        (text.new.items ≡ text.old.items ++ station_lines again station.now) }
+{
+    add_again(text, again, &station.name)?;
+    add_recognized(text, station)?;
+    add_remarks(text, &station.name, station.remarks.as_ref())?;
+    Ok(())
+}
+
+/// Adds the line of a station that is set up again, where it is.
+fn add_again(text: &mut Vec<u8>, again: bool, name: &Name) -> Result<(), AllocError>
+    ensures { OnOk result (text.new.items ≡ text.old.items ++ again_line again name.now) }
+{
+    if again {
+        add_line(text, name, b"set up again")?;
+    }
+    Ok(())
+}
+
+/// Whether the next set-up line has the same name.
+fn is_named_again(name: &Name, later: &[Recognized]) -> bool
+    ensures { result ≡ is_named_again name.now later.now }
+{
+    match later.first() {
+        Some(next) => next.name.is_same(name),
+        None => false,
+    }
+}
+
+/// Adds the line of a station without readings, unless its set-up line was written again.
+fn add_unread(text: &mut Vec<u8>, name: &Name, later: &[Recognized]) -> Result<(), AllocError>
+    ensures { OnOk result (text.new.items ≡ text.old.items ++ unread_line name.now later.now) }
+{
+    if !is_named_again(name, later) {
+        add_line(text, name, b"no readings")?;
+    }
+    Ok(())
+}
+
+/// Adds the line that tells this of a station.
+fn add_line(text: &mut Vec<u8>, name: &Name, told: &[u8]) -> Result<(), AllocError>
+    ensures { OnOk result (text.new.items ≡ text.old.items ++ spec.note_line name.now told.now) }
+{
+    add_head(text, name)?;
+    text.extend_from_slice(told)?;
+    text.extend_from_slice(b"\n")?;
+    Ok(())
+}
+
+/// Adds what the line of a station begins with.
+fn add_head(text: &mut Vec<u8>, name: &Name) -> Result<(), AllocError>
+    ensures { OnOk result (text.new.items ≡ text.old.items ++ line_head name.now) }
+{
+    text.extend_from_slice(b"note: station ")?;
+    text.extend_from_slice(name.bytes())?;
+    text.extend_from_slice(b": ")?;
+    Ok(())
+}
+
+/// Adds the line of what is recognized of a station with readings.
+fn add_recognized(text: &mut Vec<u8>, station: &Recognized) -> Result<(), AllocError>
+    ensures { OnOk result (text.new.items
+        ≡ text.old.items ++ spec.note_line station.now.name (recognized_text station.now)) }
+{
+    add_head(text, &station.name)?;
+    add_told(text, station)?;
+    text.extend_from_slice(b"\n")?;
+    Ok(())
+}
+
+/// Adds what is told of a station with readings, which may have a fault.
+fn add_told(text: &mut Vec<u8>, station: &Recognized) -> Result<(), AllocError>
+    ensures { OnOk result (text.new.items ≡ text.old.items ++ recognized_text station.now) }
+{
+    match station.fault {
+        Some(flaw) => add_fault(text, flaw, station.before),
+        None => add_faultless(text, station),
+    }
+}
+
+/// Adds what is told of a station with a fault, and so many readings.
+fn add_fault(text: &mut Vec<u8>, flaw: Flaw, readings: usize) -> Result<(), AllocError>
+    ensures { OnOk result (text.new.items ≡ text.old.items ++ fault_text flaw readings) }
+{
+    text.extend_from_slice(b"not recognized, ")?;
+    add_flaw(text, flaw)?;
+    text.extend_from_slice(b"; ")?;
+    add_left_outside(text, readings)?;
+    Ok(())
+}
+
+/// Adds a fault, and where it stands.
+#[tactic(auto, unfolding(crate::specs::Notes::flaw_text))]
+fn add_flaw(text: &mut Vec<u8>, flaw: Flaw) -> Result<(), AllocError>
+    ensures { OnOk result (text.new.items ≡ text.old.items ++ flaw_text flaw) }
+{
+    text.extend_from_slice(b"block ")?;
+    add_count(text, flaw.block as usize)?;
+    text.extend_from_slice(b": ")?;
+    text.extend_from_slice(flaw.kind.name().as_bytes())?;
+    Ok(())
+}
+
+/// Adds what is told of a station with readings, and without a fault.
+fn add_faultless(text: &mut Vec<u8>, station: &Recognized) -> Result<(), AllocError>
+    ensures { OnOk result (text.new.items ≡ text.old.items ++ faultless_text station.now) }
 {
     if station.sets == 0 {
-        add_without_sets(line, station.before);
+        add_without_sets(text, station.before)
     } else {
-        add_with_sets(line, station);
+        add_with_sets(text, station)
     }
 }
 
 /// Adds what is told of a station without sets.
-fn add_without_sets(line: &mut VerdictLine, readings: usize)
-    requires { array_vec_len line.old + RECOGNIZED ≤ LONGEST_VERDICT_LINE }
-    ensures items { line.new.items ≡ line.old.items ++ without_sets_text readings }
-    ensures len { array_vec_len line.new ≤ array_vec_len line.old + RECOGNIZED }
+fn add_without_sets(text: &mut Vec<u8>, readings: usize) -> Result<(), AllocError>
+    ensures { OnOk result (text.new.items ≡ text.old.items ++ without_sets_text readings) }
 {
-    add(line, b"no sets; ");
-    add_counted(line, readings, b"reading");
-    if readings == 1 {
-        add(line, b" stays outside");
+    text.extend_from_slice(b"no sets; ")?;
+    add_left_outside(text, readings)?;
+    Ok(())
+}
+
+/// Adds that so many readings are in no set of the copy.
+fn add_left_outside(text: &mut Vec<u8>, readings: usize) -> Result<(), AllocError>
+    ensures { OnOk result (text.new.items ≡ text.old.items ++ left_outside_text readings) }
+{
+    add_counted(text, readings, b"reading")?;
+    text.extend_from_slice(if readings == 1 {
+        b" stays outside"
     } else {
-        add(line, b" stay outside");
-    }
+        b" stay outside"
+    })?;
+    Ok(())
 }
 
 /// Adds what is told of a station with sets.
-fn add_with_sets(line: &mut VerdictLine, station: &Recognized)
-    requires { array_vec_len line.old + RECOGNIZED ≤ LONGEST_VERDICT_LINE }
-    ensures items { line.new.items ≡ line.old.items ++ with_sets_text station.now }
-    ensures len { array_vec_len line.new ≤ array_vec_len line.old + RECOGNIZED }
+fn add_with_sets(text: &mut Vec<u8>, station: &Recognized) -> Result<(), AllocError>
+    ensures { OnOk result (text.new.items ≡ text.old.items ++ with_sets_text station.now) }
 {
-    add_counted(line, station.sets, b"set");
-    add(line, b", ");
-    add_counted(line, station.targets, b"target");
-    add(line, b"; ");
-    add_counted(line, station.before, b"reading");
-    add(line, b" before them and ");
-    add_count(line, station.after);
-    add(line, b" after stay outside");
+    add_sets(text, station)?;
+    add_ends(text, station.remarks.as_ref())?;
+    add_outside(text, station)?;
+    Ok(())
+}
+
+/// Adds how many sets there are, and of how many targets.
+fn add_sets(text: &mut Vec<u8>, station: &Recognized) -> Result<(), AllocError>
+    ensures { OnOk result (text.new.items ≡ text.old.items ++ sets_text station.now) }
+{
+    add_counted(text, station.sets, b"set")?;
+    text.extend_from_slice(b", ")?;
+    add_counted(text, station.targets, b"target")?;
+    Ok(())
+}
+
+/// Adds the readings in none of the sets.
+fn add_outside(text: &mut Vec<u8>, station: &Recognized) -> Result<(), AllocError>
+    ensures { OnOk result (text.new.items ≡ text.old.items ++ outside_text station.now) }
+{
+    text.extend_from_slice(b"; ")?;
+    add_counted(text, station.before, b"reading")?;
+    text.extend_from_slice(b" before them and ")?;
+    add_count(text, station.after)?;
+    text.extend_from_slice(b" after stay outside")?;
+    Ok(())
+}
+
+/// Adds the target that opens the sets, and the one at which the first set turns.
+fn add_ends(text: &mut Vec<u8>, remarks: Option<&Remarks>) -> Result<(), AllocError>
+    ensures { OnOk result (text.new.items
+        ≡ text.old.items ++ ends_text (option_map (λ m. m.now) remarks.entry)) }
+{
+    if let Some(remarks) = remarks {
+        text.extend_from_slice(b", from ")?;
+        text.extend_from_slice(remarks.opening.bytes())?;
+        text.extend_from_slice(b" to ")?;
+        text.extend_from_slice(remarks.turning.bytes())?;
+    }
+    Ok(())
+}
+
+/// Adds the lines of what is told of a station's sets beyond their numbers.
+fn add_remarks(text: &mut Vec<u8>, name: &Name, remarks: Option<&Remarks>) -> Result<(), AllocError>
+    ensures { OnOk result (text.new.items
+        ≡ text.old.items ++ remarks_lines name.now (option_map (λ m. m.now) remarks.entry)) }
+{
+    if let Some(remarks) = remarks {
+        add_missing(text, name, remarks)?;
+        add_others(text, name, remarks)?;
+    }
+    Ok(())
+}
+
+/// Adds the line of the directions that are missing, where any are.
+fn add_missing(text: &mut Vec<u8>, name: &Name, remarks: &Remarks) -> Result<(), AllocError>
+    ensures { OnOk result (text.new.items ≡ text.old.items
+        ++ line_of_some remarks.now.missing name.now (missing_text remarks.now)) }
+{
+    if remarks.missing == 0 {
+        return Ok(());
+    }
+    add_head(text, name)?;
+    add_missing_count(text, remarks)?;
+    text.extend_from_slice(b"\n")?;
+    Ok(())
+}
+
+/// Adds how many directions are missing, of how many.
+fn add_missing_count(text: &mut Vec<u8>, remarks: &Remarks) -> Result<(), AllocError>
+    ensures { OnOk result (text.new.items ≡ text.old.items ++ missing_text remarks.now) }
+{
+    add_count(text, remarks.missing)?;
+    text.extend_from_slice(b" of ")?;
+    add_counted(text, remarks.directions, b"direction")?;
+    add_are_missing(text, remarks.missing)?;
+    Ok(())
+}
+
+/// Adds that so many are missing.
+fn add_are_missing(text: &mut Vec<u8>, count: usize) -> Result<(), AllocError>
+    ensures { OnOk result (text.new.items ≡ text.old.items ++ are_missing count) }
+{
+    if count == 1 {
+        text.extend_from_slice(b" is missing")?;
+    } else {
+        text.extend_from_slice(b" are missing")?;
+    }
+    Ok(())
+}
+
+/// Adds the line of the targets after the sets in both faces, where there are any.
+fn add_others(text: &mut Vec<u8>, name: &Name, remarks: &Remarks) -> Result<(), AllocError>
+    ensures { OnOk result (text.new.items ≡ text.old.items
+        ++ line_of_some remarks.now.others name.now (others_text remarks.now)) }
+{
+    if remarks.others == 0 {
+        return Ok(());
+    }
+    add_head(text, name)?;
+    add_counted(text, remarks.others, b"target")?;
+    text.extend_from_slice(b" after the sets in both faces: of another station?")?;
+    text.extend_from_slice(b"\n")?;
+    Ok(())
 }
 
 /// Adds so many of a thing.
-fn add_counted(line: &mut VerdictLine, count: usize, thing: &[u8])
-    requires { array_vec_len line.old + COUNT + length thing.now ≤ LONGEST_VERDICT_LINE }
-    ensures items { line.new.items ≡ line.old.items ++ counted count thing.now }
-    ensures len { array_vec_len line.new ≤ array_vec_len line.old + COUNT + length thing.now }
+fn add_counted(text: &mut Vec<u8>, count: usize, thing: &[u8]) -> Result<(), AllocError>
+    ensures { OnOk result (text.new.items ≡ text.old.items ++ counted count thing.now) }
 {
-    add_count(line, count);
-    add(line, b" ");
-    add(line, thing);
+    add_count(text, count)?;
+    text.extend_from_slice(b" ")?;
+    text.extend_from_slice(thing)?;
     if count != 1 {
-        add(line, b"s");
+        text.extend_from_slice(b"s")?;
     }
+    Ok(())
 }
 
 /// Adds a number.
-fn add_count(line: &mut VerdictLine, count: usize)
-    requires { array_vec_len line.old + LONGEST_U64 ≤ LONGEST_VERDICT_LINE }
-    ensures items { line.new.items ≡ line.old.items ++ decimal count }
-    ensures len { array_vec_len line.new ≤ array_vec_len line.old + LONGEST_U64 }
+fn add_count(text: &mut Vec<u8>, count: usize) -> Result<(), AllocError>
+    ensures { OnOk result (text.new.items ≡ text.old.items ++ decimal count) }
 {
     let mut digits = Buffer::new();
-    add(line, digits.format(count).as_bytes());
+    text.extend_from_slice(digits.format(count).as_bytes())?;
+    Ok(())
 }

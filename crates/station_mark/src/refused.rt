@@ -1,12 +1,27 @@
-//! The line of a refusal.
+//! The text of a refusal.
 
-ghost use Rattle.std.specs.Prelude.{◌≡◌};
+ghost use Rattle.std.specs.Prelude.{◌≡◌, IfOk};
+ghost use Rattle.station_mark.specs.FaultTexts.{unmarked};
 ghost use Rattle.station_mark.specs.FaultTexts as spec;
 
 use crate::fault::PrintFault;
-use set_marks::{MarkFault, MarkKind};
+use crate::notes::add_stations;
+use set_marks::{MarkFault, MarkKind, Refused};
 use station_book::BookFault;
 use station_check::{Fault, VerdictLine, add, add_numbered_place};
+use std::alloc::{AllocError, Global};
+
+/// The text of a refused marking: the lines of each station that is told, and the line of the
+/// refusal.
+pub fn refusal_text(alloc: Global, refused: &Refused) -> Result<Vec<u8>, AllocError>
+    ensures { IfOk result (λ text. text.items ≡ spec.refusal_text (unmarked refused.now)) }
+{
+    let mut text = Vec::new(alloc);
+    add_stations(alloc, &mut text, refused.stations())?;
+    let line = refusal_line(PrintFault::Mark(refused.fault()));
+    text.extend_from_slice(line.as_slice())?;
+    Ok(text)
+}
 
 /// The line of a refusal, with its line feed.
 pub fn refusal_line(fault: PrintFault) -> VerdictLine

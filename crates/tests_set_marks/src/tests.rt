@@ -1,5 +1,5 @@
 use adjust_kernel::Name;
-use set_marks::{MarkFault, MarkKind, mark_file, marked_copy};
+use set_marks::{MarkFault, MarkKind, Recognized, Refused, Stated, mark_file, marked_copy};
 use station_book::BookKind;
 use std::alloc::Global;
 
@@ -37,49 +37,68 @@ fn file(alloc: Global, text: &[u8]) -> Option<Vec<u8>> {
     Some(bytes)
 }
 
+/// That nothing is stated.
+const NOTHING: Stated = Stated {
+    sets: None,
+    targets: None,
+    others: false,
+};
+
 /// The copy of a file, or why there is none.
-fn copy_of(alloc: Global, bytes: &[u8], station: Option<Name>) -> Result<Vec<u8>, MarkFault> {
-    let marked = mark_file(alloc, bytes, false, station)?;
+fn copy_of(
+    alloc: Global,
+    bytes: &[u8],
+    station: Option<Name>,
+    stated: Stated,
+) -> Result<Vec<u8>, Refused> {
+    let marked = mark_file(alloc, bytes, false, station, stated)?;
     let copy = marked_copy(alloc, bytes, &marked.marks)?;
     Ok(copy)
 }
 
 /// What is answered of such a file, of the station P7 where it has no set-up line at its front.
-fn marked(alloc: Global, text: &[u8]) -> Option<Result<Vec<u8>, MarkFault>> {
+fn marked(alloc: Global, text: &[u8], stated: Stated) -> Option<Result<Vec<u8>, Refused>> {
     let bytes = file(alloc, text)?;
     let station = match text.get(1) {
         Some(b'p') => None,
         _ => Name::new(b"P7"),
     };
-    Some(copy_of(alloc, &bytes, station))
+    Some(copy_of(alloc, &bytes, station, stated))
 }
 
-fn fault(alloc: Global, text: &[u8]) -> Option<MarkFault> {
-    marked(alloc, text)?.err()
+fn fault(alloc: Global, text: &[u8], stated: Stated) -> Option<MarkFault> {
+    Some(marked(alloc, text, stated)?.err()?.fault())
 }
 
-fn is_marked(alloc: Global, text: &[u8]) -> bool {
-    marked(alloc, text).is_some_and(|r| r.is_ok())
+fn is_marked(alloc: Global, text: &[u8], stated: Stated) -> bool {
+    marked(alloc, text, stated).is_some_and(|r| r.is_ok())
 }
 
 #[test]
 fn rows_are_marked(rt: HostRuntime) {
     let a = rt.alloc();
-    assert!(rt; is_marked(a, b"A1B1C1C2B2A2A1B1C1C2B2A2"));
-    assert!(rt; is_marked(a, b"A1A2B1B2A1A2B1B2"));
-    assert!(rt; is_marked(a, b"A1A1B1C1C2B2A2A1B1C1C2B2A2"));
-    assert!(rt; is_marked(a, b"A1A2A1B1C1C2B2A2A1B1C1C2B2A2"));
-    assert!(rt; is_marked(a, b"A1B1B2A2A1B1B2A2d1e1"));
-    assert!(rt; is_marked(a, b"1pA1B1B2A22pA1B1B2A2"));
-    assert!(rt; is_marked(a, b"A1B1C1C2B2A2A1D1B1E1C1C2E2B2D2A2"));
-    assert!(rt; is_marked(a, b"AhA1B1B2A2BhA1B1B2A2"));
+    assert!(rt; is_marked(a, b"A1B1C1C2B2A2A1B1C1C2B2A2", NOTHING));
+    assert!(rt; is_marked(a, b"A1A1B1C1C2B2A2A1B1C1C2B2A2", NOTHING));
+    assert!(rt; is_marked(a, b"A1A2A1B1C1C2B2A2A1B1C1C2B2A2", NOTHING));
+    assert!(rt; is_marked(a, b"A1B1B2A2A1B1B2A2d1e1", NOTHING));
+    assert!(rt; is_marked(a, b"d1e1f1g1A1B1B2A2A1B1B2A2d1", NOTHING));
+    assert!(rt; is_marked(a, b"d1A1e1A1B1B2A2A1B1B2A2", NOTHING));
+    assert!(rt; is_marked(a, b"A1B1B2A2d1e1", NOTHING));
+    assert!(rt; is_marked(a, b"A1A1B1B2A2d1", NOTHING));
+    assert!(rt; is_marked(a, b"A1A2A1B1B2A2", NOTHING));
+    assert!(rt; is_marked(a, b"C1B1A1B1C1C2B2A2", NOTHING));
+    assert!(rt; is_marked(a, b"C1C2A1B1C1C2B2A2d1", NOTHING));
+    assert!(rt; is_marked(a, b"C1A1B1C1A2B2C2A1B1C1A2B2C2", NOTHING));
+    assert!(rt; is_marked(a, b"1pA1B1B2A22pA1B1B2A2", NOTHING));
+    assert!(rt; is_marked(a, b"A1B1C1C2B2A2A1D1B1E1C1C2E2B2D2A2", NOTHING));
+    assert!(rt; is_marked(a, b"AhA1B1B2A2BhA1B1B2A2", NOTHING));
 }
 
 // The blocks are those that a plain program of the rule names.
 #[test]
 fn each_fault_stands_at_its_block(rt: HostRuntime) {
     let a = rt.alloc();
-    let rows: [(&[u8], u32, MarkKind); 27] = [
+    let rows: [(&[u8], u32, MarkKind); 41] = [
         (b"1pA1B1B2A2++2pA1B1B2A2", 5, MarkKind::TwoLines),
         (b"A1B1++c2B2A2", 2, MarkKind::TwoLines),
         (b"A1c2++B1B2A2", 2, MarkKind::TwoLines),
@@ -93,14 +112,23 @@ fn each_fault_stands_at_its_block(rt: HostRuntime) {
         (b"A1B1C1C2A2", 5, MarkKind::FaceMissing),
         (b"A1A2", 2, MarkKind::FaceMissing),
         (b"d1A1B1B2A2", 5, MarkKind::FaceMissing),
+        (b"A1B1d1B2A2", 5, MarkKind::FaceMissing),
+        (b"A1C1B1B2C2A2A1B1d1B2A2", 9, MarkKind::FaceMissing),
+        (b"C1B2B1A1A2B1B2C1C2A1d1A2", 11, MarkKind::FaceMissing),
+        (b"B1A1B1B2A2", 5, MarkKind::FaceMissing),
+        (b"A2B2", 2, MarkKind::FaceMissing),
+        (b"A1d1A2", 3, MarkKind::FaceMissing),
+        (b"A1A2C2A1B1B2A2", 4, MarkKind::OneSet),
+        (b"C1C2C2A1B1B2A2", 4, MarkKind::OneSet),
+        (b"d1B2A1B1B2A2A1B1B2A2", 3, MarkKind::MayBeShifted),
         (b"1pA1B1B2A22pA1A2", 8, MarkKind::FaceMissing),
         (b"A1B1B2A2A1A2B1B2", 7, MarkKind::Order),
         (b"A1A2B1B2C1C2A1A2B1B2", 10, MarkKind::EndsElsewhere),
         (b"A2A1B1B2A2A1B1B2", 1, MarkKind::FirstFace),
         (b"B1B2A1A2B1B2A1A2B1B2", 3, MarkKind::MayBeShifted),
         (b"B1A1A2B2B1A1A2B2B1", 2, MarkKind::MayBeShifted),
-        (b"A1A2B1B2C1C2D1D2", 1, MarkKind::OneSetByTargets),
-        (b"1pA1B1B2A22pA1A2B1B2", 7, MarkKind::OneSetByTargets),
+        (b"A1A2B1B2C1C2D1D2", 1, MarkKind::ByTargets),
+        (b"1pA1B1B2A22pA1A2B1B2", 7, MarkKind::ByTargets),
         (b"A1B1B2A2A1C1C2A2", 5, MarkKind::OtherTargets),
         (b"A1B1B2A2A1B1C1D1D2C2B2A2", 5, MarkKind::OtherTargets),
         (
@@ -109,12 +137,171 @@ fn each_fault_stands_at_its_block(rt: HostRuntime) {
             MarkKind::OtherTargets,
         ),
         (b"A1B1C1", 4, MarkKind::NoSets),
+        (b"A1A2d1e1", 5, MarkKind::NoSets),
         (b"1p", 2, MarkKind::NoSets),
         (b"1pA1B1B2A21pA1B1B2A2", 7, MarkKind::StationTwice),
+        (b"1pA1B1B2A21pA1A2", 7, MarkKind::StationTwice),
+        (b"ApA1B1B2A2", 2, MarkKind::SightsItself),
+        (b"ApB1A1C1C2A2B2", 3, MarkKind::SightsItself),
+        (b"ApA1A1A2B1C1C2B2B1C1C2B2", 2, MarkKind::SightsItself),
     ];
     for (text, block, kind) in rows {
-        assert!(rt; fault(a, text) == Some(MarkFault::At(block, kind)));
+        assert!(rt; fault(a, text, NOTHING) == Some(MarkFault::At(block, kind)));
     }
+}
+
+// The last row but two is an orientation in both faces, a set and a part of one: reading by reading
+// these are two sets.
+#[test]
+fn what_is_stated_is_what_is_found_or_is_refused(rt: HostRuntime) {
+    let a = rt.alloc();
+    let by_targets = MarkKind::ByTargets;
+    let rows: [(&[u8], Option<u32>, Option<u32>, Option<(u32, MarkKind)>); 18] = [
+        (b"A1A2B1B2A1A2B1B2", Some(2), None, None),
+        (b"A1A2B1B2A1A2B1B2", None, Some(2), Some((1, by_targets))),
+        (
+            b"A1A2B1B2A1A2B1B2",
+            Some(3),
+            None,
+            Some((1, MarkKind::SetCount)),
+        ),
+        (b"A1A1A2B1B2A1A2B1B2", Some(2), Some(2), None),
+        (b"A1A1A2B1B2A1A2B1B2", None, None, Some((2, by_targets))),
+        (b"A1B1B2A2A1B1B2A2", Some(2), Some(2), None),
+        (
+            b"A1B1B2A2A1B1B2A2",
+            Some(1),
+            Some(1),
+            Some((1, MarkKind::SetCount)),
+        ),
+        (
+            b"A1B1B2A2A1B1B2A2",
+            None,
+            Some(3),
+            Some((1, MarkKind::TargetCount)),
+        ),
+        (b"A1A2B1B2C1C2D1D2", Some(1), None, Some((1, by_targets))),
+        (
+            b"A1A2B1B2C1C2D1D2",
+            Some(1),
+            Some(2),
+            Some((1, MarkKind::TargetCount)),
+        ),
+        (b"A1A2B1B2C1C2D1D2", Some(1), Some(4), None),
+        (b"A1A2B1B2C1C2d1e1", Some(1), Some(3), None),
+        (b"d1A1A2B1B2A1A2B1B2e1", Some(2), None, None),
+        (b"C1A1A2B1B2C1C2A1A2B1B2C1C2", Some(2), None, None),
+        (
+            b"A1A2B1B2A1A2B1B2C1d1C2",
+            Some(2),
+            None,
+            Some((9, MarkKind::PairAfter)),
+        ),
+        (
+            b"B1B2A1A2B1B2A1A2",
+            Some(1),
+            Some(2),
+            Some((1, MarkKind::SetCount)),
+        ),
+        (b"1pA1B1C12pA1B1B2A2", Some(1), Some(2), None),
+        (
+            b"1pA1B1B2A22pA1B1B2A2A1B1B2A2",
+            Some(1),
+            None,
+            Some((7, MarkKind::SetCount)),
+        ),
+    ];
+    for (text, sets, targets, refused) in rows {
+        let stated = Stated {
+            sets,
+            targets,
+            others: false,
+        };
+        match refused {
+            Some((block, kind)) => {
+                assert!(rt; fault(a, text, stated) == Some(MarkFault::At(block, kind)));
+            }
+            None => assert!(rt; is_marked(a, text, stated)),
+        }
+    }
+}
+
+/// The names of the stations that are told, with the blocks of their faults, 0 for none.
+fn told(stations: &[Recognized]) -> [(u8, u32); 3] {
+    let mut told = [(0, 0); 3];
+    for (place, station) in stations.iter().enumerate() {
+        let block = match station.fault {
+            Some(flaw) => flaw.block,
+            None => 0,
+        };
+        if place < told.len() {
+            let name = match station.name.bytes() {
+                [first, ..] => *first,
+                [] => 0,
+            };
+            told[place] = (name, block);
+        }
+    }
+    told
+}
+
+/// Two stations with a set, and one between them of which a reading is missing.
+const THREE: &[u8] = b"1pA1B1B2A22pA1B1B23pA1C1C2A2";
+
+/// What is told of them.
+const TOLD: [(u8, u32); 3] = [(b'1', 0), (b'2', 9), (b'3', 0)];
+
+/// Stations with a fault stay outside.
+const OTHERS: Stated = Stated {
+    sets: None,
+    targets: None,
+    others: true,
+};
+
+#[test]
+fn each_station_is_told_where_one_has_a_fault(rt: HostRuntime) {
+    let a = rt.alloc();
+    let Some(bytes) = file(a, THREE) else {
+        return;
+    };
+    let Err(Refused::Stations(flaw, stations)) = mark_file(a, &bytes, false, None, NOTHING) else {
+        assert!(rt; false);
+        return;
+    };
+    assert!(rt; flaw.block == 9);
+    assert!(rt; told(&stations) == TOLD);
+}
+
+#[test]
+fn a_station_with_a_fault_stays_outside_where_that_is_stated(rt: HostRuntime) {
+    let a = rt.alloc();
+    let Some(bytes) = file(a, THREE) else {
+        return;
+    };
+    let Ok(marked) = mark_file(a, &bytes, false, None, OTHERS) else {
+        assert!(rt; false);
+        return;
+    };
+    assert!(rt; marked.marks.len() == 5);
+    assert!(rt; told(&marked.stations) == TOLD);
+}
+
+/// A name that comes again is a doubt about the file, and a file without sets has no copy.
+#[test]
+fn not_every_file_has_a_copy_without_its_faults(rt: HostRuntime) {
+    let a = rt.alloc();
+    let twice = fault(a, b"1pA1B1B2A21pA1B1B2A2", OTHERS);
+    assert!(rt; twice == Some(MarkFault::At(7, MarkKind::StationTwice)));
+    let none = fault(a, b"1pA1B1B22pA1", OTHERS);
+    assert!(rt; none == Some(MarkFault::At(4, MarkKind::FaceMissing)));
+    assert!(rt; is_marked(a, b"1pA1B1B22pA1B1B2A2", OTHERS));
+    assert!(rt; is_marked(a, b"1pA1B1B2A21pC1", NOTHING));
+}
+
+#[test]
+fn a_detail_point_may_have_the_name_of_its_station(rt: HostRuntime) {
+    let a = rt.alloc();
+    assert!(rt; is_marked(a, b"DpA1B1B2A2A1B1B2A2D1", NOTHING));
 }
 
 #[test]
@@ -124,14 +311,17 @@ fn a_reading_before_any_set_up_line_is_of_no_station(rt: HostRuntime) {
         return;
     };
     assert!(rt;
-        mark_file(a, &bytes, false, None).err() == Some(MarkFault::At(1, MarkKind::NoSetUp))
+        matches!(
+            mark_file(a, &bytes, false, None, NOTHING),
+            Err(Refused::File(MarkFault::At(1, MarkKind::NoSetUp)))
+        )
     );
 }
 
 #[test]
 fn a_reading_that_a_book_refuses_has_its_fault(rt: HostRuntime) {
     let a = rt.alloc();
-    assert!(rt; fault(a, b"A1B3") == Some(MarkFault::Reading(2, BookKind::NoZenith)));
+    assert!(rt; fault(a, b"A1B3", NOTHING) == Some(MarkFault::Reading(2, BookKind::NoZenith)));
 }
 
 /// Codes stand in the width and with the end of the lines beside them, and the name has lost the
@@ -180,6 +370,6 @@ fn the_copy_has_whole_lines_more(rt: HostRuntime) {
     for part in expected {
         assert!(rt; copy.extend_from_slice(part).is_ok());
     }
-    let made = copy_of(a, &bytes, Some(name));
+    let made = copy_of(a, &bytes, Some(name), NOTHING);
     assert!(rt; made.is_ok_and(|made| made.as_slice() == copy.as_slice()));
 }

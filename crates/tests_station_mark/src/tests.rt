@@ -3,9 +3,9 @@
 use adjust_kernel::Name;
 use byte_ends::{Held, OfWrite, Script};
 use gsi_file::{FileFault, FileKind};
-use set_marks::{MarkFault, MarkKind, Recognized};
+use set_marks::{Flaw, MarkFault, MarkKind, Recognized, Remarks, Stated};
 use station_book::BookKind;
-use station_mark::{PrintFault, note_line, refusal_line, run_mark};
+use station_mark::{PrintFault, notes_text, refusal_line, run_mark};
 use std::alloc::Global;
 use std::process::Abort;
 use std::test::Fail;
@@ -53,9 +53,17 @@ const COPY: &[u8] = b"110001+000000P1 88..10+00001543\n\
 
 /// What is told of it.
 const NOTES: &[u8] =
-    b"note: station P1: 2 sets, 2 targets; 0 readings before them and 2 after stay outside\n\
+    b"note: station P1: 2 sets, 2 targets, from A to B; 0 readings before them and 2 after stay \
+outside\n\
 note: station P2: no sets; 1 reading stays outside\n\
 note: compare this with the field book\n";
+
+/// That nothing is stated.
+const NOTHING: Stated = Stated {
+    sets: None,
+    targets: None,
+    others: false,
+};
 
 /// A run over these bytes, given in pieces, prints and tells this.
 fn expect_run(
@@ -66,11 +74,24 @@ fn expect_run(
     station: Option<&[u8]>,
     want: (u8, &[u8], &[u8]),
 ) -> Result<(), Fail> {
+    expect_run_as_stated(rt, alloc, job, fails, station, NOTHING, want)
+}
+
+/// The same, where this is stated of its sets.
+fn expect_run_as_stated(
+    rt: &impl Abort,
+    alloc: Global,
+    job: &[u8],
+    fails: bool,
+    station: Option<&[u8]>,
+    stated: Stated,
+    want: (u8, &[u8], &[u8]),
+) -> Result<(), Fail> {
     let station = station.map(|name| Name::new(name).expect(rt, "name"));
     let gsi = Script::new(job, 7, fails);
     let mut out = Held::new(alloc, AMPLE, AMPLE, false).map_err(|_| "no memory")?;
     let mut err = Held::new(alloc, AMPLE, AMPLE, false).map_err(|_| "no memory")?;
-    let status = run_mark(alloc, gsi, station, &mut out, &mut err);
+    let status = run_mark(alloc, gsi, station, stated, &mut out, &mut err);
     assert_eq!(rt; err.bytes(), want.2);
     assert_eq!(rt; out.bytes(), want.1);
     assert_eq!(rt; status, want.0);
@@ -98,51 +119,294 @@ fn a_refusal_prints_its_line_alone(rt: HostRuntime) -> Result<(), Fail> {
     expect_run(&rt, alloc, b"", false, None, (1, b"", sets))
 }
 
+/// A set of two targets at P1, and three readings at P2 that are none.
+const TWO_STATIONS: &[u8] = b"110001+000000P1 88..10+00001543\n\
+110002+0000000A 21.102+12222215 22.102+10000000\n\
+110003+0000000B 21.102+13333326 22.102+10000000\n\
+110004+0000000B 21.102+33333333 22.102+30000003\n\
+110005+0000000A 21.102+32222222 22.102+30000003\n\
+110006+000000P2 88..10+00001543\n\
+110007+0000000A 21.102+12222215 22.102+10000000\n\
+110008+0000000B 21.102+13333326 22.102+10000000\n\
+110009+0000000B 21.102+33333333 22.102+30000003\n";
+
+#[test]
+fn each_station_is_told_before_the_line_of_a_refusal(rt: HostRuntime) -> Result<(), Fail> {
+    let alloc = rt.alloc();
+    let told: &[u8] =
+        b"note: station P1: 1 set, 2 targets, from A to B; 0 readings before them and 0 after stay \
+outside\n\
+note: station P2: not recognized, block 9: FaceMissing; 3 readings stay outside\n\
+refused: block 9: mark: FaceMissing\n";
+    expect_run(&rt, alloc, TWO_STATIONS, false, None, (1, b"", told))
+}
+
+#[test]
+fn a_station_with_a_fault_stays_outside_where_it_is_stated(rt: HostRuntime) -> Result<(), Fail> {
+    let alloc = rt.alloc();
+    let others = Stated {
+        others: true,
+        ..NOTHING
+    };
+    let copy: &[u8] = b"110001+000000P1 88..10+00001543\n\
+41....+00000010 42....+000000P1\n\
+41....+00000020 42....+00000001\n\
+110002+0000000A 21.102+12222215 22.102+10000000\n\
+110003+0000000B 21.102+13333326 22.102+10000000\n\
+110004+0000000B 21.102+33333333 22.102+30000003\n\
+110005+0000000A 21.102+32222222 22.102+30000003\n\
+110006+000000P2 88..10+00001543\n\
+41....+00000030\n\
+110007+0000000A 21.102+12222215 22.102+10000000\n\
+110008+0000000B 21.102+13333326 22.102+10000000\n\
+110009+0000000B 21.102+33333333 22.102+30000003\n";
+    let notes: &[u8] =
+        b"note: station P1: 1 set, 2 targets, from A to B; 0 readings before them and 0 after stay \
+outside\n\
+note: station P2: not recognized, block 9: FaceMissing; 3 readings stay outside\n\
+note: compare this with the field book\n";
+    expect_run_as_stated(
+        &rt,
+        alloc,
+        TWO_STATIONS,
+        false,
+        None,
+        others,
+        (0, copy, notes),
+    )
+}
+
+#[test]
+fn the_numbers_that_are_stated_are_those_of_the_sets(rt: HostRuntime) -> Result<(), Fail> {
+    let alloc = rt.alloc();
+    let right = Stated {
+        sets: Some(2),
+        targets: Some(2),
+        others: false,
+    };
+    expect_run_as_stated(&rt, alloc, JOB, false, None, right, (0, COPY, NOTES))?;
+    let other = Stated {
+        sets: Some(3),
+        ..NOTHING
+    };
+    let refused: &[u8] =
+        b"note: station P1: not recognized, block 2: SetCount; 10 readings stay outside\n\
+note: station P2: no sets; 1 reading stays outside\n\
+refused: block 2: mark: SetCount\n";
+    expect_run_as_stated(&rt, alloc, JOB, false, None, other, (1, b"", refused))
+}
+
+/// A station of this name with one set of two targets and no other reading.
+fn with_sets(rt: &impl Abort, name: &[u8]) -> Recognized {
+    let target = Name::new(b"SIXTEEN OF BYTES").expect(rt, "name");
+    Recognized {
+        name: Name::new(name).expect(rt, "name"),
+        fault: None,
+        sets: 1,
+        targets: 2,
+        by_targets: false,
+        before: 0,
+        after: 0,
+        remarks: Some(Remarks {
+            opening: target,
+            turning: target,
+            directions: 2,
+            missing: 0,
+            others: 0,
+        }),
+    }
+}
+
+/// A station of this name without sets, and with so many readings.
+fn without_sets(rt: &impl Abort, name: &[u8], readings: usize) -> Recognized {
+    Recognized {
+        sets: 0,
+        targets: 0,
+        before: readings,
+        remarks: None,
+        ..with_sets(rt, name)
+    }
+}
+
+/// A station of this name with a fault, and with so many readings.
+fn with_a_fault(rt: &impl Abort, name: &[u8], flaw: Flaw, readings: usize) -> Recognized {
+    Recognized {
+        fault: Some(flaw),
+        ..without_sets(rt, name, readings)
+    }
+}
+
+/// What is told of these stations, but for the last line.
+fn expect_told(
+    rt: &impl Abort,
+    alloc: Global,
+    stations: &[Recognized],
+    want: &[u8],
+) -> Result<(), Fail> {
+    let text = notes_text(alloc, stations).map_err(|_| "no memory")?;
+    let last: &[u8] = b"note: compare this with the field book\n";
+    let told = text.as_slice();
+    assert_eq!(rt; told.get(..want.len()), Some(want));
+    assert_eq!(rt; told.get(want.len()..), Some(last));
+    Ok(())
+}
+
 #[test]
 fn one_is_told_in_the_singular(rt: HostRuntime) -> Result<(), Fail> {
-    let name = Name::new(b"SIXTEEN OF BYTES").expect(&rt, "name");
+    let alloc = rt.alloc();
     let most = usize::MAX;
-    let cases: [(usize, usize, usize, usize, &[u8]); 5] = [
+    let cases: [(usize, usize, usize, usize, &[u8]); 3] = [
         (
             1,
             1,
             1,
             1,
-            b"1 set, 1 target; 1 reading before them and 1 after stay outside\n",
+            b"note: station P1: 1 set, 1 target, from SIXTEEN OF BYTES to SIXTEEN OF BYTES; \
+1 reading before them and 1 after stay outside\n",
         ),
         (
             4,
             6,
             3,
             0,
-            b"4 sets, 6 targets; 3 readings before them and 0 after stay outside\n",
+            b"note: station P1: 4 sets, 6 targets, from SIXTEEN OF BYTES to SIXTEEN OF BYTES; \
+3 readings before them and 0 after stay outside\n",
         ),
-        (0, 0, 1, 0, b"no sets; 1 reading stays outside\n"),
-        (0, 0, 37, 0, b"no sets; 37 readings stay outside\n"),
         (
             most,
             most,
             most,
             most,
-            b"18446744073709551615 sets, 18446744073709551615 targets; 18446744073709551615 \
-readings before them and 18446744073709551615 after stay outside\n",
+            b"note: station P1: 18446744073709551615 sets, 18446744073709551615 targets, from \
+SIXTEEN OF BYTES to SIXTEEN OF BYTES; 18446744073709551615 readings before them and \
+18446744073709551615 after stay outside\n",
         ),
     ];
     for (sets, targets, before, after, want) in cases {
         let station = Recognized {
-            name,
             sets,
             targets,
             before,
             after,
+            ..with_sets(&rt, b"P1")
         };
-        let line = note_line(&station);
-        let head = b"note: station SIXTEEN OF BYTES: ".as_slice();
-        let told = line.as_slice();
-        assert_eq!(rt; told.get(..head.len()), Some(head));
-        assert_eq!(rt; told.get(head.len()..), Some(want));
+        expect_told(&rt, alloc, &[station], want)?;
+    }
+    let one: &[u8] = b"note: station P1: no sets; 1 reading stays outside\n";
+    expect_told(&rt, alloc, &[without_sets(&rt, b"P1", 1)], one)?;
+    let many: &[u8] = b"note: station P1: no sets; 37 readings stay outside\n";
+    expect_told(&rt, alloc, &[without_sets(&rt, b"P1", 37)], many)
+}
+
+#[test]
+fn what_is_missing_or_of_another_station_is_told(rt: HostRuntime) -> Result<(), Fail> {
+    let alloc = rt.alloc();
+    let numbers: &[u8] = b"note: station P1: 1 set, 2 targets, from SIXTEEN OF BYTES to SIXTEEN OF \
+BYTES; 0 readings before them and 0 after stay outside\n";
+    let cases: [(usize, usize, usize, &[u8]); 4] = [
+        (
+            28,
+            4,
+            0,
+            b"note: station P1: 4 of 28 directions are missing\n",
+        ),
+        (
+            28,
+            1,
+            0,
+            b"note: station P1: 1 of 28 directions is missing\n",
+        ),
+        (
+            28,
+            0,
+            2,
+            b"note: station P1: 2 targets after the sets in both faces: of another station?\n",
+        ),
+        (
+            28,
+            3,
+            1,
+            b"note: station P1: 3 of 28 directions are missing\n\
+note: station P1: 1 target after the sets in both faces: of another station?\n",
+        ),
+    ];
+    for (directions, missing, others, want) in cases {
+        let mut station = with_sets(&rt, b"P1");
+        let remarks = station.remarks.expect(&rt, "remarks");
+        station.remarks = Some(Remarks {
+            directions,
+            missing,
+            others,
+            ..remarks
+        });
+        let mut all = Vec::new(alloc);
+        all.extend_from_slice(numbers).map_err(|_| "no memory")?;
+        all.extend_from_slice(want).map_err(|_| "no memory")?;
+        expect_told(&rt, alloc, &[station], &all)?;
     }
     Ok(())
+}
+
+#[test]
+fn a_name_that_comes_again_is_told_where_readings_follow(rt: HostRuntime) -> Result<(), Fail> {
+    let alloc = rt.alloc();
+    let stations = [
+        without_sets(&rt, b"P1", 0),
+        without_sets(&rt, b"P1", 2),
+        without_sets(&rt, b"P2", 0),
+        without_sets(&rt, b"P1", 0),
+        without_sets(&rt, b"P1", 3),
+        without_sets(&rt, b"P2", 0),
+    ];
+    let want: &[u8] = b"note: station P1: no sets; 2 readings stay outside\n\
+note: station P2: no readings\n\
+note: station P1: set up again\n\
+note: station P1: no sets; 3 readings stay outside\n\
+note: station P2: no readings\n";
+    expect_told(&rt, alloc, &stations, want)
+}
+
+#[test]
+fn a_station_with_a_fault_is_told_with_it(rt: HostRuntime) -> Result<(), Fail> {
+    let alloc = rt.alloc();
+    let cases: [(u32, MarkKind, usize, &[u8]); 2] = [
+        (
+            14,
+            MarkKind::ReadTwice,
+            1,
+            b"note: station P1: not recognized, block 14: ReadTwice; 1 reading stays outside\n",
+        ),
+        (
+            u32::MAX,
+            MarkKind::TooManyStations,
+            usize::MAX,
+            b"note: station P1: not recognized, block 4294967295: TooManyStations; \
+18446744073709551615 readings stay outside\n",
+        ),
+    ];
+    for (block, kind, readings, want) in cases {
+        expect_told(
+            &rt,
+            alloc,
+            &[with_a_fault(&rt, b"P1", Flaw { block, kind }, readings)],
+            want,
+        )?;
+    }
+    let flaw = Flaw {
+        block: 5,
+        kind: MarkKind::StationTwice,
+    };
+    let stations = [
+        without_sets(&rt, b"P1", 2),
+        with_a_fault(&rt, b"P1", flaw, 3),
+        without_sets(&rt, b"P1", 4),
+    ];
+    let want: &[u8] = b"note: station P1: no sets; 2 readings stay outside\n\
+note: station P1: set up again\n\
+note: station P1: not recognized, block 5: StationTwice; 3 readings stay outside\n\
+note: station P1: set up again\n\
+note: station P1: no sets; 4 readings stay outside\n";
+    expect_told(&rt, alloc, &stations, want)
 }
 
 #[test]
@@ -185,7 +449,7 @@ fn an_output_that_failed_once_is_not_written_on(rt: HostRuntime) -> Result<(), F
         let mut out = OfWrite::new(&mut writer);
         let mut err = Held::new(alloc, AMPLE, AMPLE, false).map_err(|_| "no memory")?;
         let gsi = Script::new(JOB, AMPLE, false);
-        let status = run_mark(alloc, gsi, None, &mut out, &mut err);
+        let status = run_mark(alloc, gsi, None, NOTHING, &mut out, &mut err);
         drop(out);
         assert_eq!(rt; status, 1);
         assert_eq!(rt; err.bytes(), b"refused: write failed\n".as_slice());
@@ -203,7 +467,7 @@ fn notes_that_are_lost_leave_the_status(rt: HostRuntime) -> Result<(), Fail> {
         let mut err = OfWrite::new(&mut writer);
         let mut out = Held::new(alloc, AMPLE, AMPLE, false).map_err(|_| "no memory")?;
         let gsi = Script::new(JOB, AMPLE, false);
-        let status = run_mark(alloc, gsi, None, &mut out, &mut err);
+        let status = run_mark(alloc, gsi, None, NOTHING, &mut out, &mut err);
         drop(err);
         assert_eq!(rt; (status, out.bytes()), (0, COPY));
         let bytes = calls.saturating_mul(STEP);

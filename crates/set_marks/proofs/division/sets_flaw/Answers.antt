@@ -2,7 +2,7 @@ use Rattle.std.proofs.Common.{◌≡◌, ◌∷◌, ◌<◌, ◌∙◌, List, �
 use Rattle.adjust_kernel.specs.declared.bounds.TheConstants.{MOST_SETS}
 use Rattle.std.specs.Prelude.{slice_get}
 use Rattle.set_marks.specs.declared.fault.MarkKind.TheVariants as kinds
-use Rattle.set_marks.specs.Divisions.{sets_flaw, set_flaw, end_by, part, next_of, flaw_at}
+use Rattle.set_marks.specs.Divisions.{sets_flaw, set_flaw, cut_end, part, next_of, flaw_at}
 use Rattle.set_marks.proofs.Few.{many_flaw, next_flaw}
 use Rattle.set_marks.proofs.division.sets_flaw.Goals as goal
 
@@ -10,15 +10,15 @@ pub sets-preserved : goal.sets-preserved
 sets-preserved c =
     let split : c.sets.left.now ≡ c.in-Some.from.now ∷ c.in-Some.rest.now = search rules in
     let few : c.sets.count < MOST_SETS = search rules in
-    let clean : set_flaw c.first_set-first.result.now (part c.in-Some.from.now
-    (next_of (end_by c.args.starts.now c.args.sights.now) c.in-Some.rest.now) c.args.sights.now)
+    let clean : set_flaw c.first_cut-first.result.now (part c.in-Some.from.now
+    (next_of (cut_end c.args.starts.now c.args.sights.now) c.in-Some.rest.now) c.args.sights.now)
     ≡ None = search rules in
     record {
-      found = next_flaw c.first_set-first.result.now c.sets.count
-          (end_by c.args.starts.now c.args.sights.now) c.in-Some.from.now c.in-Some.rest.now
+      found = next_flaw c.first_cut-first.result.now c.sets.count
+          (cut_end c.args.starts.now c.args.sights.now) c.in-Some.from.now c.in-Some.rest.now
           c.args.sights.now _ few clean
-          (ap (λ (l : List ℕ). sets_flaw c.first_set-first.result.now c.sets.count
-          (end_by c.args.starts.now c.args.sights.now) l c.args.sights.now) (sym split)
+          (ap (λ (l : List ℕ). sets_flaw c.first_cut-first.result.now c.sets.count
+          (cut_end c.args.starts.now c.args.sights.now) l c.args.sights.now) (sym split)
           ∙ c.sets.invariant.found);
       few = omega (arith, few);
     }
@@ -28,11 +28,11 @@ returns-then-count-ge-MOST_SETS c =
     let split : c.sets.left.now ≡ c.in-Some.from.now ∷ c.in-Some.rest.now = search rules in
     let is : c.flaw_at.result ≡ flaw_at kinds.TooManySets
     (slice_get c.args.sights.now c.in-Some.from.now) = search rules in
-    many_flaw c.first_set-first.result.now c.sets.count
-    (end_by c.args.starts.now c.args.sights.now) c.in-Some.from.now c.in-Some.rest.now
+    many_flaw c.first_cut-first.result.now c.sets.count
+    (cut_end c.args.starts.now c.args.sights.now) c.in-Some.from.now c.in-Some.rest.now
     c.args.sights.now _ c.flaw_at.result c.if-count-ge-MOST_SETS.true is
-    (ap (λ (l : List ℕ). sets_flaw c.first_set-first.result.now c.sets.count
-    (end_by c.args.starts.now c.args.sights.now) l c.args.sights.now) (sym split)
+    (ap (λ (l : List ℕ). sets_flaw c.first_cut-first.result.now c.sets.count
+    (cut_end c.args.starts.now c.args.sights.now) l c.args.sights.now) (sym split)
     ∙ c.sets.invariant.found)
-    ∙ ap (λ f. sets_flaw f 0 (end_by c.args.starts.now c.args.sights.now) c.args.starts.now
-    c.args.sights.now) c.first_set-first.ensures
+    ∙ ap (λ f. sets_flaw f 0 (cut_end c.args.starts.now c.args.sights.now) c.args.starts.now
+    c.args.sights.now) c.first_cut-first.ensures

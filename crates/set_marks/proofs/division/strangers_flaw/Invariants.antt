@@ -1,12 +1,12 @@
 use Rattle.std.proofs.Common.{◌≡◌, length}
-use Rattle.set_marks.specs.Divisions.{stranger_among, parts_at, end_by}
+use Rattle.set_marks.specs.Divisions.{stranger_among, parts_at, cut_end}
 use Rattle.set_marks.specs.Searching.{KnowsTargetsOf}
 use Rattle.set_marks.proofs.division.strangers_flaw.Given as goal
 
 abbrev pub invariant-sets : goal.invariant-sets
 invariant-sets l = record {
-  found : stranger_among l.first (parts_at (end_by l.starts l.sights) l.left l.sights)
-      ≡ stranger_among l.first (parts_at (end_by l.starts l.sights) l.starts l.sights);
+  found : stranger_among l.first (parts_at (cut_end l.starts l.sights) l.left l.sights)
+      ≡ stranger_among l.first (parts_at (cut_end l.starts l.sights) l.starts l.sights);
   known : KnowsTargetsOf l.first l.known;
 }
 

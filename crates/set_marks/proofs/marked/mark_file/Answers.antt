@@ -1,14 +1,21 @@
-use Rattle.std.proofs.Common.{◌≡◌, Err, rules, subst}
+use Rattle.std.proofs.Common.{◌≡◌, ◌+◌, None, refl, rules}
 use Rattle.gsi_file.specs.FileAnswers.{file_answers}
-use Rattle.set_marks.specs.Markings.{AnswersMark}
-use Rattle.set_marks.proofs.Making.{refused_after}
+use Rattle.set_marks.specs.Placing.{placed}
+use Rattle.set_marks.specs.Marking.{refusal}
+use Rattle.set_marks.proofs.Making.{is_marking}
 use Rattle.set_marks.proofs.marked.mark_file.Goals as goal
 
-pub returns-in_err-marking : goal.returns-in_err-marking
-returns-in_err-marking c =
+pub returns : goal.returns
+returns c =
     let answers = file_answers (record { bytes = c.args.bytes.now; fails = c.args.fails }) in
-    let fault = c.in_err-marking.field-0.0 in
-    let is_its : Err fault ≡ c.from_residual-in_err-marking.result = search rules in
-    subst (λ (r : _). AnswersMark c.args.station c.args.bytes.now answers r) is_its
-    (refused_after c.args.station c.args.bytes.now answers c.in_ok-walk.walk.readings fault
-    c.in_ok-walk.ensures.answers c.in_err-marking.ensures.fault)
+    let marking = c.in_ok-marking.marking in
+    let walk = c.in_ok-walk.walk in
+    let end = walk.readings.blocks + 1 in
+    let none : refusal c.args.stated end marking.stations.items ≡ None = search rules in
+    let is : c.in_ok-marks.marks.items ≡ placed c.args.bytes.now marking.marks.items =
+    search rules in
+    is_marking c.args.station c.args.stated c.args.bytes.now answers walk.readings marking
+    c.in_ok-marks.marks.items
+    (record { marks = c.in_ok-marks.marks; stations = marking.stations }) end
+    c.in_ok-walk.ensures.answers c.in_ok-marking.ensures.marked refl none
+    is c.in_ok-marks.ensures.ordered c.in_ok-marks.ensures.begin refl refl

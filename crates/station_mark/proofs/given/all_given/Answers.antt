@@ -3,7 +3,7 @@ use Rattle.std.proofs.Common.{◌++◌}
 use Rattle.std.proofs.Common.{inl, inr, Result}
 use Rattle.std.specs.Prelude.{IfErr}
 use Rattle.std.proofs.lemmas.List.{append-nil}
-use Rattle.byte_ends.specs.Source.{HasGiven, ReaderChange, reader_change, given_by}
+use Rattle.byte_ends.specs.Source.{HasGiven, ReaderChange, reader_change}
 use Rattle.byte_ends.specs.declared.failed.Failed.{Failed}
 use Rattle.byte_ends.proofs.Coming.{given_by_read, given_on}
 use Rattle.station_mark.proofs.given.all_given.Goals as goal

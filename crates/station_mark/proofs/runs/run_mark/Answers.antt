@@ -1,11 +1,12 @@
-use Rattle.std.proofs.Common.{◌≡◌, ℕ, List, Ok, Err, refl, subst, ◌∙◌, ap}
+use Rattle.std.proofs.Common.{◌≡◌, ℕ, List, [], Ok, Err, refl, subst, ◌∙◌, ap, inl, inr}
 use Rattle.std.specs.Prelude.{codes}
-use Rattle.std.specs.List.{flat_map}
 use Rattle.byte_ends.specs.Writers.{writer_change}
 use Rattle.set_marks.specs.declared.fault.MarkFault.TheVariants.{Memory}
 use Rattle.set_marks.specs.declared.recognized.Recognized.{Recognized}
+use Rattle.set_marks.specs.declared.refused.Refused.TheVariants.{File}
 use Rattle.station_check.specs.RunEndings.{WritesOrFails}
-use Rattle.station_mark.specs.Notes.{note_line, notes_text}
+use Rattle.station_mark.specs.FaultTexts.{unmarked, untold}
+use Rattle.station_mark.specs.Notes.{notes_text, stations_text}
 use Rattle.station_mark.specs.Runs.{notes_in}
 use Rattle.station_mark.specs.declared.fault.PrintFault.TheVariants.{Mark, Write}
 use Rattle.station_mark.proofs.Givings.{in_order, out_of_memory}
@@ -15,30 +16,44 @@ use Rattle.station_mark.proofs.runs.run_mark.Goals as goal
 pub returns-in-Err : goal.returns-in-Err
 returns-in-Err g c = (
   c.in-Err.ensures.0,
-  record {
-    answer = Err (Mark c.in-Err.fault);
-    so = record {
-      marking = Err c.in-Err.fault;
-      answers = c.in-Err.ensures.1;
-      printed = (refl, refl);
-    };
-    exits = c.refuse.ensures.status;
-    reports = c.refuse.ensures.line;
-  },
+  elim c.refuse_marking.ensures.text [
+    | inl text ↦ record {
+      answer = Err (unmarked c.in-Err.refused);
+      so = record {
+        marking = Err c.in-Err.refused;
+        answers = c.in-Err.ensures.1;
+        printed = (refl, refl);
+      };
+      exits = c.refuse_marking.ensures.status;
+      reports = text;
+    }
+    | inr line ↦ record {
+      answer = Err (untold (Mark Memory));
+      so = record {
+        marking = Err (File Memory);
+        answers = out_of_memory c.args.station c.args.stated _ c.in-Err.ensures.1.bytes
+            c.in-Err.ensures.1.reads;
+        printed = (refl, refl);
+      };
+      exits = c.refuse_marking.ensures.status;
+      reports = line;
+    }
+  ],
 )
 
 pub returns-in_default : goal.returns-in_default
 returns-in_default g c = (
   c.in-Ok.ensures.0,
   record {
-    answer = Err (Mark Memory);
+    answer = Err (untold (Mark Memory));
     so = record {
-      marking = Err Memory;
-      answers = out_of_memory c.args.station _ c.in-Ok.ensures.1.bytes c.in-Ok.ensures.1.reads;
+      marking = Err (File Memory);
+      answers = out_of_memory c.args.station c.args.stated _ c.in-Ok.ensures.1.bytes
+          c.in-Ok.ensures.1.reads;
       printed = (refl, refl);
     };
-    exits = c.refuse-in_default.ensures.status;
-    reports = c.refuse-in_default.ensures.line;
+    exits = c.refuse.ensures.status;
+    reports = c.refuse.ensures.line;
   },
 )
 
@@ -69,7 +84,7 @@ returns-in-Ok-write_copy g c =
           );
         };
         exits = c.tell.ensures.status;
-        reports = told (flat_map note_line file.marked.stations.items) 110
+        reports = told (stations_text [] file.marked.stations.items) 110
             (codes "ote: compare this with the field book\n") err written;
       },
     )
@@ -78,7 +93,7 @@ pub returns : goal.returns
 returns g c = (
   c.in-Ok.ensures.0,
   record {
-    answer = Err Write;
+    answer = Err (untold Write);
     so = record {
       marking = Ok c.in-Ok.file;
       answers = c.in-Ok.ensures.1;
@@ -99,4 +114,4 @@ returns g c = (
 pub write_copy-requires : goal.write_copy-requires
 write_copy-requires g c =
     rw (c.deref-2.ensures.value, c.deref-3.ensures.value)
-    (in_order c.args.station _ c.in-Ok.file c.in-Ok.ensures.1)
+    (in_order c.args.station c.args.stated _ c.in-Ok.file c.in-Ok.ensures.1)

@@ -4,6 +4,5 @@ use Rattle.set_marks.proofs.readings.Readings.mark_station.Goals as goal
 
 pub returns-clause-ends : goal.returns-clause-ends
 returns-clause-ends c =
-    open_ended c.args.self.now c.take.new.self c.in_ok-self.field-0 c.in-Some.name
-    c.deref.result.now (search rules) (search rules) (search rules)
-    c.in_ok-self.ensures.flaw c.in_ok-self.ensures.takes
+    open_ended c.args.self.now c.take.new.self c.in-Some.name
+    c.deref.result.now (search rules) (search rules) c.in_ok-take.ensures.takes

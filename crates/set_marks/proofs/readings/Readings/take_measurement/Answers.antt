@@ -8,4 +8,4 @@ pub returns-in_ok-add_sight-in-Ok-Some-clause-adds :
 returns-in_ok-add_sight-in-Ok-Some-clause-adds c =
     adds_sight c.args.stated (block_of c.args.block.now) c.args.number c.args.self.now
     c.add_sight.new.self c.in-Ok-Some.reading c.requires.measurement (search rules) (search rules)
-    (search rules) (search rules) (search rules) (search rules)
+    (search rules) (search rules) (search rules)

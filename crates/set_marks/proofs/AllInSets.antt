@@ -1,0 +1,162 @@
+-- A station all of whose readings are in sets has no details.
+use Rattle.std.proofs.Common.{◌≡◌, ℕ, ◌+◌, ◌≤◌, Bool, true, false, ◌&&◌, List, [], ◌∷◌, ◌++◌}
+use Rattle.std.proofs.Common.{length, take, drop, Option, Some, None, is_none, refl, sym, ap, subst}
+use Rattle.std.proofs.Common.{◌∙◌, arith, All, append_assoc}
+use Rattle.std.specs.Prelude.{Contains, ◌==◌, nat_le, nat_lt, if◌then◌else◌}
+use Rattle.std.specs.List.{list_any}
+use Rattle.std.proofs.lemmas.Bool.{or_left, or_right, lt-leb, eqb-true}
+use Rattle.std.proofs.lemmas.List.{take_all, length-append}
+use Rattle.std.proofs.lemmas.List.Elements.{All-nil, All-head, All-tail, All-append}
+use Rattle.std.proofs.lemmas.List.Elements.{All-take, All-contains_itself, filter-append}
+use Rattle.std.proofs.lemmas.List.Folds.{list_any-append}
+use Rattle.adjust_kernel.specs.declared.bounds.TheConstants.{MOST_SETS}
+use Rattle.station_book.specs.Faults.{first_of}
+use Rattle.set_marks.specs.declared.flaw.Flaw.{Flaw}
+use Rattle.set_marks.specs.declared.fault.MarkKind.TheVariants as kinds
+use Rattle.set_marks.specs.declared.sight.Sight.{Sight}
+use Rattle.set_marks.specs.declared.stated.Stated.{Stated}
+use Rattle.set_marks.specs.Divisions.{is_of, seconds_of, rest_of, place_of, unknown_in, starts_of}
+use Rattle.set_marks.specs.Divisions.{starts_from, sets_flaw, first_cut, cut_end, cut_flaw}
+use Rattle.set_marks.specs.Divisions.{flaw_of, flaw_at, flaw_when, flaw_found, leading_of, parts_at}
+use Rattle.set_marks.specs.Divisions.{divided_by, divided_unless, doubt_after}
+use Rattle.set_marks.specs.SetsInWords.{one_after_another, ReadsEachOnce}
+use Rattle.set_marks.proofs.AmongDetails.{is_known, all_kept, first_place}
+use Rattle.set_marks.proofs.BeginsAndEnds.{first_start}
+use Rattle.set_marks.proofs.FewStarts.{few_are_all}
+use Rattle.set_marks.proofs.RowsOfSets.{joined}
+use Rattle.set_marks.proofs.SameSets.{all_so, some_second, whole}
+
+-- Each target of sets is read in face II.
+sets_known : (before : List Sight) (sets : List (List Sight)) → All ReadsEachOnce sets
+    → All (λ x. is_known (seconds_of (before ++ one_after_another sets)) x ≡ true)
+    (one_after_another sets)
+sets_known before [] each =
+    All-nil (λ (x : Sight). is_known (seconds_of (before ++ [])) x ≡ true)
+sets_known before (set ∷ sets) each =
+    let more = one_after_another sets in
+    let all = before ++ (set ++ more) in
+    let once = All-head ReadsEachOnce set sets each in
+    let own : All (λ x. is_known (seconds_of all) x ≡ true) set =
+    all_so (λ x. Contains set x) (λ x. is_known (seconds_of all) x ≡ true) (λ x here.
+    ap (λ l. list_any (is_of x.target) l) (filter-append (λ s. s.second) before (set ++ more))
+    ∙ list_any-append (is_of x.target) (seconds_of before) (seconds_of (set ++ more))
+    ∙ or_right (list_any (is_of x.target) (seconds_of before))
+    (list_any (is_of x.target) (seconds_of (set ++ more)))
+    (ap (λ l. list_any (is_of x.target) l) (filter-append (λ s. s.second) set more)
+    ∙ list_any-append (is_of x.target) (seconds_of set) (seconds_of more)
+    ∙ or_left (list_any (is_of x.target) (seconds_of set))
+    (list_any (is_of x.target) (seconds_of more))
+    (some_second x.target set (let one = once.once x true here in omega (arith, one)))))
+    set (All-contains_itself set) in
+    let others : All (λ x. is_known (seconds_of all) x ≡ true) more =
+    subst (λ (l : List Sight). All (λ x. is_known (seconds_of l) x ≡ true) more)
+    (append_assoc before set more)
+    (sets_known (before ++ set) sets (All-tail ReadsEachOnce set sets each)) in
+    All-append (λ (x : Sight). is_known (seconds_of all) x ≡ true) set more own others
+
+none_unknown : (others rs : List Sight) → All (λ x. is_known others x ≡ true) rs
+    → unknown_in others rs ≡ None
+none_unknown others [] all = refl
+none_unknown others (r ∷ rs) all =
+    rw (All-head (λ (s : Sight). is_known others s ≡ true) r rs all)
+    (none_unknown others rs (All-tail (λ (s : Sight). is_known others s ≡ true) r rs all))
+
+and_false : (b : Bool) → (b && false) ≡ false
+and_false true = refl
+and_false false = refl
+
+-- Where the sets of readings take all of them and nothing is wrong with them, nothing else is.
+all_in_sets : (r : Sight) (rs : List Sight)
+    → sets_flaw (first_cut (starts_of (r ∷ rs)) (r ∷ rs)) 0 (cut_end (starts_of (r ∷ rs)) (r ∷ rs))
+    (starts_of (r ∷ rs)) (r ∷ rs) ≡ None
+    → cut_end (starts_of (r ∷ rs)) (r ∷ rs) ≡ length (r ∷ rs)
+    → All (λ x. is_known (seconds_of (r ∷ rs)) x ≡ true) (r ∷ rs)
+all_in_sets r rs none ends =
+    let all = r ∷ rs in
+    let end = cut_end (starts_of all) all in
+    let later = starts_from r.target false 1 rs in
+    let at : starts_of all ≡ 0 ∷ later = first_start r rs in
+    let j = joined (first_cut (starts_of all) all) 0 end 0 later all
+    (subst (λ (ps : List ℕ). sets_flaw (first_cut (starts_of all) all) 0 end ps all ≡ None) at none)
+    in
+    let same : one_after_another (parts_at end (0 ∷ later) all) ≡ all = j.same ∙ whole end all
+    ∙ take_all end all (omega (arith, ends)) in
+    subst (λ (l : List Sight). All (λ x. is_known (seconds_of l) x ≡ true) l) same
+    (sets_known [] (parts_at end (0 ∷ later) all) j.each)
+
+no_flaw_beside : (r : Sight) (rs : List Sight)
+    → sets_flaw (first_cut (starts_of (r ∷ rs)) (r ∷ rs)) 0 (cut_end (starts_of (r ∷ rs)) (r ∷ rs))
+    (starts_of (r ∷ rs)) (r ∷ rs) ≡ None
+    → All (λ x. is_known (seconds_of (r ∷ rs)) x ≡ true) (r ∷ rs)
+    → cut_flaw (r ∷ rs) [] 0 (starts_of (r ∷ rs)) (r ∷ rs) ≡ None
+no_flaw_beside r rs none known =
+    let all = r ∷ rs in
+    let clean = none_unknown (seconds_of all) (take (cut_end (starts_of all) all) all)
+    (All-take (λ (x : Sight). is_known (seconds_of all) x ≡ true) (cut_end (starts_of all) all) all
+    known) in
+    ap (λ (o : Option Flaw). first_of (o
+    ∷ flaw_found kinds.FaceMissing (unknown_in (seconds_of all)
+    (take (cut_end (starts_of all) all) all))
+    ∷ flaw_when (nat_lt (length (starts_of all)) 2 && false) kinds.OneSet (Some r) ∷ [])) none
+    ∙ ap (λ (o : Option Sight). first_of (flaw_found kinds.FaceMissing o
+    ∷ flaw_when (nat_lt (length (starts_of all)) 2 && false) kinds.OneSet (Some r) ∷ [])) clean
+    ∙ ap (λ (b : Bool). first_of (flaw_when b kinds.OneSet (Some r) ∷ []))
+    (and_false (nat_lt (length (starts_of all)) 2))
+
+-- Where some readings of a station lead, what is wrong: that of the rest, which is given.
+abbrev flaw_with : List Sight → ℕ → List Sight → Option Flaw
+flaw_with rs leading rest =
+    if nat_le (length rest) leading then Some (flaw_at kinds.OneSet None)
+    else cut_flaw rs (take leading rest) (place_of (seconds_of rs) leading rs)
+    (starts_of (drop leading rest)) (drop leading rest)
+
+-- So the station is what it is without leading readings and details.
+pub divided_whole : (stated : Stated) (rs : List Sight) → 1 ≤ length rs
+    → sets_flaw (first_cut (starts_of rs) rs) 0 (cut_end (starts_of rs) rs) (starts_of rs) rs ≡ None
+    → cut_end (starts_of rs) rs ≡ length rs
+    → divided_by stated rs (leading_of rs) ≡ divided_unless (doubt_after stated [] rs) 0
+divided_whole stated [] some none ends = absurd (omega (arith, some))
+divided_whole stated (r ∷ rs) some none ends =
+    let all = r ∷ rs in
+    let known = all_in_sets r rs none ends in
+    let rest : rest_of all ≡ all = all_kept (seconds_of all) all known in
+    let at : place_of (seconds_of all) 0 all ≡ 0 = first_place (seconds_of all) r rs
+    (All-head (λ (x : Sight). is_known (seconds_of all) x ≡ true) r rs known) in
+    let some_more : nat_le (length all) 0 ≡ false = lt-leb (length all) 0 (omega arith) in
+    let clean : flaw_of all 0 ≡ None =
+    unfold_flaw all 0 ∙ ap (λ l. flaw_with all 0 l) rest ∙ with_all all some_more at
+    ∙ no_flaw_beside r rs none known in
+    let first : leading_of all ≡ Some 0 = rw clean refl in
+    ap (λ (o : Option ℕ). divided_by stated all o) first
+    ∙ ap (λ (k : ℕ). divided_unless (doubt_after stated (take 0 (rest_of all)) (drop 0 (rest_of all))) k) at
+    ∙ ap (λ (l : List Sight). divided_unless (doubt_after stated (take 0 l) (drop 0 l)) 0) rest
+  where
+    unfold_flaw : (all : List Sight) (leading : ℕ)
+        → flaw_of all leading ≡ flaw_with all leading (rest_of all)
+    unfold_flaw all leading = refl
+
+    with_all : (all : List Sight) → nat_le (length all) 0 ≡ false
+        → place_of (seconds_of all) 0 all ≡ 0
+        → flaw_with all 0 all ≡ cut_flaw all [] 0 (starts_of all) all
+    with_all all some at = rw (some, at) refl
+
+some_last : (rs rest : List Sight) (r : Sight) → rs ≡ rest ++ r ∷ [] → 1 ≤ length rs
+some_last rs rest r is =
+    let long = ap length is ∙ length-append rest (r ∷ []) in omega (arith, long)
+
+none_is : (o : Option Flaw) → is_none o ≡ true → o ≡ None
+none_is None e = refl
+none_is (Some f) e = cc
+
+-- The same, by the first places where sets begin.
+pub whole_by_few : (starts : List ℕ) (rs rest : List Sight) (r : Sight) (end : ℕ)
+    → rs ≡ rest ++ r ∷ [] → starts ≡ take (MOST_SETS + 1) (starts_of rs)
+    → is_none (sets_flaw (first_cut starts rs) 0 (cut_end starts rs) starts rs) ≡ true
+    → end ≡ cut_end starts rs → (end == length rs) ≡ true → (stated : Stated)
+    → divided_by stated rs (leading_of rs) ≡ divided_unless (doubt_after stated [] rs) 0
+whole_by_few starts rs rest r end last are sets is whole stated =
+    let none = none_is (sets_flaw (first_cut starts rs) 0 (cut_end starts rs) starts rs) sets in
+    let all = few_are_all starts rs are (sym none) in
+    divided_whole stated rs (some_last rs rest r last)
+    (ap (λ (l : List ℕ). sets_flaw (first_cut l rs) 0 (cut_end l rs) l rs) (sym all) ∙ none)
+    (ap (λ (l : List ℕ). cut_end l rs) (sym all) ∙ sym is ∙ eqb-true end (length rs) whole)

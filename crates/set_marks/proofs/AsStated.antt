@@ -1,0 +1,300 @@
+-- What is marked is what is stated.
+use Rattle.std.proofs.Common.{◌≡◌, ℕ, zero, suc, ◌+◌, ◌-◌, ◌/◌, ◌≤◌, Bool, true, false, ◌&&◌, ◌||◌}
+use Rattle.std.proofs.Common.{not, List, [], ◌∷◌, length, take, drop, Option, Some, None}
+use Rattle.std.proofs.Common.{refl, sym, ap, subst, ◌∙◌, arith, All}
+use Rattle.std.specs.Prelude.{◌==◌, nat_lt, nat_le, slice_get, IfSome, is_some}
+use Rattle.std.specs.Str.{bytes_eq}
+use Rattle.std.proofs.lemmas.Bool.{not-false, eqb-true, eq-eqb}
+use Rattle.std.proofs.lemmas.List.{length-take, length-append}
+use Rattle.std.proofs.lemmas.List.Elements.{All-nil, All-cons, All-head, All-tail}
+use Rattle.gsi_file.specs.FileAnswers.{FileAnswers}
+use Rattle.adjust_kernel.specs.declared.bounds.TheConstants.{MOST_SETS, MOST_TARGETS}
+use Rattle.station_book.specs.Faults.{first_of}
+use Rattle.station_book.proofs.readings.CleanBlocks.{all_none}
+use Rattle.set_marks.specs.declared.fault.MarkKind.TheVariants as kinds
+use Rattle.set_marks.specs.declared.division.Divided.{Divided}
+use Rattle.set_marks.specs.declared.division.Divided.TheVariants.{NoSets, Sets, Flawed}
+use Rattle.set_marks.specs.declared.recognized.Recognized.{Recognized}
+use Rattle.set_marks.specs.declared.marked.Marked.{Marked}
+use Rattle.set_marks.specs.declared.sight.Sight.{Sight}
+use Rattle.set_marks.specs.declared.stated.Stated.{Stated}
+use Rattle.set_marks.specs.Numbers.{is_other, is_asked}
+use Rattle.set_marks.specs.Stations.{Occupation, stations_of}
+use Rattle.set_marks.specs.Divisions.{sets_of, starts_of, end_in, first_set, parts_at, targets_of}
+use Rattle.set_marks.specs.Divisions.{part, next_of, set_flaw, readings_flaw, order_flaw, sets_flaw}
+use Rattle.set_marks.specs.Divisions.{flaw_when, are_read_alike, is_by_faces, is_by_targets}
+use Rattle.set_marks.specs.Divisions.{last_target, are_by_targets, begins_with_pair, first_part}
+use Rattle.set_marks.specs.Divisions.{starts_from, first_cut, cut_end, cut_of}
+use Rattle.set_marks.specs.SetsInWords.{ReadsEachOnce, one_after_another}
+use Rattle.set_marks.specs.Judging.{Before, none_before, judged, judged_from, judged_of}
+use Rattle.set_marks.specs.Judging.{names_after}
+use Rattle.set_marks.specs.Marking.{recognized, recognized_from, first_fault}
+use Rattle.set_marks.specs.Marking.{no_sets_fault}
+use Rattle.set_marks.specs.Markings.{IsMarking}
+use Rattle.set_marks.specs.Stated.{IsAsStated, AreAsStated, IsByFaces}
+use Rattle.set_marks.proofs.BeginsAndEnds.{first_start}
+use Rattle.set_marks.proofs.EachTargetOnce.{no_flaw}
+use Rattle.set_marks.proofs.Few.{none_of_two, none_of_three}
+use Rattle.set_marks.proofs.FewTargets.{all_few}
+use Rattle.set_marks.proofs.Judged.{has_no_fault}
+use Rattle.set_marks.proofs.SameSets.{HasSets, whole}
+use Rattle.set_marks.proofs.SetsInWords.{sets_in_words, divided_sets, doubts}
+
+-- A number that is not another one is this.
+is_this : (o : Option ℕ) (n : ℕ) → is_other o n ≡ false → IfSome o (λ m. n ≡ m)
+is_this None n e = tt
+is_this (Some m) n e = sym (eqb-true m n (not-false (m == n) e))
+
+-- Where a needed number is not asked for, and isn't stated, it isn't needed.
+unasked : (t : Bool) (o : Option ℕ) → is_asked t o ≡ false → o ≡ None → t ≡ false
+unasked true None e is = cc
+unasked true (Some n) e is = cc
+unasked false o e is = refl
+
+-- Where it is needed, it is stated.
+asked : (t : Bool) (o : Option ℕ) → is_asked t o ≡ false → t ≡ true → is_some o ≡ true
+asked true None e is = cc
+asked true (Some n) e is = refl
+asked false o e is = cc
+
+both_hold : (t : Bool) (n : ℕ) → t ≡ true → n ≡ 1 → (t && (n == 1)) ≡ true
+both_hold t n is one = rw (is, eq-eqb n 1 one) refl
+
+-- Sets have four readings at least.
+four_readings : (sets : List (List Sight)) → 1 ≤ length sets → All ReadsEachOnce sets
+    → 4 ≤ length (one_after_another sets)
+four_readings [] some each = absurd (omega (arith, some))
+four_readings (set ∷ sets) some each =
+    let many = (All-head ReadsEachOnce set sets each).many in
+    let long = length-append set (one_after_another sets) in omega (arith, many, long)
+
+-- Whether readings begin with a pair is seen in the first two.
+first_two : (n : ℕ) (rs : List Sight) → 2 ≤ n
+    → begins_with_pair (take n rs) ≡ begins_with_pair rs
+first_two zero rs two = absurd (omega (arith, two))
+first_two (suc zero) rs two = absurd (omega (arith, two))
+first_two (suc (suc n)) [] two = refl
+first_two (suc (suc n)) (a ∷ []) two = refl
+first_two (suc (suc n)) (a ∷ b ∷ rs) two = refl
+
+-- Sets that no detail stands among are read by targets where those of all are.
+same_way : (all rs : List Sight) → HasSets all rs → are_by_targets all ≡ are_by_targets rs
+same_way all rs has =
+    let end = end_in all in
+    let four : 4 ≤ length (take end all) = subst (λ (l : List Sight). 4 ≤ length l) has.same
+    (four_readings (cut_of rs) has.some has.each) in
+    let two : 2 ≤ end = let long = length-take end all in omega (arith, four, long) in
+    sym (first_two end all two) ∙ ap begins_with_pair has.read
+    ∙ first_two (cut_end (starts_of rs) rs) rs
+    (subst (λ (k : ℕ). 2 ≤ k) has.alike.end two)
+
+-- They have the same targets.
+same_targets : (all rs : List Sight) → HasSets all rs
+    → targets_of (part 0 (end_in all) all)
+    ≡ targets_of (part 0 (cut_end (starts_of rs) rs) rs)
+same_targets all rs has = ap targets_of (whole (end_in all) all ∙ has.read
+    ∙ sym (whole (cut_end (starts_of rs) rs) rs))
+
+-- Sets that are not read by targets where no number of them is stated.
+not_by_targets : (stated : Stated) (before : Before) (s : Occupation) (leading : ℕ)
+    → judged stated before s ≡ Sets leading → stated.sets ≡ None
+    → are_by_targets (drop leading s.sights) ≡ false
+not_by_targets stated before s leading is none =
+    let found = divided_sets stated s.sights leading
+    (has_no_fault stated before s leading is).divides in
+    let sure = all_none (doubts stated found.before found.rest) found.sure in
+    let by = are_by_targets found.rest in
+    same_way (drop leading s.sights) found.rest found.sets
+    ∙ unasked by stated.sets (no_flaw (is_asked by stated.sets) kinds.ByTargets
+    (slice_get found.rest 0) sure.1.1.0) none
+
+-- What is told of a station with sets is what is stated.
+one_as_stated : (stated : Stated) (before : Before) (s : Occupation) (leading : ℕ)
+    → judged stated before s ≡ Sets leading → IsAsStated stated (recognized s (Sets leading))
+one_as_stated stated before s leading is =
+    let all = drop leading s.sights in
+    let found = divided_sets stated s.sights leading
+    (has_no_fault stated before s leading is).divides in
+    let rs = found.rest in
+    let count = length (starts_of rs) in
+    let targets = length (targets_of (part 0 (cut_end (starts_of rs) rs) rs)) in
+    let first = slice_get rs 0 in
+    let single = are_by_targets rs && (count == 1) in
+    let sure = all_none (doubts stated found.before rs) found.sure in
+    let none = none_of_three (flaw_when (is_other stated.sets count) kinds.SetCount first)
+    (flaw_when (is_asked single stated.targets) kinds.ByTargets first)
+    (flaw_when (is_other stated.targets targets) kinds.TargetCount first) sure.1.1.1.1.0 in
+    let same_count : length (starts_of all) ≡ count = ap length found.sets.alike.starts in
+    let same_number : length (targets_of (part 0 (end_in all) all)) ≡ targets =
+    ap length (same_targets all rs found.sets) in
+    record {
+      sets = is_this stated.sets (length (starts_of all))
+          (ap (λ (n : ℕ). is_other stated.sets n) same_count
+          ∙ no_flaw (is_other stated.sets count) kinds.SetCount first none.0);
+      targets = is_this stated.targets (length (targets_of (part 0 (end_in all) all)))
+          (ap (λ (n : ℕ). is_other stated.targets n) same_number
+          ∙ no_flaw (is_other stated.targets targets) kinds.TargetCount first none.2);
+      by_faces = not_by_targets stated before s leading is;
+      single = λ by one. asked single stated.targets
+          (no_flaw (is_asked single stated.targets) kinds.ByTargets first none.1)
+          (both_hold (are_by_targets rs) count (sym (same_way all rs found.sets) ∙ by)
+          (sym same_count ∙ one));
+    }
+
+-- What is told of a station, if it has sets, is what is stated.
+abbrev AsStated : Stated → Recognized → Type 0
+AsStated stated r = (r.sets == 0) ≡ false → IsAsStated stated r
+
+station_as_stated : (stated : Stated) (before : Before) (s : Occupation) (d : Divided)
+    → judged stated before s ≡ d → AsStated stated (recognized s d)
+station_as_stated stated before s NoSets is some = cc
+station_as_stated stated before s (Flawed f) is some = cc
+station_as_stated stated before s (Sets leading) is some =
+    one_as_stated stated before s leading is
+
+-- So it is of all stations.
+all_as_stated : (stated : Stated) (before : Before) (ss : List Occupation)
+    → AreAsStated stated (recognized_from (judged_from stated before ss))
+all_as_stated stated before [] = All-nil (AsStated stated)
+all_as_stated stated before (s ∷ ss) =
+    let d = judged stated before s in
+    All-cons (AsStated stated) (recognized s d)
+    (recognized_from (judged_from stated (names_after before s d) ss))
+    (station_as_stated stated before s d refl)
+    (all_as_stated stated (names_after before s d) ss)
+
+-- In a set without a flaw targets are read as in the first.
+read_alike : (first set : List Sight) → set_flaw first set ≡ None
+    → are_read_alike first set ≡ true
+read_alike first set e =
+    let both = none_of_two (readings_flaw set) (order_flaw first set) e in
+    let order = none_of_three (flaw_when (nat_lt (length set) 4) kinds.OneTarget (slice_get set 0))
+    (flaw_when (not (are_read_alike first set)) kinds.Order (slice_get set (length set / 2)))
+    (flaw_when (not (bytes_eq (last_target first) (last_target set))) kinds.EndsElsewhere
+    (slice_get set (length set - 1))) both.1 in
+    not-false (are_read_alike first set)
+    (no_flaw (not (are_read_alike first set)) kinds.Order (slice_get set (length set / 2)) order.1)
+
+-- So in all sets.
+all_alike : (first : List Sight) (count end : ℕ) (starts : List ℕ) (rs : List Sight)
+    → sets_flaw first count end starts rs ≡ None
+    → All (λ set. are_read_alike first set ≡ true) (parts_at end starts rs)
+all_alike first count end [] rs e = All-nil (λ (set : List Sight). are_read_alike first set ≡ true)
+all_alike first count end (from ∷ starts) rs e =
+    let set = part from (next_of end starts) rs in
+    let none = none_of_three
+    (flaw_when (nat_le MOST_SETS count) kinds.TooManySets (slice_get rs from))
+    (set_flaw first set) (sets_flaw first (suc count) end starts rs) e in
+    All-cons (λ (set : List Sight). are_read_alike first set ≡ true) set (parts_at end starts rs)
+    (read_alike first set none.1) (all_alike first (suc count) end starts rs none.2)
+
+-- Readings that begin with no pair aren't read by targets.
+no_pair : (n : ℕ) (rs : List Sight) → begins_with_pair rs ≡ false → 2 ≤ length (take n rs)
+    → is_by_targets (take n rs) ≡ false
+no_pair zero rs e many = absurd (omega (arith, many))
+no_pair (suc n) [] e many = absurd (omega (arith, many))
+no_pair (suc n) (a ∷ []) e many =
+    absurd (let few = length-take (suc n) (a ∷ []) in omega (arith, many, few))
+no_pair (suc zero) (a ∷ b ∷ rs) e many = absurd (omega (arith, many))
+no_pair (suc (suc n)) (a ∷ b ∷ rs) e many = rw e refl
+
+-- So isn't the first of sets that begin so.
+first_by_faces : (rs : List Sight) → begins_with_pair rs ≡ false → 1 ≤ length (sets_of rs)
+    → All ReadsEachOnce (sets_of rs) → is_by_targets (first_set (starts_of rs) rs) ≡ false
+first_by_faces [] e some each = absurd (omega (arith, some))
+first_by_faces (r ∷ rs) e some each =
+    let all = r ∷ rs in
+    let end = end_in all in
+    let later = starts_from r.target false 1 rs in
+    let at : starts_of all ≡ 0 ∷ later = first_start r rs in
+    let only : All ReadsEachOnce (parts_at end (0 ∷ later) all) =
+    subst (λ (ps : List ℕ). All ReadsEachOnce (parts_at end ps all)) at each in
+    let many = (All-head ReadsEachOnce (part 0 (next_of end later) all)
+    (parts_at end later all) only).many in
+    ap (λ (ps : List ℕ). is_by_targets (first_part end ps all)) at
+    ∙ no_pair (next_of end later - 0) all e (omega (arith, many))
+
+-- What is read as the first, which isn't read by targets, is read by faces.
+by_faces : (a b c d : Bool) → ((a && b) || (c && d)) ≡ true → c ≡ false → b ≡ true
+by_faces true true c d e is = refl
+by_faces true false true d e is = cc
+by_faces true false false d e is = cc
+by_faces false b true d e is = cc
+by_faces false b false d e is = cc
+
+all_by_faces : (first : List Sight) (sets : List (List Sight)) → is_by_targets first ≡ false
+    → All (λ set. are_read_alike first set ≡ true) sets → All (λ set. is_by_faces set ≡ true) sets
+all_by_faces first [] is alike = All-nil (λ (set : List Sight). is_by_faces set ≡ true)
+all_by_faces first (set ∷ sets) is alike =
+    All-cons (λ (s : List Sight). is_by_faces s ≡ true) set sets
+    (by_faces (is_by_faces first) (is_by_faces set) (is_by_targets first) (is_by_targets set)
+    (All-head (λ (s : List Sight). are_read_alike first s ≡ true) set sets alike) is)
+    (all_by_faces first sets is
+    (All-tail (λ (s : List Sight). are_read_alike first s ≡ true) set sets alike))
+
+-- Where no number is stated, a station with sets is read by faces.
+station_by_faces : (stated : Stated) (before : Before) (s : Occupation) → stated.sets ≡ None
+    → IsByFaces (record { station = s; division = judged stated before s })
+station_by_faces stated before s none leading is =
+    let beyond = drop leading s.sights in
+    let divides = (has_no_fault stated before s leading is).divides in
+    let are = sets_in_words stated s.sights leading divides in
+    let found = divided_sets stated s.sights leading divides in
+    let rest = found.rest in
+    let alike = all_alike (first_cut (starts_of rest) rest) 0 (cut_end (starts_of rest) rest)
+    (starts_of rest) rest found.wrong in
+    all_by_faces (first_set (starts_of beyond) beyond) (sets_of beyond)
+    (first_by_faces beyond (not_by_targets stated before s leading is none) are.some are.each)
+    (subst (λ (l : List (List Sight)). All (λ set. are_read_alike
+    (first_set (starts_of beyond) beyond) set ≡ true) l) (sym found.sets.sets)
+    (subst (λ (f : List Sight). All (λ set. are_read_alike f set ≡ true) (cut_of rest))
+    (sym found.sets.first) alike))
+
+-- So are all stations.
+stations_by_faces : (stated : Stated) (before : Before) (ss : List Occupation)
+    → stated.sets ≡ None → All IsByFaces (judged_from stated before ss)
+stations_by_faces stated before [] none = All-nil IsByFaces
+stations_by_faces stated before (s ∷ ss) none =
+    let d = judged stated before s in
+    let after = names_after before s d in
+    All-cons IsByFaces (record { station = s; division = d }) (judged_from stated after ss)
+    (station_by_faces stated before s none) (stations_by_faces stated after ss none)
+
+-- Where none of these stations is the first with a fault, none has one.
+all_faultless : (rs : List Recognized) → first_fault rs ≡ None → All (λ r. r.fault ≡ None) rs
+all_faultless [] e = All-nil (λ (r : Recognized). r.fault ≡ None)
+all_faultless (r ∷ rs) e =
+    let none = none_of_two r.fault (first_fault rs) e in
+    All-cons (λ (s : Recognized). s.fault ≡ None) r rs none.0 (all_faultless rs none.1)
+
+-- Of a marked file.
+pub marked_as_stated : (station : Option (List ℕ)) (stated : Stated) (bytes : List ℕ)
+    (answers : FileAnswers) (m : Marked) → IsMarking station stated bytes answers m
+    → AreAsStated stated m.stations.items
+marked_as_stated station stated bytes answers m marking =
+    subst (λ (rs : List Recognized). AreAsStated stated rs) (sym marking.told)
+    (all_as_stated stated none_before (stations_of station marking.blocks))
+
+pub marked_by_faces : (station : Option (List ℕ)) (stated : Stated) (bytes : List ℕ)
+    (answers : FileAnswers) (m : Marked)
+    → (marking : IsMarking station stated bytes answers m) → stated.sets ≡ None
+    → All IsByFaces (judged_of station stated marking.blocks)
+marked_by_faces station stated bytes answers m marking none =
+    stations_by_faces stated none_before (stations_of station marking.blocks) none
+
+pub marked_few_targets : (station : Option (List ℕ)) (stated : Stated) (bytes : List ℕ)
+    (answers : FileAnswers) (m : Marked) → IsMarking station stated bytes answers m
+    → All (λ r. r.targets ≤ MOST_TARGETS) m.stations.items
+marked_few_targets station stated bytes answers m marking =
+    subst (λ (rs : List Recognized). All (λ r. r.targets ≤ MOST_TARGETS) rs) (sym marking.told)
+    (all_few stated none_before (stations_of station marking.blocks))
+
+pub marked_faultless : (station : Option (List ℕ)) (stated : Stated) (bytes : List ℕ)
+    (answers : FileAnswers) (m : Marked) → IsMarking station stated bytes answers m
+    → stated.others ≡ false → All (λ r. r.fault ≡ None) m.stations.items
+marked_faultless station stated bytes answers m marking whole =
+    let rs = m.stations.items in
+    let end = length marking.blocks + 1 in
+    let e : first_of (first_fault rs ∷ no_sets_fault end rs ∷ []) ≡ None =
+    rw whole at marking.unrefused in
+    all_faultless rs (none_of_two (first_fault rs) (no_sets_fault end rs) e).0

@@ -1,0 +1,108 @@
+-- A station has at most 100 targets where none is one too many.
+use Rattle.std.proofs.Common.{◌≡◌, ℕ, suc, ◌≤◌, false, ◌&&◌, not, List, []}
+use Rattle.std.proofs.Common.{◌∷◌, length, Option, Some, None, refl, sym}
+use Rattle.std.proofs.Common.{inl, inr, arith, All, subst}
+use Rattle.std.specs.Prelude.{nat_le, IfNone}
+use Rattle.std.proofs.lemmas.Bool.{cases_Bool, leb-false, and_parts, leb-true, not-true}
+use Rattle.std.proofs.lemmas.List.{length-append}
+use Rattle.std.proofs.lemmas.List.Elements.{All-nil, All-cons}
+use Rattle.adjust_kernel.specs.declared.bounds.TheConstants.{MOST_TARGETS}
+use Rattle.station_book.specs.Places.{is_among, with_new}
+use Rattle.set_marks.specs.declared.fault.MarkKind.TheVariants as kinds
+use Rattle.set_marks.specs.declared.division.Divided.{Divided}
+use Rattle.set_marks.specs.declared.division.Divided.TheVariants.{NoSets, Sets, Flawed}
+use Rattle.set_marks.specs.declared.recognized.Recognized.{Recognized}
+use Rattle.set_marks.specs.declared.sight.Sight.{Sight}
+use Rattle.set_marks.specs.Stations.{Occupation}
+use Rattle.set_marks.specs.declared.stated.Stated.{Stated}
+use Rattle.set_marks.specs.declared.flaw.Flaw.{Flaw}
+use Rattle.set_marks.specs.Divisions.{flaw_found, names_with, targets_of, one_too_many, in_sets_of}
+use Rattle.set_marks.specs.Judging.{Before, judged, judged_from, names_after}
+use Rattle.set_marks.specs.Marking.{recognized, recognized_from}
+use Rattle.set_marks.proofs.EachTargetOnce.{none_found}
+use Rattle.set_marks.proofs.Judged.{has_no_fault}
+
+-- With a name more there are no fewer.
+more_names : (names : List (List ℕ)) (name : List ℕ) → length names ≤ length (with_new names name)
+more_names names name = elim (cases_Bool (is_among names name)) [
+  | inl h ↦ rw h (omega arith)
+  | inr h ↦ let e = length-append names (name ∷ []) in rw (h, e) (omega arith)
+]
+
+more_with : (names : List (List ℕ)) (rs : List Sight) → length names ≤ length (names_with names rs)
+more_with names [] = omega arith
+more_with names (r ∷ rs) =
+    let one = more_names names r.target in
+    let rest = more_with (with_new names r.target) rs in omega (arith, one, rest)
+
+-- A new name is one more.
+one_more : (names : List (List ℕ)) (name : List ℕ) → is_among names name ≡ false
+    → length (with_new names name) ≡ suc (length names)
+one_more names name new = let e = length-append names (name ∷ []) in rw (new, e) (omega arith)
+
+-- Where there are few names, none is one too many.
+pub none_too_many : (names : List (List ℕ)) (rs : List Sight)
+    → length (names_with names rs) ≤ MOST_TARGETS → one_too_many names rs ≡ None
+none_too_many names [] few = refl
+none_too_many names (r ∷ rs) few =
+    elim (cases_Bool (not (is_among names r.target) && nat_le MOST_TARGETS (length names))) [
+      | inl h ↦
+          let parts = and_parts (not (is_among names r.target)) (nat_le MOST_TARGETS (length names)) h
+          in let grown = one_more names r.target (not-true (is_among names r.target) parts.0) in
+          let many = leb-true MOST_TARGETS (length names) parts.1 in
+          let rest = more_with (with_new names r.target) rs in
+          absurd (omega (arith, few, grown, many, rest))
+      | inr h ↦ rw h (none_too_many (with_new names r.target) rs few)
+    ]
+
+still_few : (names : List (List ℕ)) (name : List ℕ)
+    → (not (is_among names name) && nat_le MOST_TARGETS (length names)) ≡ false
+    → length names ≤ MOST_TARGETS → length (with_new names name) ≤ MOST_TARGETS
+still_few names name h few = elim (cases_Bool (is_among names name)) [
+  | inl among ↦ rw among few
+  | inr new ↦
+      let room = leb-false MOST_TARGETS (length names) (rw new at h) in
+      let grown = one_more names name new in omega (arith, room, grown)
+]
+
+-- Where none is one too many, there are few.
+few_with : (names : List (List ℕ)) (rs : List Sight) → length names ≤ MOST_TARGETS
+    → one_too_many names rs ≡ None → length (names_with names rs) ≤ MOST_TARGETS
+few_with names [] few none = few
+few_with names (r ∷ rs) few none =
+    elim (cases_Bool (not (is_among names r.target) && nat_le MOST_TARGETS (length names))) [
+      | inl h ↦ let f : Some r ≡ None = rw h at none in cc
+      | inr h ↦ few_with (with_new names r.target) rs (still_few names r.target h few) (rw h at none)
+    ]
+
+-- So it is, where no fault of them is found.
+pub few_unless : (n : ℕ) (rs : List Sight) (o : Option Flaw) → n ≡ length (targets_of rs)
+    → o ≡ flaw_found kinds.TooManyTargets (one_too_many [] rs) → IfNone o (n ≤ MOST_TARGETS)
+few_unless n rs None is e =
+    subst (λ (m : ℕ). m ≤ MOST_TARGETS) (sym is)
+    (few_with [] rs (omega arith) (none_found kinds.TooManyTargets (one_too_many [] rs) (sym e)))
+few_unless n rs (Some f) is e = tt
+
+-- What is told of a station has few targets.
+abbrev HasFew : Recognized → Type 0
+HasFew r = r.targets ≤ MOST_TARGETS
+
+station_few : (stated : Stated) (before : Before) (s : Occupation) (d : Divided)
+    → judged stated before s ≡ d → HasFew (recognized s d)
+station_few stated before s NoSets is = omega arith
+station_few stated before s (Flawed f) is = omega arith
+station_few stated before s (Sets leading) is =
+    few_with [] (in_sets_of leading s.sights) (omega arith)
+    (none_found kinds.TooManyTargets (one_too_many [] (in_sets_of leading s.sights))
+    (has_no_fault stated before s leading is).targets)
+
+-- What is told of stations that are judged.
+pub all_few : (stated : Stated) (before : Before) (ss : List Occupation)
+    → All HasFew (recognized_from (judged_from stated before ss))
+all_few stated before [] = All-nil HasFew
+all_few stated before (s ∷ ss) =
+    let d = judged stated before s in
+    All-cons HasFew (recognized s d)
+    (recognized_from (judged_from stated (names_after before s d) ss))
+    (station_few stated before s d refl)
+    (all_few stated (names_after before s d) ss)

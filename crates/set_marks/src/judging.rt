@@ -1,0 +1,158 @@
+//! What each station is judged to be, by its readings and its name.
+
+ghost use Rattle.std.specs.Prelude.{◌≡◌, ◌≤◌, [], ◌∷◌, IfNone, IfOk, length, option_map};
+ghost use Rattle.station_book.specs.Faults.{first_of};
+ghost use Rattle.adjust_kernel.specs.declared.bounds.TheConstants.{MOST_TARGETS};
+ghost use Rattle.set_marks.specs.declared.fault.MarkKind.TheVariants.{TooManyTargets};
+ghost use Rattle.set_marks.specs.Divisions.{flaw_found, is_read_in_two, one_too_many};
+ghost use Rattle.set_marks.specs.Divisions.{targets_of};
+ghost use Rattle.set_marks.specs.Judging.{first_of_target, is_too_long};
+ghost use Rattle.set_marks.specs.Judging.{itself_fault, name_fault, sets_fault, twice_fault};
+ghost use Rattle.set_marks.specs.Judging.{was_before};
+ghost use Rattle.set_marks.specs.Keeping.{before_in};
+
+use crate::fault::MarkKind;
+use crate::flaw::{Flaw, flaw_found, flaw_when};
+use crate::known::one_too_many;
+use crate::mark::width;
+use crate::names::Names;
+use crate::set::{is_of, sight_at};
+use crate::sight::Sight;
+use adjust_kernel::{MOST_TARGETS, Name};
+use station_book::MOST_STATIONS;
+use std::alloc::{AllocError, Global};
+
+/// The names of stations.
+#[derive(Drop)]
+pub(crate) struct StationNames {
+    /// Those of stations that have sets.
+    pub(crate) marked: Names,
+    /// Those of stations that have a fault.
+    pub(crate) faulty: Names,
+}
+
+impl StationNames {
+    /// No name.
+    pub(crate) fn new(alloc: Global) -> StationNames
+        ensures marked { result.marked ≡ [] }
+        ensures faulty { result.faulty ≡ [] }
+    {
+        StationNames {
+            marked: Names::new(alloc),
+            faulty: Names::new(alloc),
+        }
+    }
+
+    /// Whether a name is among them.
+    fn has(&mut self, name: &Name) -> bool
+        ensures value { result ≡ was_before (before_in self.old) name.now }
+        ensures unchanged { self.new ≡ self.old }
+    {
+        self.marked.has(name) || self.faulty.has(name)
+    }
+
+    /// The fault of a station, after the stations of these names, that its name was had.
+    pub(crate) fn twice_fault(&mut self, name: &Name, sights: &[Sight]) -> Option<Flaw>
+        ensures fault { result ≡ twice_fault (before_in self.old)
+            (record { name = name.now; sights = sights.now }) }
+        ensures unchanged { self.new ≡ self.old }
+    {
+        let is_twice = self.has(name);
+        flaw_when(is_twice, MarkKind::StationTwice, sight_at(sights, 0))
+    }
+}
+
+/// Whether one of these readings is of this target, in face II.
+fn is_read_in_two(name: &Name, sights: &[Sight]) -> bool
+    ensures { result ≡ is_read_in_two sights.now name.now }
+{
+    sights
+        .iter()
+        .any(|sight| is_of(name, sight) && sight.second)
+}
+
+/// The first of these readings of this target.
+fn first_of_target<'a>(name: &Name, sights: &'a [Sight]) -> Option<&'a Sight>
+    ensures { option_map (λ s. s.now) result ≡ first_of_target name.now sights.now }
+{
+    let mut left = sights;
+    'sights: while let Some((sight, rest)) = left.split_first() {
+        if is_of(name, sight) {
+            return Some(sight);
+        }
+        left = rest;
+    }
+    None
+}
+
+/// The fault of a station with sets that it reads a target of its own name in face II.
+fn itself_fault(name: &Name, sights: &[Sight]) -> Option<Flaw>
+    ensures { result ≡ itself_fault (record { name = name.now; sights = sights.now }) }
+{
+    if !is_read_in_two(name, sights) {
+        return None;
+    }
+    flaw_when(true, MarkKind::SightsItself, first_of_target(name, sights))
+}
+
+/// Whether a name has no room in the width of the line of a reading.
+fn is_too_long(name: &Name, sight: Option<&Sight>) -> bool
+    ensures { result ≡ is_too_long name.now (option_map (λ s. s.now) sight.entry) }
+{
+    match sight {
+        Some(sight) => name.bytes().len() > width(sight.wide),
+        None => false,
+    }
+}
+
+/// The fault of the name of a station with sets after so many leading readings, after the stations
+/// of these names.
+fn name_fault(names: &StationNames, name: &Name, sights: &[Sight], leading: usize) -> Option<Flaw>
+    ensures { result ≡ name_fault (before_in names.now)
+        (record { name = name.now; sights = sights.now }) leading }
+{
+    if names.marked.len() >= MOST_STATIONS {
+        return flaw_when(true, MarkKind::TooManyStations, sight_at(sights, 0));
+    }
+    let opening = sight_at(sights, leading);
+    flaw_when(is_too_long(name, opening), MarkKind::NameTooLong, opening)
+}
+
+/// The fault of a station whose readings are sets after so many leading ones, after the stations of
+/// these names, but for that of its targets.
+pub(crate) fn sets_fault(
+    names: &mut StationNames,
+    name: &Name,
+    sights: &[Sight],
+    leading: usize,
+) -> Option<Flaw>
+    ensures fault { result ≡ sets_fault (before_in names.old)
+        (record { name = name.now; sights = sights.now }) leading }
+    ensures unchanged { names.new ≡ names.old }
+{
+    if let Some(flaw) = names.twice_fault(name, sights) {
+        return Some(flaw);
+    }
+    if let Some(flaw) = itself_fault(name, sights) {
+        return Some(flaw);
+    }
+    name_fault(names, name, sights, leading)
+}
+
+/// The first target too many of the readings of a station's sets, which have so many targets.
+pub(crate) fn targets_fault(
+    alloc: Global,
+    targets: usize,
+    sights: &[Sight],
+) -> Result<Option<Flaw>, AllocError>
+    requires { targets ≡ length (targets_of sights.now) }
+    ensures flaw { IfOk result
+        (λ o. o ≡ flaw_found TooManyTargets (one_too_many [] sights.now)) }
+    ensures few { IfOk result (λ o. IfNone o (targets ≤ MOST_TARGETS)) }
+{
+    if targets <= MOST_TARGETS {
+        return Ok(None);
+    }
+    let sight = one_too_many(alloc, sights)?;
+    Ok(flaw_found(MarkKind::TooManyTargets, sight.as_ref()))
+}
