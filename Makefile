@@ -60,9 +60,6 @@ EITHER := $(filter $(CRATES) $(PAGE_CRATES),$(EVERY))
 # The program's in the order in which they are begun: those first with which the longest chains begin.
 ORDER := $(shell $(PYTHON) tools/order.py)
 
-# The same in the order in which they are begun: those first with which the longest chains begin.
-ORDER := $(shell $(PYTHON) tools/order.py)
-
 # A file for each crate that is proved as its sources are now: what the proof said, with the time at
 # which it began. And where the libraries and the program are made.
 PROVED := build/proved
@@ -131,7 +128,8 @@ test:
 	@$(NEED_TOOLCHAIN)
 	@RT='$(RT)' $(PYTHON) tests/gate.py
 
-# The long sweeps of the tests of the command line, of which the gate runs samples: minutes. STATION_CHECK names another program.
+# The long sweeps of the tests of the command line, of which the gate runs samples: minutes; where the library was made, ten
+# million cases of it in one process too. STATION_CHECK names another program.
 sweep:
 	@SWEEP=1 $(PYTHON) tests/command_line.py
 

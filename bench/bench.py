@@ -92,8 +92,9 @@ TIMES_DIRECTIONS = 1.2
 LISTED = (LARGE[0], *(shape for shape in COUNTED if shape.stations in (10, 1000)))
 TIMES_LIST = 1.2
 
-# The jobs without codes of `mark`, which takes at most so many times the time of `list`. The last
-# two are refused: more sets than a station may have, of one target.
+# The jobs without codes of `mark`, which takes at most so many times the time of `list`. Those
+# with 200 leading sights are refused, since a station may have 3, and the last two, since there are
+# more sets than a station may have, of one target: `mark` takes what it takes to find that.
 JOBS = (
     Shape("16 KB", 1, 16, 10),
     Shape("400 KB", 10, 40, 10),
@@ -106,8 +107,14 @@ JOBS = (
     Shape("600 KB, 1,000 stations of 2 sets", 1000, 2, 3),
     Shape("1.3 MB, 1,000 stations of 2 sets", 1000, 2, 3, details=15),
     Shape("1 MB", 1, 2, 100, details=20_000),
+    Shape("400 KB", 8, 40, 10, details=200),
+    Shape("400 KB", 8, 40, 10, leading=200),
     Shape("16 MB", 400, 40, 10),
     Shape("16 MB", 41, 40, 100),
+    Shape("16 MB", 270, 40, 10, width=16),
+    Shape("16 MB", 200, 40, 10, distances=True),
+    Shape("16 MB", 320, 40, 10, details=200),
+    Shape("16 MB", 320, 40, 10, leading=200),
     Shape("400 KB", 1, 4_000, 1),
     Shape("16 MB", 1, 170_000, 1),
 )

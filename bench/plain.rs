@@ -1,10 +1,11 @@
-//! The job of station_check in plain Rust, on std alone: the yardstick of `make bench`.
+//! The job of station_check in plain Rust, on std alone: the yardstick of `make bench`, and what
+//! `sweep.rs` compares the shared library with.
 //!
 //! It takes the same command line for `words`, `list`, `means` and `check`, without options, and
-//! prints the same where nothing is refused. It tests as much of a good file as station_check does,
-//! but for the limits of sizes and numbers; a fault has no name here. Names in a sheet have no
-//! quotes. Nothing is proved.
+//! prints the same where nothing is refused. It refuses what station_check refuses, but for a file
+//! that is too long; a fault has no name here. Nothing is proved.
 
+use std::borrow::Cow;
 use std::collections::{HashMap, HashSet};
 use std::io::{self, Write};
 use std::process::ExitCode;
@@ -17,6 +18,20 @@ const TURN: i64 = 80_000_000;
 const LIMIT: i32 = 2_000;
 /// Bytes of text that are written together.
 const PIECE: usize = 65_536;
+/// The most bytes of a line, stations of a file, sets and targets of a station, bytes of a name.
+const LONGEST_LINE: usize = 1_024;
+const MOST_STATIONS: usize = 1_000;
+const MOST_SETS: usize = 40;
+const MOST_TARGETS: usize = 100;
+const LONGEST_NAME: usize = 16;
+/// The greatest number of a set, and of full turns in a sheet.
+const LARGEST_SET: i128 = 9_999;
+const LARGEST_TURNS: i128 = 9;
+/// The most bytes of a sheet, or of a table.
+pub const LONGEST_SHEET: usize = 1_048_576;
+/// The greatest denominator of a sheet, and direction or orientation, of either version.
+const LARGEST: [(i128, i128); 2] =
+    [(10_i128.pow(9), 10_i128.pow(18)), (10_i128.pow(12), 10_i128.pow(21))];
 
 /// The bytes of a word: two of the index, four of information, the sign, the content.
 #[derive(Clone, Copy)]
@@ -78,6 +93,7 @@ fn read_words<'a>(line: &'a [u8], words: &mut Vec<Word<'a>>) -> Option<()> {
 fn each_block<'a>(file: &'a [u8], mut take: impl FnMut(&[Word<'a>]) -> Option<()>) -> Option<()> {
     let mut words = Vec::new();
     for line in file.split(|b| matches!(b, b'\r' | b'\n')) {
+        (line.len() <= LONGEST_LINE).then_some(())?;
         if line.iter().any(|b| *b != b' ') {
             read_words(line, &mut words)?;
             take(&words)?;
@@ -97,13 +113,28 @@ fn word_of<'a>(words: &[Word<'a>], index: u32) -> Option<Option<Word<'a>>> {
     }
 }
 
-/// A text on its way to standard output.
-struct Text(Vec<u8>);
+/// A text on its way to standard output, or one that is kept.
+pub struct Text {
+    pub bytes: Vec<u8>,
+    pub is_kept: bool,
+}
 
 impl Text {
-    fn add(&mut self, bytes: &[u8]) -> &mut Text {
-        self.0.extend_from_slice(bytes);
+    pub fn add(&mut self, bytes: &[u8]) -> &mut Text {
+        self.bytes.extend_from_slice(bytes);
         self
+    }
+
+    /// Adds a name to a sheet, with quotes where it needs them.
+    pub fn add_name(&mut self, name: &[u8]) -> &mut Text {
+        if !name.iter().any(|b| matches!(b, b',' | b'"')) {
+            return self.add(name);
+        }
+        self.bytes.push(b'"');
+        for b in name {
+            self.add(if *b == b'"' { b"\"\"" } else { std::slice::from_ref(b) });
+        }
+        self.add(b"\"")
     }
 
     fn add_number(&mut self, value: impl Into<i64>) -> &mut Text {
@@ -117,14 +148,16 @@ impl Text {
             rest /= 10;
         }
         if value < 0 {
-            self.0.push(b'-');
+            self.bytes.push(b'-');
         }
         self.add(&digits[at..])
     }
 
     fn write(&mut self) -> Option<()> {
-        io::stdout().write_all(&self.0).ok()?;
-        self.0.clear();
+        if !self.is_kept {
+            io::stdout().write_all(&self.bytes).ok()?;
+            self.bytes.clear();
+        }
         Some(())
     }
 }
@@ -138,7 +171,7 @@ fn print_words(file: &[u8], text: &mut Text) -> Option<()> {
             text.add_number(word.index()).add(b" ").add(&word.0[2..6]).add(b" ");
             text.add(&word.0[6..]).add(b"\n");
         }
-        if text.0.len() < PIECE {
+        if text.bytes.len() < PIECE {
             Some(())
         } else {
             text.write()
@@ -146,21 +179,21 @@ fn print_words(file: &[u8], text: &mut Text) -> Option<()> {
     })
 }
 
-struct Observation {
-    set: usize,
-    target: usize,
-    p: i32,
+pub struct Observation {
+    pub set: usize,
+    pub target: usize,
+    pub p: i32,
     two_c: i32,
     two_i: i32,
 }
 
 #[derive(Default)]
-struct Station<'a> {
-    name: &'a [u8],
-    sets: Vec<u32>,
-    targets: Vec<&'a [u8]>,
+pub struct Station<'a> {
+    pub name: &'a [u8],
+    pub sets: Vec<u32>,
+    pub targets: Vec<&'a [u8]>,
     places: HashMap<&'a [u8], usize>,
-    observations: Vec<Observation>,
+    pub observations: Vec<Observation>,
 }
 
 /// The stations of the blocks so far.
@@ -190,7 +223,8 @@ impl<'a> Book<'a> {
             }
             (41, b"20") => {
                 self.close()?;
-                self.open_set(number(word_of(words, 42)??.name())? as u32)
+                let set = number(word_of(words, 42)??.name())?;
+                (1..=LARGEST_SET as u64).contains(&set).then(|| self.open_set(set as u32))?
             }
             (41, b"30") => self.close(),
             _ => Some(()),
@@ -201,11 +235,12 @@ impl<'a> Book<'a> {
         let (name, had_set) = self.open?;
         if !had_set {
             self.names.insert(name).then_some(())?;
+            (self.stations.len() < MOST_STATIONS).then_some(())?;
             self.stations.push(Station { name, ..Station::default() });
             self.open = Some((name, true));
         }
         let sets = &mut self.stations.last_mut()?.sets;
-        if sets.contains(&set) {
+        if sets.contains(&set) || sets.len() == MOST_SETS {
             return None;
         }
         sets.push(set);
@@ -217,6 +252,7 @@ impl<'a> Book<'a> {
         let station = self.stations.last_mut()?;
         let target = *station.places.entry(name).or_insert(station.targets.len());
         if target == station.targets.len() {
+            (target < MOST_TARGETS).then_some(())?;
             station.targets.push(name);
         }
         if target >= self.readings.len() {
@@ -253,7 +289,7 @@ impl<'a> Book<'a> {
     }
 }
 
-fn survey(file: &[u8]) -> Option<Vec<Station<'_>>> {
+pub fn survey(file: &[u8]) -> Option<Vec<Station<'_>>> {
     let mut book = Book::default();
     each_block(file, |words| book.take(words))?;
     book.close()?;
@@ -298,62 +334,149 @@ fn print_means(file: &[u8], name: &[u8], text: &mut Text) -> Option<()> {
     }
     let (s, t, first, all) =
         (sets as i64, targets as i64, of_target[0], of_set.iter().sum::<i64>());
-    text.add(b"sheet,1,").add(name).add(b",").add_number(s * t).add(b",\n");
+    text.add(b"sheet,1,").add_name(name).add(b",").add_number(s * t).add(b",\n");
     for (name, total) in station.targets.iter().zip(of_target) {
-        text.add(b"target,,").add(name).add(b",").add_number(t * (total - first)).add(b",\n");
+        text.add(b"target,,").add_name(name).add(b",").add_number(t * (total - first)).add(b",\n");
     }
     for (set, total) in station.sets.iter().zip(of_set) {
         text.add(b"set,").add_number(*set).add(b",,");
         text.add_number(all - s * total - t * first).add(b",\n");
     }
     for (o, k) in observations.iter().zip(turns) {
-        text.add(b"obs,").add_number(station.sets[o.set]).add(b",").add(station.targets[o.target]);
+        text.add(b"obs,").add_number(station.sets[o.set]).add(b",");
+        text.add_name(station.targets[o.target]);
         text.add(b",").add_number(o.p).add(b",").add_number(k).add(b"\n");
     }
     Some(())
 }
 
+/// A field of comma-separated text, which is cut off the front of the rest.
+fn read_field<'a>(rest: &mut &'a [u8], separator: u8) -> Cow<'a, [u8]> {
+    let ends = |b: &u8| matches!(b, b'\r' | b'\n') || *b == separator;
+    let text = *rest;
+    let Some(quoted) = text.strip_prefix(b"\"") else {
+        let (field, after) = text.split_at(text.iter().position(ends).unwrap_or(text.len()));
+        *rest = after;
+        return Cow::Borrowed(field);
+    };
+    let (mut field, mut after) = (Vec::new(), quoted);
+    loop {
+        let end = after.iter().position(|b| *b == b'"').unwrap_or(after.len());
+        field.extend_from_slice(&after[..end]);
+        after = after.get(end + 1..).unwrap_or_default();
+        // Two quotes are one; what stands after a single one belongs to the field as it is.
+        let Some(more) = after.strip_prefix(b"\"") else { break };
+        field.push(b'"');
+        after = more;
+    }
+    let (tail, after) = after.split_at(after.iter().position(ends).unwrap_or(after.len()));
+    field.extend_from_slice(tail);
+    *rest = after;
+    Cow::Owned(field)
+}
+
+/// The fields of the next record, if there is one. Lines without a byte are none.
+pub fn read_record<'a>(
+    rest: &mut &'a [u8],
+    separator: u8,
+    fields: &mut Vec<Cow<'a, [u8]>>,
+) -> bool {
+    fields.clear();
+    while let [b'\r' | b'\n', after @ ..] = *rest {
+        *rest = after;
+    }
+    if rest.is_empty() {
+        return false;
+    }
+    loop {
+        fields.push(read_field(rest, separator));
+        match *rest {
+            [b, after @ ..] if *b == separator => *rest = after,
+            _ => return true,
+        }
+    }
+}
+
+/// The text without the byte order mark at its front.
+pub fn without_mark(text: &[u8]) -> &[u8] {
+    text.strip_prefix(b"\xef\xbb\xbf").unwrap_or(text)
+}
+
+fn is_name(name: &[u8]) -> bool {
+    (1..=LONGEST_NAME).contains(&name.len()) && name.iter().all(|b| (b' '..=b'~').contains(b))
+}
+
+/// The number that a canonical decimal of few enough digits writes.
+fn canonical(field: &[u8]) -> Option<i128> {
+    let digits = field.strip_prefix(b"-").unwrap_or(field);
+    let is_one = match digits {
+        [b'0'] => digits.len() == field.len(),
+        [b'1'..=b'9', rest @ ..] => rest.iter().all(u8::is_ascii_digit),
+        _ => false,
+    };
+    is_one.then(|| std::str::from_utf8(field).ok()?.parse().ok())?
+}
+
 /// A sheet: its rows, each kind in its own list.
 #[derive(Default)]
 struct Sheet<'a> {
-    name: &'a str,
+    name: Cow<'a, [u8]>,
     denominator: i128,
-    targets: Vec<(&'a str, i128)>,
-    sets: Vec<(u32, i128)>,
-    observations: Vec<(u32, &'a str, i32, i32)>,
+    targets: Vec<(Cow<'a, [u8]>, i128)>,
+    sets: Vec<(i128, i128)>,
+    observations: Vec<(i128, Cow<'a, [u8]>, i128, i128)>,
 }
 
-fn read_sheet(text: &str) -> Option<Sheet<'_>> {
-    let mut sheet = Sheet::default();
-    let mut last = "";
-    for line in text.lines() {
-        let mut fields = line.split(',');
-        let mut field = || fields.next();
-        let (kind, number, name, value, k) = (field()?, field()?, field()?, field()?, field()?);
-        match (last, kind) {
-            ("", "sheet") => (sheet.name, sheet.denominator) = (name, value.parse().ok()?),
-            ("sheet" | "target", "target") => sheet.targets.push((name, value.parse().ok()?)),
-            ("target" | "set", "set") => {
-                sheet.sets.push((number.parse().ok()?, value.parse().ok()?));
+fn read_sheet(text: &[u8]) -> Option<Sheet<'_>> {
+    (text.len() <= LONGEST_SHEET).then_some(())?;
+    let (mut sheet, mut largest) = (Sheet::default(), LARGEST[0]);
+    let (mut rest, mut fields) = (without_mark(text), Vec::new());
+    let mut last: &[u8] = b"";
+    while read_record(&mut rest, b',', &mut fields) {
+        let [kind, number, name, value, k] = fields.as_mut_slice() else { return None };
+        let value = canonical(value)?;
+        let set = || canonical(number).filter(|set| (1..=LARGEST_SET).contains(set));
+        let named = is_name(name).then_some(());
+        let is_within = value.abs() <= largest.1;
+        last = match (last, &**kind) {
+            (b"", b"sheet") if k.is_empty() => {
+                largest = *LARGEST.get(usize::from(match &**number {
+                    b"1" => 0_u8,
+                    b"2" => 1,
+                    _ => return None,
+                }))?;
+                (sheet.name, sheet.denominator) = (named.map(|()| std::mem::take(name))?, value);
+                (1..=largest.0).contains(&value).then_some(b"sheet")?
             }
-            ("set" | "obs", "obs") => {
-                let (p, k) = (value.parse().ok()?, k.parse().ok()?);
-                sheet.observations.push((number.parse().ok()?, name, p, k));
+            (b"sheet" | b"target", b"target") if number.is_empty() && k.is_empty() && is_within => {
+                sheet.targets.push((named.map(|()| std::mem::take(name))?, value));
+                (sheet.targets.len() <= MOST_TARGETS).then_some(b"target")?
+            }
+            (b"target" | b"set", b"set") if name.is_empty() && k.is_empty() && is_within => {
+                sheet.sets.push((set()?, value));
+                (sheet.sets.len() <= MOST_SETS).then_some(b"set")?
+            }
+            (b"set" | b"obs", b"obs") => {
+                let k = canonical(k).filter(|k| k.abs() <= LARGEST_TURNS)?;
+                (0..TURN as i128).contains(&value).then_some(())?;
+                let set = set()?;
+                sheet.observations.push((set, named.map(|()| std::mem::take(name))?, value, k));
+                (sheet.observations.len() <= MOST_SETS * MOST_TARGETS).then_some(b"obs")?
             }
             _ => return None,
-        }
-        last = kind;
+        };
     }
-    (last == "obs").then_some(sheet)
+    (last == b"obs").then_some(sheet)
 }
 
 /// Whether the sheet has the targets, sets and observations of its station, and the datum.
 fn matches(sheet: &Sheet, station: &Station) -> bool {
-    let stated = sheet.observations.iter().map(|o| (o.0, o.1.as_bytes(), o.2));
+    let stated = sheet.observations.iter().map(|o| (o.0, &*o.1, o.2));
     let observed = station.observations.iter();
-    sheet.targets.iter().map(|t| t.0.as_bytes()).eq(station.targets.iter().copied())
-        && sheet.sets.iter().map(|s| s.0).eq(station.sets.iter().copied())
-        && stated.eq(observed.map(|o| (station.sets[o.set], station.targets[o.target], o.p)))
+    let set = |place: usize| i128::from(station.sets[place]);
+    sheet.targets.iter().map(|t| &*t.0).eq(station.targets.iter().copied())
+        && sheet.sets.iter().map(|s| s.0).eq((0..station.sets.len()).map(set))
+        && stated.eq(observed.map(|o| (set(o.set), station.targets[o.target], o.p.into())))
         && sheet.targets[0].1 == 0
 }
 
@@ -374,44 +497,64 @@ fn is_connected(station: &Station) -> bool {
     sets.iter().chain(&targets).all(|mark| *mark)
 }
 
-fn print_check(file: &[u8], sheet: &str, text: &mut Text) -> Option<()> {
+fn print_check(file: &[u8], sheet: &[u8], limit: Option<u32>, text: &mut Text) -> Option<()> {
     let stations = survey(file)?;
     let sheet = read_sheet(sheet)?;
-    let station = stations.iter().find(|s| s.name == sheet.name.as_bytes())?;
+    let station = stations.iter().find(|s| s.name == &*sheet.name)?;
     matches(&sheet, station).then_some(())?;
     let (mut of_target, mut of_set) = (vec![0; sheet.targets.len()], vec![0; sheet.sets.len()]);
     let mut greatest = 0;
     for (o, (_, _, p, k)) in station.observations.iter().zip(&sheet.observations) {
-        let turned = sheet.denominator * i128::from(i64::from(*p) + TURN * i64::from(*k));
+        let turned = sheet.denominator * (p + i128::from(TURN) * k);
         let residual = sheet.targets[o.target].1 - sheet.sets[o.set].1 - turned;
         of_target[o.target] += residual;
         of_set[o.set] += residual;
         greatest = greatest.max(residual.abs());
     }
     let vanish = of_target.iter().chain(&of_set).all(|sum| *sum == 0);
-    (vanish && is_connected(station)).then_some(())?;
+    let is_within = |limit: u32| greatest <= i128::from(limit) * sheet.denominator;
+    (vanish && is_connected(station) && limit.map_or(true, is_within)).then_some(())?;
     add_counts(station, text.add(b"accepted "));
     let ends = format!(", greatest residual {greatest}/{}\n", sheet.denominator);
     text.add(ends.as_bytes());
     Some(())
 }
 
-fn run(words: &[&str]) -> Option<()> {
-    let read = |path: &str| fs::read(path).ok();
-    let mut text = Text(Vec::with_capacity(2 * PIECE));
-    match words {
-        ["words", gsi] => print_words(&read(gsi)?, &mut text),
-        ["list", gsi] => print_list(&read(gsi)?, &mut text),
-        ["means", gsi, name] => print_means(&read(gsi)?, name.as_bytes(), &mut text),
-        ["check", gsi, sheet] => {
-            print_check(&read(gsi)?, &fs::read_to_string(sheet).ok()?, &mut text)
-        }
-        _ => None,
-    }?;
-    text.write()
+/// What is asked, of files as they are: the words or the list of a field file, the means of a
+/// station of it, or the check of a sheet, with a limit of residuals in half units or without one.
+pub enum Asked<'a> {
+    Words(&'a [u8]),
+    List(&'a [u8]),
+    Means(&'a [u8], &'a [u8]),
+    Check(&'a [u8], &'a [u8], Option<u32>),
 }
 
-fn main() -> ExitCode {
+/// Adds what is answered to a text; nothing is answered where something is refused, but for words,
+/// of which those before stand there.
+pub fn answer(asked: Asked, text: &mut Text) -> Option<()> {
+    match asked {
+        Asked::Words(gsi) => print_words(gsi, text),
+        Asked::List(gsi) => print_list(gsi, text),
+        Asked::Means(gsi, name) => print_means(gsi, name, text),
+        Asked::Check(gsi, sheet, limit) => print_check(gsi, sheet, limit, text),
+    }
+}
+
+fn run(words: &[&str]) -> Option<()> {
+    let read = |path: &str| fs::read(path).ok();
+    let mut text = Text { bytes: Vec::with_capacity(2 * PIECE), is_kept: false };
+    let done = match words {
+        ["words", gsi] => answer(Asked::Words(&read(gsi)?), &mut text),
+        ["list", gsi] => answer(Asked::List(&read(gsi)?), &mut text),
+        ["means", gsi, name] => answer(Asked::Means(&read(gsi)?, name.as_bytes()), &mut text),
+        ["check", gsi, sheet] => answer(Asked::Check(&read(gsi)?, &read(sheet)?, None), &mut text),
+        _ => None,
+    };
+    text.write()?;
+    done
+}
+
+pub fn main() -> ExitCode {
     let given: Vec<String> = env::args().skip(1).collect();
     let words: Vec<&str> = given.iter().map(String::as_str).collect();
     match run(&words) {

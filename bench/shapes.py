@@ -15,7 +15,8 @@ class Shape:
     """A field file: its stations, the sets of each, the targets of each set, and how its lines are
     written. `gaps` is the share of readings that are left out after the first set; `parts` are
     sessions of equal numbers of sets and targets, each of which has one target of the one before.
-    A job without codes has so many detail points after the sets of each station."""
+    A job without codes has so many leading sights before the sets of each station, and so many
+    detail points after them, all of them of targets of their own."""
 
     title: str
     stations: int
@@ -27,6 +28,7 @@ class Shape:
     end: str = "\r\n"
     distances: bool = False
     shuffled: bool = False
+    leading: int = 0
     details: int = 0
 
     def name(self) -> str:
@@ -37,6 +39,7 @@ class Shape:
             *(["LF"] if self.end == "\n" else []),
             *(["words 31, 51, 87"] if self.distances else []),
             *(["shuffled"] if self.shuffled else []),
+            *([f"{self.leading:,} leading sights"] if self.leading else []),
             *([f"{self.details:,} detail points"] if self.details else []),
         ]
         return f"{self.title}, {', '.join(more)}"
@@ -127,6 +130,8 @@ def job_file(shape: Shape) -> str:
     for station in range(1, shape.stations + 1):
         point = word(shape, "11", f"{len(lines) % 10000:04}+", f"S{station}")
         lines.append(line(shape, point, word(shape, "88", "..10+", 1543)))
+        for number in range(shape.leading):
+            read(f"L{number}", 1)
         names = [f"P{target}" for target in range(1, shape.targets + 1)]
         for number in range(1, shape.sets + 1):
             seen = seen_in_job(shape, draw, number, names)

@@ -1,6 +1,6 @@
-/* The two calls that are told whether a limit is stated. The proved exports take it as a `bool`,
+/* The three calls that are told whether something is stated. The proved exports take it as a `bool`,
  * which is 0 or 1 and nothing else: of another value they would see the lowest bit. These take any
- * number, of which 0 alone says that none is stated, and hand on 0 or 1. link.sh links them. */
+ * number, of which 0 alone says that it is not stated, and hand on 0 or 1. link.sh links them. */
 #include "station_check.h"
 
 #include <stdbool.h>
@@ -15,6 +15,12 @@ uint8_t station_page_compare(const void *gsi, size_t gsi_length,
                              const char *station, size_t station_length,
                              uint32_t two_c, uint32_t two_i, bool is_stated, uint32_t within,
                              char *text, size_t room, size_t *length);
+
+uint8_t station_page_mark(const void *gsi, size_t gsi_length,
+                          const char *station, size_t station_length,
+                          uint32_t sets, uint32_t targets, bool others,
+                          char *copy, size_t room, size_t *length,
+                          char *notes, size_t notes_room, size_t *notes_length);
 
 uint8_t station_check_check(const void *gsi, size_t gsi_length,
                             const void *sheet, size_t sheet_length,
@@ -31,4 +37,13 @@ uint8_t station_check_compare(const void *gsi, size_t gsi_length,
                               char *text, size_t room, size_t *length) {
     return station_page_compare(gsi, gsi_length, table, table_length, station, station_length,
                                 two_c, two_i, is_stated != 0, within, text, room, length);
+}
+
+uint8_t station_check_mark(const void *gsi, size_t gsi_length,
+                           const char *station, size_t station_length,
+                           uint32_t sets, uint32_t targets, uint32_t others,
+                           char *copy, size_t room, size_t *length,
+                           char *notes, size_t notes_room, size_t *notes_length) {
+    return station_page_mark(gsi, gsi_length, station, station_length, sets, targets, others != 0,
+                             copy, room, length, notes, notes_room, notes_length);
 }

@@ -17,7 +17,8 @@
  * Limits: those of face differences, `two_c` and `two_i`, are in units of 0.01 mgon, at most
  * 1,000,000, and usually STATION_CHECK_FACES. Where `is_stated` is 0 there is no limit of
  * residuals, or the usual one of a comparison, whatever number stands after it; any other value
- * states that number.
+ * states that number. Calls that adjust a station (compare, differences, directions, residuals,
+ * report) refuse it where a residual is above 10 mgon, the largest limit.
  *
  * Names of stations have 1 to 16 bytes from 20 to 7E (hex), without a zero at the end.
  */
@@ -53,8 +54,9 @@ uint8_t station_check_check(const void *gsi, size_t gsi_length,
                             char *text, size_t room, size_t *length);
 
 /* Compares a table of directions, in gon, with the least-squares ones of a station. The text is the
- * line of the agreement or of the refusal. `within` is how far they may be apart, in units of 0.001
- * mgon, at most 1,000,000; if none is stated, what is usual for the decimals of the table. */
+ * line of the agreement, with the greatest residual, or of the refusal. `within` is how far they
+ * may be apart, in units of 0.001 mgon, at most 1,000,000; if none is stated, what is usual for the
+ * decimals of the table. */
 uint8_t station_check_compare(const void *gsi, size_t gsi_length,
                               const void *table, size_t table_length,
                               const char *station, size_t station_length,
@@ -87,8 +89,8 @@ uint8_t station_check_residuals(const void *gsi, size_t gsi_length,
 
 /* The report of a station's sets: what was read in both faces, the least-squares directions, the
  * residuals, the greatest of them, and the standard deviation of one two-face direction, exactly
- * rounded. It names the field file by `path`, which may be any bytes: they are escaped as in the
- * line of a digest. */
+ * rounded; and the limits that were kept. It names the field file by `path`, which may be any
+ * bytes: they are escaped as in the line of a digest, and other control bytes as \x1b. */
 uint8_t station_check_report(const void *gsi, size_t gsi_length,
                              const char *path, size_t path_length,
                              const char *station, size_t station_length,
@@ -114,10 +116,16 @@ uint8_t station_check_words(const void *gsi, size_t gsi_length,
                             char *refusal, size_t refusal_room, size_t *refusal_length);
 
 /* A copy of a job that was recorded without codes, with codes put in, and in `notes` what was
- * recognized, or the line of the refusal. `station` names the file's one station where its lines
- * name none, and is else of length 0. The status is 3 where either text has too little room. */
+ * recognized, or the line of the refusal, after those of each station where these were judged.
+ * `station` names the file's one station where its lines name none, and is else of length 0. `sets`
+ * is how many sets were read to the end at each station that has any, and `targets` how many targets
+ * they have, each 0 where it is not stated: sets that were read target by target are marked only
+ * where it is. With `others`, if it is not 0, the readings of stations that aren't recognized stay
+ * outside of the sets, and the others are marked. The status is 3 where either text has too little
+ * room. */
 uint8_t station_check_mark(const void *gsi, size_t gsi_length,
                            const char *station, size_t station_length,
+                           uint32_t sets, uint32_t targets, uint32_t others,
                            char *copy, size_t room, size_t *length,
                            char *notes, size_t notes_room, size_t *notes_length);
 

@@ -10,7 +10,7 @@
 Whole files are bytes, as read. A call answers what the command of its name prints, a single line
 without its line feed, and raises Refused where the command refuses. Limits have the units of the
 command's options; one that is out of its range, or a name that no station can have where it must be
-one, is a ValueError.
+one, is a ValueError. Only `check` takes a limit of residuals: for the others it is 10 mgon.
 
 The library is the one that STATION_CHECK_LIBRARY names, else that of the installation which this
 file belongs to, else the one that the system finds.
@@ -46,7 +46,7 @@ class _Reply(NamedTuple):
 
 class Refused(Exception):
     """The first fault that was found: `line` is the program's, and `text` what it wrote before,
-    which is empty but of `words`."""
+    which is empty but of `words`, and of `mark` what is told of each station."""
 
     def __init__(self, line: str, text: str = "") -> None:
         super().__init__(line)
@@ -83,8 +83,8 @@ def compare(
     two_i: int = FACES,
     within: int | None = None,
 ) -> str:
-    """The line of the agreement; `within` is in units of 0.001 mgon, and if it is None what is
-    usual for the decimals of the table."""
+    """The line of the agreement, with the greatest residual; `within` is in units of 0.001 mgon,
+    and if it is None what is usual for the decimals of the table."""
     numbers = [*_numbers(two_c, two_i), *_stated(within)]
     return _line(_answer("compare", [gsi, table, station.encode()], numbers))
 
@@ -133,14 +133,27 @@ def words(gsi: bytes) -> str:
     return reply.text.decode()
 
 
-def mark(gsi: bytes, station: str | None = None) -> Marked:
+def mark(
+    gsi: bytes,
+    station: str | None = None,
+    *,
+    sets: int | None = None,
+    targets: int | None = None,
+    others: bool = False,
+) -> Marked:
     """A copy of a job that was recorded without codes, with codes put in. `station` names the one
-    station of a job whose lines name none."""
+    station of a job whose lines name none; `sets` is how many sets were read to the end at each
+    station that has any, and `targets` how many targets they have. With `others` the readings of
+    stations that aren't recognized stay outside of the sets, and the others are marked."""
     if station == "":
         raise ValueError("a station has no empty name")
-    reply = _call("mark", [gsi, (station or "").encode()], [], texts=2)
+    if 0 in (sets, targets):
+        raise ValueError("no sets or targets are stated by None, and not by 0")
+    numbers = _numbers(sets or 0, targets or 0, others)
+    reply = _call("mark", [gsi, (station or "").encode()], numbers, texts=2)
     if reply.status == _REFUSED:
-        raise Refused(_line(reply.beside))
+        notes, line = _told_before(reply.beside)
+        raise Refused(line, notes)
     return Marked(reply.text, reply.beside.decode())
 
 
@@ -169,6 +182,12 @@ def _stated(limit: int | None) -> Sequence[ctypes.c_uint32]:
 
 def _line(text: bytes) -> str:
     return text.decode().removesuffix("\n")
+
+
+def _told_before(text: bytes) -> tuple[str, str]:
+    """The lines before the last one, and that."""
+    *told, line = text.decode().splitlines(keepends=True)
+    return "".join(told), line.removesuffix("\n")
 
 
 def _answer(name: str, inputs: Sequence[bytes], numbers: Sequence[ctypes.c_uint32]) -> bytes:

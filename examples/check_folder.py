@@ -61,7 +61,10 @@ ACCEPTED, REFUSED, MISTAKE = 0, 1, 2
 
 COUNTS = rb": \d+ sets, \d+ targets, \d+ directions"
 ACCEPTED_LINE = re.compile(rb"accepted (.*)" + COUNTS + rb", greatest residual \d+/\d+\n")
-AGREES_LINE = re.compile(rb"agrees (.*): \d+ targets, within [\d.]+ mgon, limit [\d.]+ mgon\n")
+AGREES_LINE = re.compile(
+    rb"agrees (.*): \d+ sets, \d+ targets, within [\d.]+ mgon, limit [\d.]+ mgon, "
+    rb"greatest residual [\d.]+ mgon\n"
+)
 STATION_LINE = re.compile(rb"^station (.*)" + COUNTS + rb"$", re.MULTILINE)
 
 # What tells a table from a sheet, in so many bytes of a file: a sheet has rows of five fields that
@@ -392,15 +395,16 @@ def command_line() -> argparse.ArgumentParser:
         "each table that was compared agrees, 1 not so, 2 nothing could be checked.",
     )
     parser.add_argument("folder", metavar="FOLDER")
-    for option, command in [
-        ("--two-c", "check"),
-        ("--two-i", "check"),
-        ("--residual", "check"),
-        ("--within", "compare"),
+    both = "'station_check check' and 'station_check compare'"
+    for option, commands in [
+        ("--two-c", both),
+        ("--two-i", both),
+        ("--residual", both),
+        ("--within", "'station_check compare'"),
     ]:
-        text = f"as of 'station_check {command} {option}'"
+        text = f"as of {commands}"
         parser.add_argument(option, metavar="LIMIT", action="append", default=[], help=text)
-    text = "as of 'station_check compare --degrees': tables are in degrees, and not in gon"
+    text = "as of 'station_check compare': tables are in degrees, and not in gon"
     parser.add_argument("--degrees", action="count", default=0, help=text)
     parser.add_argument("--jobs", metavar="N", type=int, help="so many at a time")
     return parser
@@ -413,8 +417,8 @@ def stated(asked: argparse.Namespace, *names: str) -> list[str]:
 
 def options_of(asked: argparse.Namespace) -> Options:
     limits = stated(asked, "two-c", "two-i")
-    check, compare = [*limits, *stated(asked, "residual")], [*limits, *stated(asked, "within")]
-    compare += ["--degrees"] * asked.degrees
+    check = [*limits, *stated(asked, "residual")]
+    compare = [*check, *stated(asked, "within"), *["--degrees"] * asked.degrees]
     return Options(limits, check, compare, max(1, asked.jobs or os.cpu_count() or 1))
 
 

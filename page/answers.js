@@ -14,21 +14,22 @@ import { each, greatestOf, recognizedIn, residualsIn, stationsOf } from './recor
  * @typedef {'good' | 'bad' | 'read' | 'open'} Mood
  * The answer of a command: its line or text, the fault in the words of the program where it is a
  * refusal, the greatest residual where it accepts a sheet, the text of the differences where it
- * compares a table.
+ * compares a table, what it told of each station where it puts codes in.
  * @typedef {{ command: string, asked: string, status: number, line: string, explanation: string,
  *   field: Input, other?: Input, station?: Station, greatest?: import('./records.js').Residual,
- *   differences?: string }} Answer
- * What came of the limit of residuals, to which each station is held: whether it is kept, and the
- * residuals of which that was seen, with the greatest. An accepted sheet was held to it by its own
- * call, and so was one that was refused for it: then no residuals are told.
- * @typedef {{ isKept: boolean, residuals?: Answer,
+ *   differences?: string, told?: import('./records.js').Recognized[] }} Answer
+ * What came of the limit of residuals, to which each station is held: whether it is kept, the
+ * residuals of which that was seen, with the greatest, and the command by which the program itself
+ * holds the station to it. An accepted sheet was held to it by its own call, and so was one that
+ * was refused for it: then no residuals are told.
+ * @typedef {{ isKept: boolean, residuals?: Answer, command?: string,
  *   greatest?: import('./records.js').Residual }} Judged
  * What is shown of a station, or of a file without one, which is `file`: `readings` counts those of
  * a file without sets, `waiting` has the files that are not checked yet, `isStopped` says that the
  * work was stopped before they were, `unplaced` is the text that says why a file has no place,
  * `marked` the answer when codes were put into a copy, and `recognized` what it told of the card's
  * station, and at the first card of a copy of the stations without sets too; of a job that needs a
- * name what would be recognized by any.
+ * name what would be recognized by any; of a refused job with several stations what is told of each.
  * @typedef {{ title: string, mood: Mood, file: Input, field?: Input, station?: Station,
  *   answers: Answer[], waiting: Input[], isStopped?: boolean, readings?: number, unplaced?: string,
  *   marked?: Answer, recognized?: import('./records.js').Recognized[], judged?: Judged,
@@ -48,6 +49,9 @@ const MOST_READ = 200_000_000;
 
 /** The name by which it is tried whether a job lacks nothing else: no station has it. */
 const NAME_TO_TRY = '?';
+
+/** That no number of sets or of targets is stated. */
+const NO_NUMBERS = { sets: 0, targets: 0 };
 
 /** What the fault of a refusal means, in the words of the program. */
 async function explanationOf(/** @type {string} */ line) {
@@ -116,7 +120,7 @@ async function cardsWithoutSets(field, limits) {
   if (readings === 0 || field.original) return [card];
   const marked = await answerOfMark(field, field.station);
   if (isWithoutName(marked)) return [{ ...card, ...await tried(marked) }];
-  if (marked.status !== ACCEPTED) return [{ ...card, marked }];
+  if (marked.status !== ACCEPTED) return [{ ...card, marked, recognized: toldBeside(marked) }];
   const told = recognizedIn(marked.line), cards = await cardsOfField(marked.other, limits);
   return cards.map((one, nth) => {
     const recognized = told.filter(({ station, sets }) =>
@@ -129,6 +133,13 @@ async function cardsWithoutSets(field, limits) {
 export const isWithoutName = (/** @type {Answer} */ { line, field }) =>
   !field.station && /: mark: NoSetUp$/.test(line);
 
+/** Whether the number of sets, or of targets, has to be stated. */
+export const isUncounted = (/** @type {Answer} */ { line }) => /: mark: ByTargets$/.test(line);
+
+/** Whether other numbers are stated than those that are found. */
+export const isCountedOtherwise = (/** @type {Answer} */ { line }) =>
+  /: mark: (SetCount|TargetCount)$/.test(line);
+
 /**
  * What a job without a name shows: what is recognized but for it, or what is wrong besides, so that
  * nobody states a name in vain.
@@ -137,8 +148,16 @@ export const isWithoutName = (/** @type {Answer} */ { line, field }) =>
 async function tried(marked) {
   const answer = await answerOfMark(marked.field, NAME_TO_TRY);
   return answer.status === ACCEPTED ? { marked, recognized: recognizedIn(answer.line) }
-    : { marked: answer };
+    : { marked: answer, recognized: toldBeside(answer) };
 }
+
+/** What a refusal told of each station, where there are several. */
+const toldBeside = (/** @type {Answer} */ { told }) => told.length > 1 ? told : undefined;
+
+/** Whether some stations may be left outside, and the others marked. */
+export const mayLeaveOut = (/** @type {Answer} */ { told, field }) =>
+  !field.others && told.some(({ sets }) => sets > 0) && told.some(({ fault }) => fault)
+  && !told.some(({ fault }) => fault === 'StationTwice');
 
 /**
  * The answer of putting codes into a copy of a field file: the copy is its other file.
@@ -147,10 +166,17 @@ async function tried(marked) {
  */
 async function answerOfMark(field, station = '') {
   const copy = `${stemOf(field)}_marked.gsi`;
-  const { status, bytes, beside } = await ask('mark', field.bytes, station);
-  const named = station ? ['--station', station] : [];
-  const command = `${commandOf('mark', [], {}, [field.name], named)} > ${copy}`;
-  const answer = await answered({ status, text: beside }, { asked: 'mark', command, field });
+  const { sets, targets } = field.numbers ?? NO_NUMBERS, others = field.others ?? false;
+  const { status, bytes, beside } =
+    await ask('mark', field.bytes, station, sets, targets, others);
+  const numbers = Object.entries({ station, sets, targets }).filter(([, value]) => value)
+    .flatMap(([option, value]) => [`--${option}`, String(value)]);
+  const stated = others ? [...numbers, '--others'] : numbers;
+  const command = `${commandOf('mark', [], {}, [field.name], stated)} > ${copy}`;
+  // At a refusal its line comes after what is told of each station.
+  const text = status === ACCEPTED ? beside : beside.trimEnd().split('\n').at(-1);
+  const told = recognizedIn(beside);
+  const answer = await answered({ status, text }, { asked: 'mark', command, field, told });
   if (status !== ACCEPTED) return answer;
   const digest = await digestOf({ name: copy, bytes });
   const kind = /** @type {const} */ ('field');
@@ -220,10 +246,31 @@ export async function judge(card, limits) {
       card.judged = { isKept: false, residuals };
     } else {
       const greatest = greatestOf(residualsIn(residuals.line));
-      card.judged = { isKept: isWithin(greatest.residual, limits), residuals, greatest };
+      const operands = [station.field.name, station.listed.name];
+      const command = commandOf('directions', ['twoC', 'twoI', 'residual'], limits, operands);
+      const isKept = isWithin(greatest.residual, limits);
+      card.judged = { isKept, residuals, greatest, command };
     }
   }
   card.mood = moodOf(card);
+}
+
+/**
+ * Whether a station was held to the limit of residuals: not where it has none for another reason.
+ */
+export const isHeld = (/** @type {Card} */ { judged }) => judged !== undefined
+  && (!judged.residuals || judged.greatest !== undefined || RESIDUAL.test(judged.residuals.line));
+
+/**
+ * How an answer looks on its card: good only where the station keeps the limit of residuals, and
+ * the work was not stopped before that was seen.
+ * @param {Answer} answer
+ * @param {Card} card
+ * @returns {Mood}
+ */
+export function moodOfAnswer({ status }, { judged, isStopped }) {
+  if (status !== ACCEPTED) return 'bad';
+  return judged?.isKept === false || isStopped ? 'read' : 'good';
 }
 
 /** How a card of a station, or of an answer, looks: good only where nothing of it is left. */

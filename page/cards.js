@@ -1,13 +1,16 @@
 // A card of a station: the answer first, then the fault or the results.
 import {
-  ACCEPTED, OUT_OF_RANGE, REFUSED, filesOf, isWithoutName, meansOf,
+  ACCEPTED, OUT_OF_RANGE, REFUSED, filesOf, isCountedOtherwise, isUncounted, isWithoutName,
+  mayLeaveOut, meansOf, moodOfAnswer,
 } from './answers.js';
 import { button, element, menuOf, ofProgram, save } from './elements.js';
 import { originalOf, stemOf } from './files.js';
 import {
-  furthestOf, headlineOf, headlineOfCard, isApart, judgedText, meaningOf, recognizedText, titleOf,
+  furthestOf, headlineOf, headlineOfCard, isApart, judgedText, meaningOf, recognizedTexts, titleOf,
   waitingText,
 } from './headlines.js';
+import { LIMITS, commandOf } from './limits.js';
+import { mgonOf } from './numbers.js';
 import { pictureFile } from './picture.js';
 import { placeOf } from './place.js';
 import { protocolFile } from './protocol.js';
@@ -21,10 +24,13 @@ import { text } from './texts.js';
  * @typedef {import('./answers.js').Card} Card
  * @typedef {import('./answers.js').Answer} Answer
  * What a card asks of the page: the limits, to load its results, what its protocol says of what
- * else was handed in, to print it, to name the station of a field file.
+ * else was handed in, to print it, to name the station of a field file, to state its numbers of
+ * sets and targets, or that stations that aren't recognized stay outside.
  * @typedef {{ limits: import('./limits.js').Limits, load: (card: Card) => Promise<void>,
  *   beside: (card: Card) => string[], print: (card: Card) => void,
- *   name: (field: Input, station: string) => void }} Desk
+ *   name: (field: Input, station: string) => void,
+ *   count: (field: Input, numbers: import('./files.js').Numbers) => void,
+ *   leaveOut: (field: Input, others: boolean) => void }} Desk
  * @typedef {import('./files.js').Input} Input
  * Gives what is in a file that can be saved; nothing where there is none, and it is said why.
  * @typedef {() => string | null | Promise<string | null>} Content
@@ -35,8 +41,8 @@ const MOODS = { good: 'moodGood', bad: 'moodBad', read: 'moodRead', open: 'moodO
 // ---------------------------------------------------------------- an answer
 
 /**
- * The program's line, and the command that answers the same.
- * @param {Answer} answer
+ * The program's line, where it has one, and the command that answers the same.
+ * @param {{ command: string, line?: string, status?: number }} answer
  * @param {Element} parent
  */
 function showCommand({ line, command, status }, parent) {
@@ -52,13 +58,12 @@ function showCommand({ line, command, status }, parent) {
 /**
  * An answer: in words, where the fault stands and what it means, and the line.
  * @param {Answer} answer
- * @param {Desk} desk
+ * @param {Card} card
  * @param {Element} parent
  */
-function showAnswer(answer, desk, parent) {
+function showAnswer(answer, card, parent) {
   const { status, line, other, explanation } = answer;
-  const mood = status === ACCEPTED ? 'good' : 'bad';
-  const part = element('div', '', parent, { className: `answer ${mood}` });
+  const part = element('div', '', parent, { className: `answer ${moodOfAnswer(answer, card)}` });
   if (other) element('p', other.shown, part, { className: 'label name' });
   const headline = element('p', headlineOf(answer), part, { className: 'headline' });
   if (status === REFUSED && !isApart(line) && explanation) {
@@ -87,10 +92,23 @@ function showJudged(card, desk, parent) {
   const part = element('div', '', parent, { className: 'answer bad' });
   element('p', said, part, { className: 'headline' });
   showFault({ ...judged.residuals, station }, part);
-  if (judged.residuals.status !== ACCEPTED) showCommand(judged.residuals, part);
+  showCommand(judged.greatest ? { command: judged.command } : judged.residuals, part);
 }
 
 // ---------------------------------------------------------------- results
+
+/**
+ * What is said of a saved report, which has the largest limit of residuals, where another is in
+ * force.
+ * @param {Card} card
+ * @param {import('./limits.js').Limits} limits
+ */
+function ofReport({ station, field }, limits) {
+  const { most, per } = LIMITS.residual, operands = [field.name, station.listed.name];
+  if (limits.residual === most) return '';
+  const command = commandOf('report', ['twoC', 'twoI', 'residual'], limits, operands);
+  return text('reportLimit', { most: mgonOf(most, per), command });
+}
 
 /**
  * What can be saved of a station, and printed.
@@ -105,13 +123,17 @@ function showButtons(card, desk, parent) {
   const menu = menuOf(text('save'), part);
   const said = element('p', '', parent, { className: 'quiet' });
   said.setAttribute('role', 'status');
-  /** @type {(label: string, file: string, content: Content, type?: string) => Element} */
-  const offer = (label, file, content, type = 'text/csv') => button(text(label), menu, async () => {
-    const whole = await content();
-    if (whole === null) return;
-    save(file, whole, type);
-    said.textContent = text('saved', { name: file });
-  });
+  /**
+   * @type {(label: string, file: string, content: Content, type?: string, more?: string)
+   *   => Element}
+   */
+  const offer = (label, file, content, type = 'text/csv', more = '') =>
+    button(text(label), menu, async () => {
+      const whole = await content();
+      if (whole === null) return;
+      save(file, whole, type);
+      said.textContent = `${text('saved', { name: file })} ${more}`.trimEnd();
+    });
   const protocol = `${stemOf(field)}_${name}.html`;
   offer('saveProtocol', protocol, () => protocolFile(card, desk.limits, desk.beside(card)),
     'text/html');
@@ -124,8 +146,10 @@ function showButtons(card, desk, parent) {
     const picture = () => pictureFile(title, origin, residualsIn(line));
     offer('savePicture', `${name}_residuals.svg`, picture, 'image/svg+xml');
   }
-  if (results.report.status === ACCEPTED)
-    offer('saveReport', `${name}_report.txt`, () => `${results.report.line}\n`, 'text/plain');
+  if (results.report.status === ACCEPTED) {
+    const content = () => `${results.report.line}\n`;
+    offer('saveReport', `${name}_report.txt`, content, 'text/plain', ofReport(card, desk.limits));
+  }
   for (const { differences, other } of card.answers) {
     const file = `${stemOf(other)}_differences.csv`;
     if (differences) offer('saveDifferences', file, () => differences);
@@ -187,11 +211,13 @@ function showMarked({ marked, recognized }, desk, parent) {
   const { line, other, field, command } = marked;
   const part = element('div', '', parent, { className: 'marked' });
   element('p', text('markedCopy', { name: field.shown }), part, { className: 'label' });
-  for (const one of recognized) element('p', recognizedText(one), part);
+  for (const said of recognized.flatMap(recognizedTexts)) element('p', said, part);
   element('p', text('compareBook'), part);
   const buttons = element('div', '', part, { className: 'buttons' });
   button(text('saveMarked'), buttons, () => save(other.name, other.bytes, 'text/plain'));
   if (field.station) askName(field, desk, 'changeName', buttons);
+  if (field.numbers) askNumbers(field, desk, 'changeNumbers', buttons);
+  if (field.others) button(text('leaveNone'), buttons, () => desk.leaveOut(field, false));
   const exact = element('details', '', part);
   element('summary', text('program'), exact);
   ofProgram('pre', `${command}\n${line}`, exact);
@@ -218,6 +244,37 @@ function askName(field, desk, action, parent, className = 'button') {
 }
 
 /**
+ * The numbers that are asked for, with what they are called and the most that each may be.
+ * @type {['sets' | 'targets', string, number][]}
+ */
+const ASKED = [['sets', 'setsRead', 40], ['targets', 'targetsRead', 100]];
+
+/**
+ * Asks how many sets were read to the end, and how many targets they have, or for other numbers.
+ * @param {Input} field
+ * @param {Desk} desk
+ * @param {string} action what the button says
+ * @param {Element} parent
+ */
+function askNumbers(field, desk, action, parent, className = 'button') {
+  const form = element('form', '', parent, { className: 'buttons' });
+  const typing = field.typing ??= {};
+  const [sets, targets] = ASKED.map(([name, called, most]) => {
+    const label = element('label', `${text(called)} `, form);
+    const value = typing[name] ?? (field.numbers?.[name] || '');
+    const about = { type: 'number', min: '1', max: String(most), value };
+    const input = /** @type {HTMLInputElement} */ (element('input', '', label, about));
+    input.oninput = () => { typing[name] = input.value; };
+    return input;
+  });
+  element('button', text(action), form, { type: 'submit', className });
+  form.onsubmit = event => {
+    event.preventDefault();
+    desk.count(field, { sets: Number(sets.value), targets: Number(targets.value) });
+  };
+}
+
+/**
  * Why the sets of a job without codes are not recognized, and what to do.
  * @param {Card} card
  * @param {Desk} desk
@@ -233,9 +290,12 @@ function showUnmarked(card, desk, parent) {
     if (place) showPlace(place, parent);
     if (marked.explanation) showExplanation(marked.explanation, parent);
   }
-  for (const one of recognized ?? []) element('p', recognizedText(one), parent);
+  for (const said of (recognized ?? []).flatMap(recognizedTexts)) element('p', said, parent);
   if (isAsked) askName(field, desk, 'markSets', parent, 'button primary');
-  else if (field.station) askName(field, desk, 'changeName', parent);
+  else if (isUncounted(marked)) askNumbers(field, desk, 'markSets', parent, 'button primary');
+  else if (isCountedOtherwise(marked)) askNumbers(field, desk, 'changeNumbers', parent);
+  if (mayLeaveOut(marked)) button(text('leaveOut'), parent, () => desk.leaveOut(field, true));
+  if (!isAsked && field.station) askName(field, desk, 'changeName', parent);
   const outside = text('outside', { n: card.readings });
   if (!recognized) element('p', outside, parent, { className: 'quiet' });
   showCommand(marked, parent);
@@ -281,7 +341,7 @@ export function showCard(card, desk, isFew, parent) {
   element('h2', titleOf(card), head, { className: card.station ? '' : 'name' });
   if (card.station) element('span', card.field.shown, head, { className: 'quiet name' });
   if (card.marked?.other) showMarked(card, desk, part);
-  for (const answer of card.answers) showAnswer(answer, desk, part);
+  for (const answer of card.answers) showAnswer(answer, card, part);
   if (card.answers.length === 0)
     element('p', headlineOfCard(card), part, { className: 'headline' });
   showJudged(card, desk, part);

@@ -7,12 +7,18 @@ import { each, recordsOf } from './records.js';
  *   'other'} Kind
  * A file that was handed in: `shown` is its name as the page shows it, `choice` the station that
  * the user chose for it, `station` the name that the user gave to a field file without one, `typed`
- * the name that is being typed, and `original` the field file that a marked copy is of. `opened`
- * says of the stations of a field file by their names whether the user opened or closed their
- * results. The digest is there once the file was judged.
+ * the name that is being typed, and `original` the field file that a marked copy is of. `numbers`
+ * are those of sets and of targets that the user stated, and `typing` what is being typed of them;
+ * `others` says whether stations that aren't recognized stay outside.
+ * `opened` says of the stations of a field file by their names whether the user opened or closed
+ * their results. The digest is there once the file was judged.
  * @typedef {{ name: string, shown: string, bytes: Uint8Array, kind: Kind, digest: string,
  *   choice?: { field: Input, name: string }, station?: string, typed?: string, original?: Input,
+ *   numbers?: Numbers, typing?: Record<string, string>, others?: boolean,
  *   opened?: Map<string, boolean> }} Input
+ * How many sets were read to the end at each station of a field file, and how many targets they
+ * have: each 0 where it is not stated.
+ * @typedef {{ sets: number, targets: number }} Numbers
  * A station of a field file, with its residuals once they were asked for.
  * @typedef {{ field: Input, listed: import('./records.js').Listed,
  *   residuals?: import('./answers.js').Answer }} Station

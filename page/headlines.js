@@ -1,5 +1,7 @@
 // The answer in words and mgon, of each kind.
-import { ACCEPTED, OUT_OF_RANGE, TOO_LITTLE_ROOM, isWithoutName } from './answers.js';
+import {
+  ACCEPTED, OUT_OF_RANGE, TOO_LITTLE_ROOM, isCountedOtherwise, isUncounted, isWithoutName,
+} from './answers.js';
 import { isUsed, originalOf, stationOfSheet } from './files.js';
 import { HALF, mgonOf, plain, signed } from './numbers.js';
 import { differencesIn, sizeOf } from './records.js';
@@ -38,17 +40,22 @@ function acceptedHeadline(/** @type {Answer} */ { line, greatest }) {
 }
 
 function agreesHeadline(/** @type {string} */ line) {
-  const n = line.match(/: (\d+) targets, within /)?.[1];
+  const n = line.match(/: \d+ sets, (\d+) targets, within /)?.[1];
   return n ? text('agrees', { n, ...howFarIn(line) }) : text('agreesBare');
 }
+
+/** That one set alone shows nothing, where a station has no other. */
+const ofOneSet = (/** @type {string} */ line) => (/: 1 sets, /.test(line) ? [text('oneSet')] : []);
 
 /** The answer in words and mgon. */
 export function headlineOf(/** @type {Answer} */ answer) {
   const { status, line, asked } = answer;
   if (status === OUT_OF_RANGE) return text('outOfRange');
   if (status === TOO_LITTLE_ROOM) return text('noRoom');
-  if (status === ACCEPTED)
-    return asked === 'compare' ? agreesHeadline(line) : acceptedHeadline(answer);
+  if (status === ACCEPTED) {
+    const accepted = asked === 'compare' ? agreesHeadline(line) : acceptedHeadline(answer);
+    return [accepted, ...ofOneSet(line)].join(' ');
+  }
   return isApart(line) ? text('refusedApart', howFarIn(line)) : text('refused');
 }
 
@@ -80,22 +87,41 @@ export const countsOf = ({ sets, targets, directions }) => ({
   directions: text('directionsCounted', { n: directions }),
 });
 
-/** What was recognized of a station, in words. */
-export function recognizedText(/** @type {import('./records.js').Recognized} */ one) {
-  const { station, sets, targets, before, after } = one;
+/** What was recognized of the sets of a station, in words. */
+function setsText(/** @type {import('./records.js').Recognized} */ one) {
+  const { station, sets, targets, opening, turning, before, after, fault, block } = one;
+  if (fault) return text('recognizedNot', { station, block, fault, n: after });
+  if (sets + after === 0) return text('recognizedUnread', { station });
   if (sets === 0) return text('recognizedNone', { station, n: after });
-  const counts = countsOf({ sets, targets, directions: 0 });
-  if (before + after === 0) return text('recognizedAll', { station, ...counts });
-  const readings = text('readingsCounted', { n: before });
-  return text('recognized', { station, ...counts, before: readings, after });
+  const about = { station, opening, turning, ...countsOf({ sets, targets, directions: 0 }) };
+  if (before + after === 0) return text('recognizedAll', about);
+  return text('recognized', { ...about, before: text('readingsCounted', { n: before }), after });
+}
+
+/** What was recognized of a station, in sentences that stand one below the other. */
+export function recognizedTexts(/** @type {import('./records.js').Recognized} */ one) {
+  const { isAgain, missing, full, others } = one;
+  return [
+    setsText(one),
+    ...isAgain ? [text('recognizedAgain', { station: one.station })] : [],
+    ...missing > 0 ? [text('recognizedMissing', { n: missing, full })] : [],
+    ...others > 0 ? [text('recognizedOthers', { n: others })] : [],
+  ];
 }
 
 /** The headline of a card without answers. */
 export function headlineOfCard(/** @type {Card} */ card) {
   if (card.unplaced) return text(card.unplaced);
   if (card.station) return text('readWell', countsOf(card.station.listed));
-  if (card.marked) return text(isWithoutName(card.marked) ? 'nothingNamed' : 'nothingRecognized');
+  if (card.marked) return text(headlineOfMark(card.marked));
   return text('nothingChecked');
+}
+
+/** Why a job without codes was not checked. */
+function headlineOfMark(/** @type {Answer} */ marked) {
+  if (isWithoutName(marked)) return 'nothingNamed';
+  if (isUncounted(marked)) return 'nothingCounted';
+  return isCountedOtherwise(marked) ? 'countedOtherwise' : 'nothingRecognized';
 }
 
 /**
@@ -116,7 +142,8 @@ export function waitingText(/** @type {Card} */ { mood, marked, isStopped, waiti
   const names = waiting.map(file => file.shown).join(', ');
   if (isStopped) return text('waitingStopped', { names });
   if (mood === 'bad') return text('waiting', { names });
-  return text(marked && isWithoutName(marked) ? 'waitingForName' : 'waitingForSets', { names });
+  if (marked && isWithoutName(marked)) return text('waitingForName', { names });
+  return text(marked && isUncounted(marked) ? 'waitingForCount' : 'waitingForSets', { names });
 }
 
 /** What a file is, in words. */

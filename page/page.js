@@ -272,6 +272,14 @@ async function checkAll() {
   if (isDone) tell(sayHow);
 }
 
+/** Checks all, and leads to the first card of a field file of which something was stated. */
+async function checkAgain(/** @type {Input} */ field) {
+  await checkAll();
+  // (all cards are new, and the one that was worked at may have been far below)
+  const first = cards.find(card => card.field && originalOf(card.field) === field);
+  if (first) leadTo(first);
+}
+
 /** What the cards ask of the page. */
 const desk = {
   get limits() { return limits; },
@@ -298,10 +306,15 @@ const desk = {
   },
   async name(/** @type {Input} */ field, /** @type {string} */ station) {
     field.station = station;
-    await checkAll();
-    // (all cards are new, and the one that was worked at may have been far below)
-    const named = cards.find(card => card.field && originalOf(card.field) === field);
-    if (named) leadTo(named);
+    await checkAgain(field);
+  },
+  async leaveOut(/** @type {Input} */ field, /** @type {boolean} */ others) {
+    field.others = others;
+    await checkAgain(field);
+  },
+  async count(/** @type {Input} */ field, /** @type {import('./files.js').Numbers} */ numbers) {
+    field.numbers = numbers;
+    await checkAgain(field);
   },
 };
 

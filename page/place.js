@@ -72,7 +72,7 @@ function meantIn(/** @type {string} */ line, /** @type {string} */ fault) {
  * @type {Record<string, RegExp>}
  */
 const FAULTS_OF_WORDS = {
-  11: /^(TooManyTargets|ReadTwice|FaceMissing|Order|EndsElsewhere|OtherTargets)/,
+  11: /^(TooManyTargets|ReadTwice|FaceMissing|Order|EndsElsewhere|PairAfter|OtherTargets|SightsItself)/,
   21: /^(Hz|FaceTwice|TwoC)/,
   22: /^(Zenith|TwoI|FaceUnclear|FirstFace)/,
   42: /^(StationName|SetNumber|StationTwice|SetTwice)/,

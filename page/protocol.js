@@ -1,9 +1,9 @@
 // The protocol of a station, as an office prints and files it, and the page before several.
-import { ACCEPTED, REFUSED, filesOf } from './answers.js';
+import { ACCEPTED, REFUSED, filesOf, isHeld, moodOfAnswer } from './answers.js';
 import { element, ofProgram } from './elements.js';
 import { isUsed, originalOf, stemOf } from './files.js';
 import {
-  countsOf, headlineOfCard, judgedText, kindText, recognizedText, saidOf, saidOfCard, saidOfFile,
+  countsOf, headlineOfCard, judgedText, kindText, recognizedTexts, saidOf, saidOfCard, saidOfFile,
   titleOf, waitingText,
 } from './headlines.js';
 import { limitsLine } from './limits.js';
@@ -66,13 +66,13 @@ function showAnswers(card, limits, parent) {
   }
   for (const answer of card.answers) {
     const said = saidOf(answer), label = answer.other?.shown;
-    const mood = answer.status === ACCEPTED ? 'good' : 'bad';
-    say(label ? text('labelled', { label, said }) : said, mood);
+    say(label ? text('labelled', { label, said }) : said, moodOfAnswer(answer, card));
     if (answer.status <= REFUSED) ofProgram('samp', answer.line, element('div', '', parent));
     ofProgram('code', answer.command, element('div', '', parent));
   }
-  const said = judgedText(card, limits);
-  if (said) say(said, card.judged.isKept ? 'read' : 'bad');
+  const said = judgedText(card, limits), { isKept, greatest, command } = card.judged ?? {};
+  if (said) say(said, isKept ? 'read' : 'bad');
+  if (greatest && !isKept) ofProgram('code', command, element('div', '', parent));
   if (card.waiting.length > 0) say(waitingText(card), 'open');
 }
 
@@ -91,8 +91,8 @@ function showFaults(/** @type {Card} */ card, /** @type {Element} */ parent) {
  * @param {Element} parent
  */
 function showMarks({ marked, recognized, title }, parent) {
-  for (const one of recognized.filter(({ station }) => station === title))
-    element('div', recognizedText(one), parent);
+  const told = recognized.filter(({ station }) => station === title);
+  for (const said of told.flatMap(recognizedTexts)) element('div', said, parent);
   ofProgram('code', marked.command, element('div', '', parent));
 }
 
@@ -160,7 +160,7 @@ export function showProtocol(card, limits, parent, page = '', beside = []) {
   if (station && card.marked) showMarks(card, row('marks', facts));
   const isCompared = card.answers.some(({ asked, status, line }) =>
     asked === 'compare' && (status === ACCEPTED || /^refused: compare: /.test(line)));
-  const held = { residual: card.judged !== undefined, within: isCompared };
+  const held = { residual: isHeld(card), within: isCompared };
   if (card.field) row('limits', facts).textContent = limitsLine(limits, held);
   showAnswers(card, limits, row('answer', facts));
   const others = beside.length > 0 ? row('handedIn', facts) : null;

@@ -47,29 +47,69 @@ export function recordsOf(text, separator = ',') {
 export const each = values => [...new Set(values)];
 
 const STATION_WITH_SETS =
-  /^note: station (.*): (\d+) sets?, (\d+) targets?; (\d+) readings? before them and (\d+) after /;
-const STATION_WITHOUT_SETS = /^note: station (.*): no sets; (\d+) readings? stays? outside$/;
+  /^note: station (.*): (\d+) sets?, (\d+) targets?, from (.*) to (.*); (\d+) readings? before them and (\d+) after stay outside$/;
+const STATION_WITHOUT_SETS =
+  /^note: station (.*): (?:no sets; (\d+) readings? stays? outside|no readings)$/;
+const STATION_WITH_FAULT =
+  /^note: station (.*): not recognized, block (\d+): (\w+); (\d+) readings? stays? outside$/;
+const SET_UP_AGAIN = /^note: station (?:.*): set up again$/;
+const MISSING = /^note: station (?:.*): (\d+) of (\d+) directions? (?:is|are) missing$/;
+const OF_ANOTHER =
+  /^note: station (?:.*): (\d+) targets? after the sets in both faces: of another station\?$/;
 
 /**
- * What was told of a station where codes were put in: its sets, and how many readings stay outside
- * before and after them; of one without sets no more than these, as if all came after.
- * @typedef {{ station: string, sets: number, targets: number, before: number,
- *   after: number }} Recognized
+ * What was told of a station where codes were put in: its sets, the target that opens them and the
+ * one at which the first turns, and how many readings stay outside before and after them; how many
+ * directions are missing of how many, and how many targets after the sets seem to be of another
+ * station. Of one without sets no more than its readings, as if all came after; and of one that
+ * isn't recognized these, its fault, and the number of the block.
+ * @typedef {{ station: string, isAgain: boolean, sets: number, targets: number, opening: string,
+ *   turning: string, before: number, after: number, missing: number, full: number,
+ *   others: number, fault?: string, block?: number }} Recognized
  */
+
+const NO_SETS = {
+  isAgain: false, sets: 0, targets: 0, opening: '', turning: '', before: 0, after: 0, missing: 0,
+  full: 0, others: 0,
+};
+
+/**
+ * The station of which a note tells first, if it does.
+ * @returns {Recognized | undefined}
+ */
+function stationOfNote(/** @type {string} */ note) {
+  const [, one, readings = '0'] = note.match(STATION_WITHOUT_SETS) ?? [];
+  if (one !== undefined) return { ...NO_SETS, station: one, after: Number(readings) };
+  const [, faulty, block, fault, all] = note.match(STATION_WITH_FAULT) ?? [];
+  if (faulty !== undefined)
+    return { ...NO_SETS, station: faulty, fault, block: Number(block), after: Number(all) };
+  const [, station, sets, targets, opening, turning, before, after] =
+    note.match(STATION_WITH_SETS) ?? [];
+  if (station === undefined) return undefined;
+  return {
+    ...NO_SETS, station, opening, turning,
+    sets: Number(sets), targets: Number(targets), before: Number(before), after: Number(after),
+  };
+}
 
 /**
  * What was told of each station, in the order of the notes.
  * @returns {Recognized[]}
  */
-export const recognizedIn = (/** @type {string} */ notes) => notes.split('\n').flatMap(note => {
-  const [, one, after] = note.match(STATION_WITHOUT_SETS) ?? [];
-  if (one !== undefined)
-    return { station: one, sets: 0, targets: 0, before: 0, after: Number(after) };
-  const [, station, ...numbers] = note.match(STATION_WITH_SETS) ?? [];
-  if (station === undefined) return [];
-  const [sets, targets, before, outside] = numbers.map(Number);
-  return { station, sets, targets, before, after: outside };
-});
+export function recognizedIn(/** @type {string} */ notes) {
+  /** @type {Recognized[]} */
+  const stations = [];
+  let isAgain = false;
+  for (const note of notes.split('\n')) {
+    const station = stationOfNote(note), last = stations.at(-1);
+    const [, missing, full] = note.match(MISSING) ?? [], [, others] = note.match(OF_ANOTHER) ?? [];
+    if (station) stations.push({ ...station, isAgain });
+    else if (last && missing) Object.assign(last, { missing: Number(missing), full: Number(full) });
+    else if (last && others) last.others = Number(others);
+    isAgain = SET_UP_AGAIN.test(note);
+  }
+  return stations;
+}
 
 // ---------------------------------------------------------------- lists
 

@@ -54,6 +54,7 @@ const HERE = [
   [/station_check differences/, 'hereDifferences'],
   [/--(two-c|two-i|residual|within)/, 'hereLimits'],
   [/--degrees/, 'hereGon'],
+  [/--sets/, 'hereNumbers'],
   [/prepare\.py/, 'hereEditor'],
 ];
 

@@ -191,6 +191,11 @@ export const TEXTS = {
     de: 'Angenommen. Alle Verbesserungen sind 0.',
     fr: 'Accepté. Tous les résidus sont nuls.',
   },
+  oneSet: {
+    en: 'One set: its residuals are 0 whatever was read.',
+    de: 'Ein Satz: seine Verbesserungen sind 0, was auch abgelesen wurde.',
+    fr: 'Une seule série : ses résidus sont nuls, quelles que soient les lectures.',
+  },
   acceptedBare: { en: 'Accepted.', de: 'Angenommen.', fr: 'Accepté.' },
   agrees: {
     en: 'Agrees. {n} target within {apart} mgon of the least-squares directions; the limit is {limit} mgon.|Agrees. {n} targets within {apart} mgon of the least-squares directions; the limit is {limit} mgon.',
@@ -249,6 +254,16 @@ export const TEXTS = {
     de: 'Noch nichts wurde geprüft: Die Station braucht einen Namen.',
     fr: 'Rien n’a encore été vérifié : il faut un nom à la station.',
   },
+  nothingCounted: {
+    en: 'Nothing was checked yet: the sets were read target by target, and their number is needed.',
+    de: 'Noch nichts wurde geprüft: Die Sätze wurden Ziel für Ziel beobachtet, und ihre Anzahl fehlt.',
+    fr: 'Rien n’a encore été vérifié : les séries ont été lues cible par cible, et il faut leur nombre.',
+  },
+  countedOtherwise: {
+    en: 'Nothing was checked: the sets of this job are not as many as you stated, or have other targets.',
+    de: 'Nichts wurde geprüft: Die Sätze dieses Jobs sind nicht so viele, wie Sie angeben, oder haben andere Ziele.',
+    fr: 'Rien n’a été vérifié : les séries de ce job ne sont pas aussi nombreuses que vous l’indiquez, ou ont d’autres cibles.',
+  },
   nothingRecognized: {
     en: 'Nothing was checked: the sets of this job are not recognized.',
     de: 'Nichts wurde geprüft: Die Sätze dieses Jobs werden nicht erkannt.',
@@ -270,19 +285,54 @@ export const TEXTS = {
     fr: 'Séries reconnues dans {name} : la réponse porte sur une copie avec des codes',
   },
   recognized: {
-    en: 'Station {station}: {sets}, {targets}. {before} before the sets and {after} after them stay outside.',
-    de: 'Station {station}: {sets}, {targets}. {before} vor den Sätzen und {after} danach bleiben außerhalb.',
-    fr: 'Station {station} : {sets}, {targets}. {before} avant les séries et {after} après restent en dehors.',
+    en: 'Station {station}: {sets}, {targets}, from {opening} to {turning}. {before} before the sets and {after} after them stay outside.',
+    de: 'Station {station}: {sets}, {targets}, von {opening} bis {turning}. {before} vor den Sätzen und {after} danach bleiben außerhalb.',
+    fr: 'Station {station} : {sets}, {targets}, de {opening} à {turning}. {before} avant les séries et {after} après restent en dehors.',
   },
   recognizedAll: {
-    en: 'Station {station}: {sets}, {targets}. No reading stays outside.',
-    de: 'Station {station}: {sets}, {targets}. Keine Ablesung bleibt außerhalb.',
-    fr: 'Station {station} : {sets}, {targets}. Aucune lecture ne reste en dehors.',
+    en: 'Station {station}: {sets}, {targets}, from {opening} to {turning}. No reading stays outside.',
+    de: 'Station {station}: {sets}, {targets}, von {opening} bis {turning}. Keine Ablesung bleibt außerhalb.',
+    fr: 'Station {station} : {sets}, {targets}, de {opening} à {turning}. Aucune lecture ne reste en dehors.',
   },
   recognizedNone: {
     en: 'Station {station}: no sets. Its {n} reading stays outside, and nothing of it was checked.|Station {station}: no sets. Its {n} readings stay outside, and nothing of them was checked.',
     de: 'Station {station}: keine Sätze. Ihre {n} Ablesung bleibt außerhalb; nichts davon wurde geprüft.|Station {station}: keine Sätze. Ihre {n} Ablesungen bleiben außerhalb; nichts davon wurde geprüft.',
     fr: 'Station {station} : aucune série. Sa {n} lecture reste en dehors, et rien n’en a été vérifié.|Station {station} : aucune série. Ses {n} lectures restent en dehors, et rien n’en a été vérifié.',
+  },
+  recognizedUnread: {
+    en: 'Station {station}: no readings follow its set-up line.',
+    de: 'Station {station}: Auf ihre Aufstellungszeile folgen keine Ablesungen.',
+    fr: 'Station {station} : aucune lecture ne suit sa ligne de mise en station.',
+  },
+  recognizedAgain: {
+    en: 'Station {station} is set up again: readings follow an earlier set-up line with this name.',
+    de: 'Station {station} wird wieder aufgestellt: Schon auf eine frühere Aufstellungszeile mit diesem Namen folgen Ablesungen.',
+    fr: 'Station {station} est remise en station : des lectures suivent une ligne de mise en station antérieure de ce nom.',
+  },
+  recognizedMissing: {
+    en: '{n} of {full} directions is missing.|{n} of {full} directions are missing.',
+    de: '{n} von {full} Richtungen fehlt.|{n} von {full} Richtungen fehlen.',
+    fr: '{n} direction sur {full} manque.|{n} directions sur {full} manquent.',
+  },
+  recognizedOthers: {
+    en: 'After the sets {n} target that no set has is read in both faces: is a set-up line missing before it?|After the sets {n} targets that no set has are read in both faces: is a set-up line missing before them?',
+    de: 'Nach den Sätzen ist {n} Ziel, das kein Satz hat, in beiden Lagen gelesen: Fehlt davor eine Aufstellungszeile?|Nach den Sätzen sind {n} Ziele, die kein Satz hat, in beiden Lagen gelesen: Fehlt davor eine Aufstellungszeile?',
+    fr: 'Après les séries, {n} cible qu’aucune série n’a est lue aux deux cercles : manque-t-il une ligne de mise en station ?|Après les séries, {n} cibles qu’aucune série n’a sont lues aux deux cercles : manque-t-il une ligne de mise en station ?',
+  },
+  recognizedNot: {
+    en: 'Station {station}: not recognized, block {block}: {fault}. Its {n} reading stays outside, and nothing of it was checked.|Station {station}: not recognized, block {block}: {fault}. Its {n} readings stay outside, and nothing of them was checked.',
+    de: 'Station {station}: nicht erkannt, Block {block}: {fault}. Ihre {n} Ablesung bleibt außerhalb; nichts davon wurde geprüft.|Station {station}: nicht erkannt, Block {block}: {fault}. Ihre {n} Ablesungen bleiben außerhalb; nichts davon wurde geprüft.',
+    fr: 'Station {station} : non reconnue, bloc {block} : {fault}. Sa {n} lecture reste en dehors, et rien n’en a été vérifié.|Station {station} : non reconnue, bloc {block} : {fault}. Ses {n} lectures restent en dehors, et rien n’en a été vérifié.',
+  },
+  leaveOut: {
+    en: 'Leave the stations that are not recognized outside',
+    de: 'Nicht erkannte Stationen außerhalb lassen',
+    fr: 'Laisser en dehors les stations non reconnues',
+  },
+  leaveNone: {
+    en: 'Leave no station outside',
+    de: 'Keine Station außerhalb lassen',
+    fr: 'Ne laisser aucune station en dehors',
   },
   marks: { en: 'Codes put in', de: 'Eingesetzte Codes', fr: 'Codes insérés' },
   compareBook: {
@@ -303,6 +353,13 @@ export const TEXTS = {
   },
   stationName: { en: 'Name of the station', de: 'Name der Station', fr: 'Nom de la station' },
   changeName: { en: 'Change the name', de: 'Namen ändern', fr: 'Changer le nom' },
+  setsRead: {
+    en: 'Sets read to the end, by the field book',
+    de: 'Zu Ende beobachtete Sätze, laut Feldbuch',
+    fr: 'Séries lues jusqu’au bout, selon le carnet',
+  },
+  targetsRead: { en: 'Targets', de: 'Ziele', fr: 'Cibles' },
+  changeNumbers: { en: 'Change the numbers', de: 'Anzahlen ändern', fr: 'Changer les nombres' },
   markSets: { en: 'Recognize the sets', de: 'Sätze erkennen', fr: 'Reconnaître les séries' },
   lineOfFile: {
     en: 'Line {line} of {name}, block {block}',
@@ -341,6 +398,11 @@ export const TEXTS = {
     en: 'Checked as soon as the station has its name: {names}.',
     de: 'Wird geprüft, sobald die Station ihren Namen hat: {names}.',
     fr: 'Vérifié dès que la station a son nom : {names}.',
+  },
+  waitingForCount: {
+    en: 'Checked as soon as the number of sets is stated: {names}.',
+    de: 'Wird geprüft, sobald die Anzahl der Sätze angegeben ist: {names}.',
+    fr: 'Vérifié dès que le nombre des séries est indiqué : {names}.',
   },
   waitingStopped: {
     en: 'Not checked, since the work was stopped: {names}.',
@@ -389,6 +451,11 @@ export const TEXTS = {
     en: 'Tables are read in gon alone; the program reads degrees too.',
     de: 'Tabellen werden nur in gon gelesen; das Programm liest auch Grad.',
     fr: 'Les tables sont lues en gon seulement ; le programme lit aussi les degrés.',
+  },
+  hereNumbers: {
+    en: 'You state --sets and --targets below.',
+    de: 'Sie geben --sets und --targets unten an.',
+    fr: 'Vous indiquez --sets et --targets plus bas.',
   },
   hereEditor: {
     en: 'If you have no prepare.py, change a copy of the file in a text editor, whose lines have the numbers shown here; keep the original, and write down what you changed and why.',
@@ -486,6 +553,11 @@ export const TEXTS = {
   saveProtocol: { en: 'Save protocol', de: 'Protokoll speichern', fr: 'Enregistrer le protocole' },
   print: { en: 'Print', de: 'Drucken', fr: 'Imprimer' },
   printProtocol: { en: 'Print protocol', de: 'Protokoll drucken', fr: 'Imprimer le protocole' },
+  reportLimit: {
+    en: 'It was held to {most} mgon, the largest limit of residuals; with yours: {command}',
+    de: 'Er wurde an {most} mgon gemessen, der größten Grenze der Verbesserungen; mit Ihrer: {command}',
+    fr: 'Il a été tenu à {most} mgon, la plus grande limite des résidus ; avec la vôtre : {command}',
+  },
   saved: { en: 'Saved as {name}.', de: 'Gespeichert als {name}.', fr: 'Enregistré sous {name}.' },
   protocol: {
     en: 'Protocol of sets: Station {name}',

@@ -32,9 +32,6 @@ RANGE = re.compile(r"(\d+) to (\d+)")
 # What stands for a limit, which may be stated in mgon.
 LIMIT = "LIMIT"
 
-# What the help says where an option that isn't stated sets no limit.
-NO_LIMIT = "none"
-
 # The options that every command has, and that are no part of what it says of itself.
 GENERAL = ["--help", "--version"]
 
@@ -43,17 +40,13 @@ class Option(NamedTuple):
     name: str
     value: str  # what stands for its number or its text; of a flag nothing
     text: str
-    usual: str | None  # its number where none is stated, or that there is no limit; of a text none
+    usual: str | None  # its number where none is stated; of a text none
 
     def summary(self) -> str:
         return first_sentence(self.text)
 
     def where_none_is_stated(self) -> str:
-        if self.usual is None:
-            return ""
-        if self.usual == NO_LIMIT:
-            return "Where none is stated there is none."
-        return f"It is {self.usual} where none is stated."
+        return f"It is {self.usual} where none is stated." if self.usual else ""
 
     def wanted(self) -> str:
         """What its value is, as a completion says."""

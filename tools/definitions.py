@@ -59,7 +59,7 @@ A contract is as good as its definitions, so they are short and are not the prog
 HOW_NEAR = """\
 ### How the program knows it
 
-The program finds the exact adjustment of the station by a solver that nobody has to trust: directions and orientations in whole numbers over one denominator, of any size, and full turns. Then it adds up the residuals. Where those of each target and of each set are exactly 0 and none is above 2,000 half units, this is the least-squares choice, over all directions, orientations and full turns, and every other that is least is the same but for one rotation and whole turns ([`laws`](../crates/exact_adjustment/src/laws.rt)). So a least choice is there, and W and the printed digits are functions of the station alone ([`laws`](../crates/least_directions/src/laws.rt)).
+The program finds the exact adjustment of the station by a solver that nobody has to trust: directions and orientations in whole numbers over one denominator, of any size, and full turns. Then it adds up the residuals. Where those of each target and of each set are exactly 0 and none is above the limit of residuals, which is at most 2,000 half units, this is the least-squares choice, over all directions, orientations and full turns, and every other that is least is the same but for one rotation and whole turns ([`laws`](../crates/exact_adjustment/src/laws.rt)). So a least choice is there, and W and the printed digits are functions of the station alone ([`laws`](../crates/least_directions/src/laws.rt)).
 """
 
 EVERY_READER = """\

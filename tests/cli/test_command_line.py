@@ -73,6 +73,10 @@ def printed(command, path):
 # The commands that have limits of 2c and 2i. The report tells them in its head.
 LIMITED = ["check", "compare", "differences", "means", "directions", "residuals", "report", "list"]
 
+# The commands that have a limit of residuals, and those that read a field file and have none.
+HELD = ["check", "compare", "differences", "directions", "report"]
+NOT_HELD = ["means", "residuals", "list", "words", "mark"]
+
 NO_MEMORY = (1, b"", b"refused: out of memory\n")
 
 # The status that the loader of shared libraries ends with.
@@ -94,6 +98,9 @@ FACE_DIFFERENCES = [
     b"The face difference 2i of a target",
     b"both its zenith angles together, less 400 gon",
 ]
+
+# What the help of each command that has a limit of residuals says of it.
+RESIDUALS_HELP = [b"--residual <LIMIT>", b"0.3mgon", b"half units", b"it is 10mgon", b"'check' then has none"]
 
 NOT_TEXT = (
     b"error: an argument is not UTF-8 text\n\n"
@@ -247,12 +254,10 @@ class CommandLineTest(ProgramTest):
             (["compare", "a", "b", "c", "d"], b"error: unexpected argument 'd' found\n"),
             (["differences", "a", "b", "c", "d"], b"error: unexpected argument 'd' found\n"),
             (["words", "--two-c", "1", "a"], b"error: unexpected argument '--two-c' found\n"),
-            (["list", "--residual", "1", "a"], b"error: unexpected argument '--residual' found\n"),
             *(
                 ([*args, "1", "a", "b"], f"error: unexpected argument '{args[1]}' found\n".encode())
                 for args in [
-                    ["means", "--residual"],
-                    ["compare", "--residual"],
+                    *([command, "--residual"] for command in NOT_HELD),
                     ["compare", "--decimals"],
                     ["differences", "--within"],
                     ["differences", "--sha256"],
@@ -269,10 +274,29 @@ class CommandLineTest(ProgramTest):
             ),
             *(
                 (
-                    ["check", "--residual", text, "a", "b"],
+                    [*of_file(command, "a"), "--residual", text],
                     f"error: invalid value '{text}' for '--residual <LIMIT>': ".encode() + RESIDUAL_LIMITS,
                 )
-                for text in ["2001", "0.3", "10.005mgon", "0.303mgon"]
+                for command in HELD
+                for text in ["2001", "0.3", "10.005mgon", "0.303mgon", "1gon"]
+            ),
+            *(
+                ([*of_file(command, "a"), "--residual", "-1"], b"error: unexpected argument '-1' found\n")
+                for command in HELD
+            ),
+            *(
+                (
+                    [*of_file(command, "a"), "--residual"],
+                    b"error: a value is required for '--residual <LIMIT>' but none was supplied\n",
+                )
+                for command in HELD
+            ),
+            *(
+                (
+                    [*of_file(command, "a"), "--residual", "1", "--residual", "1"],
+                    b"error: the argument '--residual <LIMIT>' cannot be used multiple times\n",
+                )
+                for command in HELD
             ),
             (
                 ["directions", "--decimals", "9", "a", "b"],
@@ -300,7 +324,7 @@ class CommandLineTest(ProgramTest):
         other.symlink_to(PROGRAM)
         for args in [
             *([command, "--two-c=", *COMMANDS[command][1:]] for command in LIMITED),
-            ["check", "--residual=0.3", "a", "b"],
+            *([command, "--residual=0.3", *COMMANDS[command][1:]] for command in HELD),
             ["compare", "--within=0.3", "a", "b", "c"],
             ["report", "--csv", "--sha256", "a", "b"],
             ["report", "--within=1", "a", "b"],
@@ -342,7 +366,7 @@ class CommandLineTest(ProgramTest):
             (["--help"], [b"Exit status:", b"half units of 0.005 mgon", b"/dev/stdin"]),
             (["-h"], [b"Usage: "]),
             (["help"], [b"Usage: "]),
-            (["check", "--help"], [b"--residual <LIMIT>", b"0.3mgon", b"half units", b"[default: none]"]),
+            *(([command, "--help"], RESIDUALS_HELP) for command in HELD),
             (["check", "--help"], [b"With --residual", b"no other full turns give a\nsmaller sum"]),
             (["means", "--help"], [b"<STATION>", b"--two-c <LIMIT>", b"[default: 20mgon]"]),
             (["means", "--help"], [b"if no residual\nlimit is stated"]),

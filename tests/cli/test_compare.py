@@ -28,8 +28,18 @@ def how_far(by, limit):
     return "{}.{:03} mgon, limit {}.{:03} mgon".format(*divmod(by, 1000), *divmod(limit, 1000))
 
 
-def agrees(within, limit, targets=2, station="S1"):
-    return f"agrees {station}: {targets} targets, within {how_far(within, limit)}\n".encode()
+# The greatest residuals of the examples, in units of 0.001 mgon, and their numbers of sets.
+GREATEST = {"S1": 5, "P7": 320}
+SETS = {"S1": 2, "P7": 4}
+
+
+def agrees(within, limit, targets=2, station="S1", greatest=None, sets=None):
+    """The line of a table that agrees: of the examples where neither greatest residual nor number of
+    sets is stated."""
+    residual = "{}.{:03}".format(*divmod(GREATEST[station] if greatest is None else greatest, 1000))
+    found = f"{how_far(within, limit)}, greatest residual {residual} mgon"
+    counted = f"{SETS[station] if sets is None else sets} sets, {targets} targets"
+    return f"agrees {station}: {counted}, within {found}\n".encode()
 
 
 def apart(by, limit):
@@ -181,15 +191,20 @@ def s1_of(b):
     return field_file({1: [both_faces("A", 0), both_faces("B", b)]})
 
 
+def of_one_set(within, limit):
+    """The line of a table of it that agrees: nothing is left of its directions."""
+    return agrees(within, limit, greatest=0, sets=1)
+
+
 # A station, a table of it with four decimals or fewer, and the line: an instrument's own results may
 # be half a step and 5 units off, and the program's own tables are taken back.
 ROOM = [
-    ("55 of four decimals once were apart", 5_000_001, b"A,0.0000\nB,49.9999\n", agrees(55, 55)),
+    ("55 of four decimals once were apart", 5_000_001, b"A,0.0000\nB,49.9999\n", of_one_set(55, 55)),
     ("60 are", 5_000_002, b"A,0.0000\nB,49.9999\n", apart(60, 55)),
-    ("505 of three decimals once were apart", 5_000_001, b"A,0.000\nB,49.999\n", agrees(505, 505)),
+    ("505 of three decimals once were apart", 5_000_001, b"A,0.000\nB,49.999\n", of_one_set(505, 505)),
     ("510 are", 5_000_002, b"A,0.000\nB,49.999\n", apart(510, 505)),
-    ("its own table once was 1500 apart", 20_000_300, b"A,0.0\nB,200.0\n", agrees(1_500, 50_005)),
-    ("its own table of zeros alone", 300, b"A,0.0\nB,0.0\n", agrees(1_500, 50_005)),
+    ("its own table once was 1500 apart", 20_000_300, b"A,0.0\nB,200.0\n", of_one_set(1_500, 50_005)),
+    ("its own table of zeros alone", 300, b"A,0.0\nB,0.0\n", of_one_set(1_500, 50_005)),
 ]
 
 # Tables of P7 as programs really printed them (numpy 1.24, Octave 7.3, LibreOffice 7.4, mawk 1.3), of
@@ -344,8 +359,12 @@ FILES = [
     ("two parts and a fault", TWO_PARTS, "S1", b"A,0\n", refused("table: Missing 2")),
     ("half a circle", three_sets(20_000_000), "S1", TABLE, refused("adjust: Residual 5")),
     ("above 2,000 half units", three_sets(3_001), "S1", TABLE, refused("adjust: Residual 5")),
-    ("the largest residuals", three_sets(3_000), "S1", of_b(b"0.010001"), agrees(1, 10)),
+    ("the largest residuals", three_sets(3_000), "S1", of_b(b"0.010001"), agrees(1, 10, greatest=10_000, sets=3)),
 ]
+
+# How far a target is turned in each of three sets: in the last by so much that just the largest
+# residual is left.
+LAST_OFF = [(1, 0), (2, 0), (3, 3_000)]
 
 # What may not follow `--within`, and what is said of it.
 MISTAKES = ["1000001", "4294967297", "2.5", "0.0005mgon", "1000.001mgon"]
@@ -431,13 +450,35 @@ class CompareTest(ProgramTest):
                 again = answer_of(["compare", field, name, table])
                 self.assertEqual((0, 0), (status, again[0]), (place, decimals, printed))
 
+    def test_the_longest_line(self):
+        """Of a name of 16 bytes, 100 targets, the largest limit and the largest residual: three sets
+        of two targets, and one of the first and the others, of which nothing is left."""
+        names = [f"T{place:02}" for place in range(100)]
+        sets = {number: [both_faces(names[0], 0), both_faces(names[1], hz)] for number, hz in LAST_OFF}
+        others = enumerate([names[0], *names[2:]])
+        sets[4] = [both_faces(name, 100_000 * place) for place, name in others]
+        name = "ABCDEFGHIJKLMNOP"
+        file = edited(widened(field_file(sets)), (b"00000000000000S1", name.encode()))
+        gon = [0, 0.01, *range(1, 99)]
+        table = "".join(f"{target},{one}\n" for target, one in zip(names, gon))
+        off = table.replace("T50,49\n", "T50,51\n").encode()
+        line = agrees(1_000_000, 1_000_000, 100, name, greatest=10_000, sets=4)
+        self.assertEqual(119, len(line))
+        self.check([judged("the longest", file, off, line, "--within=1000000", station=name)])
+        path = self.folder / "table.csv"
+        path.write_bytes(off)
+        args = ["report", f"--table={path}", "--within=1000mgon", self.folder / "field.gsi", name]
+        status, printed, said = answer_of(args)
+        self.assertEqual((0, b""), (status, said))
+        self.assertIn(b"\nComparison            " + line, printed)
+
     def test_the_largest_station(self):
         """Its directions in reverse, each but the last off by 40 units upward."""
         _, sets, *_ = largest()
         rows = [b"%d,%d.%02d%04d\n" % (t, *divmod(t - 1, 100), 40) for t in range(1, 100)]
         table = b"".join([b"100,0.99\n", *reversed(rows)])
         file, options = field_file(sets), ["--within", "20"]
-        self.check([judged("the largest", file, table, agrees(20, 20, 100), *options)])
+        self.check([judged("the largest", file, table, agrees(20, 20, 100, greatest=0, sets=len(sets)), *options)])
 
 
 class ComparedTest(AgainstModel):

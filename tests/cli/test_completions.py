@@ -28,9 +28,9 @@ FACE_LIMITS = ["--two-c", "--two-i"]
 
 # The options with a value that a command has for itself.
 OWN_OPTIONS = {
-    "compare": ["--within"],
-    "directions": ["--decimals"],
-    "report": ["--table", "--degrees", "--within"],
+    "compare": ["--residual", "--within"],
+    "directions": ["--residual", "--decimals"],
+    "report": ["--residual", "--table", "--degrees", "--within"],
     "check": ["--residual"],
 }
 
@@ -98,10 +98,12 @@ class CompletionsTest(ProgramTest):
             self.assertEqual([""], self.of_bash(command, own[-1], ""))
         self.assertEqual(FACE_LIMITS, self.of_bash("check", "field.gsi", "--two"))
         self.assertEqual([*FACE_LIMITS, "--csv", "--help"], self.of_bash("list", "-"))
-        self.assertEqual(["--degrees", *FACE_LIMITS, "--help"], self.of_bash("differences", "-"))
+        of_differences = ["--degrees", *FACE_LIMITS, "--residual", "--help"]
+        self.assertEqual(of_differences, self.of_bash("differences", "-"))
         for command in ["residuals", "means"]:
             self.assertEqual([*FACE_LIMITS, "--help"], self.of_bash(command, "-"))
-        self.assertEqual(["--station", "--help"], self.of_bash("mark", "-"))
+        options = ["--station", "--sets", "--targets", "--others", "--help"]
+        self.assertEqual(options, self.of_bash("mark", "-"))
         for command in ["words", "explain", "help"]:
             self.assertEqual(["--help"], self.of_bash(command, "-"))
         for words in [["--two-c", ""], ["--two-i", "="], ["--residual", "=", "1"]]:
@@ -149,9 +151,18 @@ class CompletionsTest(ProgramTest):
             ("station_check ch", ["check"]),
             ("station_check ", sorted(COMMANDS)),
             ("station_check check --", ["--help", "--residual", "--sha256", *FACE_LIMITS]),
-            ("station_check compare --", ["--degrees", "--help", "--sha256", *FACE_LIMITS, "--within"]),
-            ("station_check directions --", ["--decimals", "--help", *FACE_LIMITS]),
-            ("station_check report --", ["--csv", "--degrees", "--help", "--sha256", "--table", *FACE_LIMITS, "--within"]),
+            (
+                "station_check compare --",
+                ["--degrees", "--help", "--residual", "--sha256", *FACE_LIMITS, "--within"],
+            ),
+            ("station_check directions --", ["--decimals", "--help", "--residual", *FACE_LIMITS]),
+            (
+                "station_check report --",
+                [
+                    *["--csv", "--degrees", "--help", "--residual", "--sha256", "--table"],
+                    *[*FACE_LIMITS, "--within"],
+                ],
+            ),
             ("station_check report --table s", ["sheet.csv"]),
             ("station_check list --two", FACE_LIMITS),
             ("station_check list f", ["field.gsi"]),

@@ -25,22 +25,45 @@ ENDLESS = "while True: pass\n"
 WITH_CHILD = "import os, time\nif os.fork() == 0: time.sleep(1000)\n"
 NOTHING = ""
 
+# One that finds a mistake in each command line, and has words of its own for it.
+STRICT = "import sys\nsys.exit(print('not so', file=sys.stderr) or 2)\n"
+
+
+class Mistake(Exception):
+    """The words of a command line are none that a program takes."""
+
+
+class Parser(ArgumentParser):
+    def error(self, message):
+        raise Mistake(message)
+
+
+def limit(text, unit, largest):
+    """The limit that a text states."""
+    stated = model.limit(text, unit, largest)
+    if stated is None:
+        raise Mistake(text)
+    return stated
+
 
 def command_line():
-    parser = ArgumentParser()
-    of_faces = partial(model.limit, unit=model.FACE_UNIT, largest=model.LARGEST_LIMIT)
+    parser = Parser(allow_abbrev=False)
+    of_faces = partial(limit, unit=model.FACE_UNIT, largest=model.LARGEST_LIMIT)
     parser.add_argument("--two-c", type=of_faces, default=model.USUAL_LIMIT)
     parser.add_argument("--two-i", type=of_faces, default=model.USUAL_LIMIT)
-    of_residuals = partial(model.limit, unit=model.RESIDUAL_UNIT, largest=model.LARGEST_RESIDUAL)
+    of_residuals = partial(limit, unit=model.RESIDUAL_UNIT, largest=model.LARGEST_RESIDUAL)
     parser.add_argument("--residual", type=of_residuals)
     parser.add_argument("--decimals", type=int, default=model.USUAL_DECIMALS)
-    of_tables = partial(model.limit, unit=model.TABLE_UNIT, largest=model.LARGEST_WITHIN)
+    of_tables = partial(limit, unit=model.TABLE_UNIT, largest=model.LARGEST_WITHIN)
     parser.add_argument("--within", type=of_tables)
     parser.add_argument("--station", type=str.encode)
     parser.add_argument("--csv", action="store_true")
     parser.add_argument("--degrees", action="store_true")
     parser.add_argument("--table")
     parser.add_argument("--sha256", action="store_true")
+    parser.add_argument("--sets", type=int)
+    parser.add_argument("--targets", type=int)
+    parser.add_argument("--others", action="store_true")
     parser.add_argument("command", nargs="?")
     parser.add_argument("operands", nargs="*")
     return parser
@@ -49,11 +72,20 @@ def command_line():
 # Of each command, which of its operands are files.
 FILES = {"check": [0, 1], "compare": [0, 2], "differences": [0, 2]}
 
+# The commands that take a limit of residuals.
+HELD = ["check", "compare", "differences", "directions", "report"]
+
 
 def model_answer(case):
-    """What the model answers; a folder is a file whose first read fails."""
-    asked = command_line().parse_intermixed_args(case.args)
-    limits = model.Limits(asked.two_c, asked.two_i)
+    """What the model answers; a folder is a file whose first read fails. It has no words for a
+    mistake on the command line."""
+    try:
+        asked = command_line().parse_intermixed_args(case.args)
+    except Mistake:
+        return (2, b"", b"")
+    if asked.residual is not None and asked.command not in HELD:
+        return (2, b"", b"")
+    limits, held = model.Limits(asked.two_c, asked.two_i), {"residual": asked.residual}
     paths = [
         case.folder / name
         for place, name in enumerate(asked.operands)
@@ -74,28 +106,29 @@ def model_answer(case):
     if asked.command == "list":
         return model.listed(files[0], limits, fails[0])
     if asked.command == "check":
-        return model.check(*files, limits, asked.residual, fails)
+        return model.check(*files, limits, fails=fails, **held)
     if asked.command == "mark":
-        return model.marked(files[0], asked.station, fails[0])
+        stated = model.StatedSets(asked.sets, asked.targets, asked.others)
+        return model.marked(files[0], asked.station, fails[0], stated)
     station = asked.operands[1].encode()
     if asked.command == "means":
         return model.means(files[0], station, limits, fails[0])
     if asked.command == "directions":
-        return model.directions(files[0], station, limits, asked.decimals, fails[0])
+        return model.directions(files[0], station, limits, asked.decimals, fails[0], **held)
     if asked.command == "residuals":
         return model.residuals(files[0], station, limits, fails[0])
     if asked.command == "differences":
-        return model.differences(files[0], station, files[1], limits, asked.degrees, fails)
+        return model.differences(files[0], station, files[1], limits, asked.degrees, fails, **held)
     if asked.command == "report" and asked.csv:
-        return model.reported_rows(files[0], station, limits, fails[0])
+        return model.reported_rows(files[0], station, limits, fails[0], **held)
     if asked.command == "report":
         names = [name.encode() for name in [asked.operands[0], asked.table] if name]
         units = asked.within, asked.degrees
         stated = model.ReportTable(names[1], files[1], *units, fails[1]) if asked.table else None
-        report = model.reported(files[0], names[0], station, limits, fails[0], stated)
+        report = model.reported(files[0], names[0], station, limits, fails[0], stated, **held)
         return model.with_digests(report, *zip(names, files)) if asked.sha256 else report
     units = asked.within, asked.degrees
-    return model.compared(files[0], station, files[1], limits, *units, fails)
+    return model.compared(files[0], station, files[1], limits, *units, fails, **held)
 
 
 class ConformanceTest(unittest.TestCase):
@@ -104,7 +137,8 @@ class ConformanceTest(unittest.TestCase):
     def test_the_program_answers_as_each_case_says(self):
         for case in run.cases():
             with self.subTest(case.name):
-                self.assertEqual(case.expected, run.answer([PROGRAM], case))
+                found = run.answer([PROGRAM], case)
+                self.assertTrue(case.takes(found), (case.expected, found))
 
     def test_the_model_answers_as_each_case_says(self):
         """But for the largest station: the model looks back over all blocks, which takes long."""
@@ -129,7 +163,7 @@ class ConformanceTest(unittest.TestCase):
     def test_what_is_named_a_fault_is_refused(self):
         for case in run.cases():
             with self.subTest(case.name):
-                refused = case.expected[2].startswith(b"refused: ")
+                refused = any(line.startswith(b"refused: ") for line in case.expected[2].splitlines())
                 self.assertEqual(case.name.startswith("fault_"), refused)
 
 
@@ -169,6 +203,14 @@ class RunnerTest(ProgramTest):
         self.assertTrue(printed.startswith("check_of_the_example\n  expected (0, b'accepted S1: "))
         self.assertIn("\n  found    (0, b'', b'')\n", printed)
         self.assertTrue(printed.endswith("\n1 passed, 2 failed\n"), printed)
+
+    def test_a_mistake_is_said_in_any_words_but_a_path_in_its_own(self):
+        (self.folder / "other.py").write_text(STRICT)
+        cases = ["residual_limit_of_means", "cannot_open"]
+        status, printed, _ = self.run_cases(f"{sys.executable} other.py", *cases)
+        self.assertEqual(1, status)
+        self.assertTrue(printed.startswith("cannot_open\n  expected (2, b'', b'cannot open "), printed)
+        self.assertTrue(printed.endswith("\n1 passed, 1 failed\n"), printed)
 
     def test_a_program_or_a_case_that_is_not_there_is_a_mistake(self):
         for args, said in [

@@ -13,8 +13,8 @@ import definitions
 # The names that a file takes of another crate's definitions, or of its own crate's.
 CITED = re.compile(r"use Rattle\.(\w+)\.specs\.(\w+)\.\{([^}]*)\}")
 
-# One thing in several crates: the line of a refusal, of each crate's own faults.
-ALIKE = {"refusal_line"}
+# One thing in several crates: the line and the text of a refusal, of each crate's own faults.
+ALIKE = {"refusal_line", "refusal_text"}
 
 
 def promised():

@@ -69,7 +69,10 @@ FAULTS = [
     ("more than 2,000 half units in the last set", three_sets(3_001), "S1", "adjust: Residual 5"),
 ]
 
-AGREES_WITHIN_1 = rb"^agrees S1: \d+ targets, within 0\.00[01] mgon, limit \d+\.\d{3} mgon\n$"
+AGREES_WITHIN_1 = (
+    rb"^agrees S1: \d+ sets, \d+ targets, within 0\.00[01] mgon, limit \d+\.\d{3} mgon, "
+    rb"greatest residual \d+\.\d{3} mgon\n$"
+)
 
 # What may follow `--decimals`, and what is said of it.
 MISTAKES = [

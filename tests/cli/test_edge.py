@@ -39,6 +39,9 @@ SAMPLE = 100
 # In how many orders and forms, which are drawn, each choice of options and values is run.
 ORDERS = 30 if SWEEP else 1
 
+# How many options stand on a command line in each order and form at most: four have some 30,000.
+TOGETHER = 3
+
 # The station's table with one of its two directions 30 units off: one rotation leaves each 15 off.
 TABLE_OFF = edited(TABLE, (b"50.000030", b"50.000060"))
 
@@ -46,7 +49,7 @@ TABLE_OFF = edited(TABLE, (b"50.000030", b"50.000060"))
 # the two tables is 2 gon off or more.
 DEGREES_OFF = edited(TABLE_OFF, (b"50.000060", b"45.000054"))
 
-WITHIN_15 = b"agrees S1: 2 targets, within 0.015 mgon, limit 0.015 mgon\n"
+WITHIN_15 = edited(AGREES, (b"within 0.000 mgon, limit 0.010", b"within 0.015 mgon, limit 0.015"))
 
 DIFFERENCES_15 = b"""\
 target,stated,least squares,difference,from the median
@@ -78,6 +81,9 @@ LIMITS = [
 
 RESIDUAL = Option("--residual", "1", "0", refusal("kernel: Residual 1"), ("0.0050mgon", "0.mgon"))
 
+# The same of the least-squares directions.
+ADJUSTED = RESIDUAL._replace(answer=refusal("adjust: Residual 1"))
+
 APART_15 = refusal("compare: Apart 0.015 mgon, limit 0.014 mgon")
 
 WITHIN = Option("--within", "15", "14", APART_15, ("0.015mgon", "00.014mgon"))
@@ -86,7 +92,8 @@ DECIMALS = Option("--decimals", "6", "4", (0, b"A,0.0000\nB,50.0000\n", b""))
 
 # The same limits where the answer shows them: what changes nothing is what is usual.
 SHOWN_LIMITS = [
-    limit._replace(kept="2000", in_mgon=("20mgon", limit.in_mgon[1])) for limit in LIMITS
+    *[limit._replace(kept="2000", in_mgon=("20mgon", limit.in_mgon[1])) for limit in LIMITS],
+    ADJUSTED._replace(kept="2000", in_mgon=("10mgon", "0.mgon")),
 ]
 
 # The flag that adds the digest of each file, and the commands that have it.
@@ -103,9 +110,9 @@ FLAGS = {
 # The words of each command, its options, and what it answers where none changes anything.
 COMMANDS = {
     "check": ([str(EXAMPLE), str(EXAMPLE_SHEET)], [*LIMITS, RESIDUAL], ACCEPTED),
-    "compare": ([str(EXAMPLE), "S1", "{table}"], [*LIMITS, WITHIN], WITHIN_15),
-    "differences": ([str(EXAMPLE), "S1", "{table}"], LIMITS, DIFFERENCES_15),
-    "directions": ([str(EXAMPLE), "S1"], [*LIMITS, DECIMALS], TABLE),
+    "compare": ([str(EXAMPLE), "S1", "{table}"], [*LIMITS, ADJUSTED, WITHIN], WITHIN_15),
+    "differences": ([str(EXAMPLE), "S1", "{table}"], [*LIMITS, ADJUSTED], DIFFERENCES_15),
+    "directions": ([str(EXAMPLE), "S1"], [*LIMITS, ADJUSTED, DECIMALS], TABLE),
     "residuals": ([str(EXAMPLE), "S1"], LIMITS, RESIDUALS),
     "report": ([str(EXAMPLE), "S1"], SHOWN_LIMITS, REPORT % bytes(EXAMPLE)),
     "means": ([str(EXAMPLE), "S1"], LIMITS, SHEET),
@@ -114,6 +121,16 @@ COMMANDS = {
 
 # The options of a report beside its limits.
 OF_REPORT = {"--table": ["{table}"], "--within": ["15", "0.014mgon"]}
+
+# All options of each command.
+OPTIONS_OF = {
+    command: {
+        *[option.name for option in options],
+        *[flag for flag, commands in FLAGS.items() if command in commands],
+        *(OF_REPORT if command == "report" else {}),
+    }
+    for command, (_, options, _) in COMMANDS.items()
+}
 
 # What a number may be written as.
 SPELLINGS = [str, "+{}".format, "000{}".format]
@@ -209,9 +226,11 @@ def an_order(draw, words, options):
 
 
 def runs_of(words, options, stdout):
-    """Each command line of a command, and what it answers."""
+    """Each command line of a command with a few of its options, and what it answers."""
     for given in itertools.product(["absent", "kept", "changed"], repeat=len(options)):
         stated = [(o, value) for o, value in zip(options, given) if value != "absent"]
+        if len(stated) > TOGETHER:
+            continue
         changed = [o.answer for o, value in stated if value == "changed"]
         expected = changed[0] if changed else (0, stdout, b"")
         for line in orders(words, [(o.name, getattr(o, value)) for o, value in stated]):
@@ -267,10 +286,12 @@ def answer_by_model(command, given, table):
 
 
 def changes_one(line, options):
-    """Whether all these options stand in a line, each as two words, and one has its other value."""
-    if not all(option.name in line for option in options):
+    """Whether as many options as may stand in a line, each as two words, and one has its other
+    value."""
+    stated = [option for option in options if option.name in line]
+    if len(stated) < min(len(options), TOGETHER):
         return False
-    return 1 == sum(line[line.index(option.name) + 1] == option.changed for option in options)
+    return 1 == sum(line[line.index(option.name) + 1] == option.changed for option in stated)
 
 
 class EdgeTest(ProgramTest):
@@ -427,7 +448,7 @@ class EdgeTest(ProgramTest):
         job = self.folder / "job.gsi"
         job.write_bytes(JOB)
         self.assert_answers([(["mark", str(job)], refusal("block 1: mark: NoSetUp"))])
-        for name, told in [("S1", b"S1"), ("XY", b"XY"), ("-7", b"-7"), ("00A", b"A")]:
+        for name, told in [("S1", b"S1"), ("XY", b"XY"), ("-7", b"-7"), ("00C", b"C")]:
             copy = edited(MARKED, (b"000000S1", told.rjust(8, b"0")))
             expected = 0, copy, edited(NOTES, (b" S1:", b" " + told + b":"))
             lines = orders([str(job)], [("--station", name)])
@@ -440,12 +461,15 @@ class EdgeTest(ProgramTest):
         table.write_bytes(TABLE_OFF)
         for command, (words, options, stdout) in COMMANDS.items():
             words = [word.format(table=table) for word in words]
-            stated = [option for option in options if option.in_mgon]
-            for changed in [None, *stated]:
-                expected = changed.answer if changed else (0, stdout, b"")
-                given = [(o.name, o.in_mgon[o is changed]) for o in stated]
-                runs = [([command, *line], expected) for line in orders(words, given)]
-                self.assert_answers(runs if SWEEP else runs[::7])
+            limits = [option for option in options if option.in_mgon]
+            for stated in itertools.combinations(limits, min(len(limits), TOGETHER)):
+                if WITHIN in options and WITHIN not in stated:  # where it is left out, 10 is too near
+                    continue
+                for changed in [None, *stated]:
+                    expected = changed.answer if changed else (0, stdout, b"")
+                    given = [(o.name, o.in_mgon[o is changed]) for o in stated]
+                    runs = [([command, *line], expected) for line in orders(words, given)]
+                    self.assert_answers(runs if SWEEP else runs[::7])
 
     def test_a_limit_is_a_whole_number_of_its_unit_up_to_the_largest(self):
         table = self.folder / "table.csv"
@@ -490,11 +514,19 @@ class EdgeTest(ProgramTest):
         for line, named in [
             (["--two-i=x", "--two-c=y"], b"'y' for '--two-c "),
             (["--residual=x", "--two-i=y"], b"'y' for '--two-i "),
+            (["--within=x", "--residual=y"], b"'y' for '--residual "),
+            (["--csv", "--within=x", "--residual=y"], b"'y' for '--residual "),
             (["--residual=x"], b"'x' for '--residual "),
         ]:
-            status, out, err = answer_of(["check", *line, str(EXAMPLE), str(EXAMPLE_SHEET)])
-            self.assertEqual((2, b""), (status, out))
-            self.assertIn(named, err)
+            for command, (words, _, _) in COMMANDS.items():
+                options = {word.partition("=")[0] for word in line}
+                if not options <= OPTIONS_OF[command]:
+                    continue
+                words = [word.format(table=EXAMPLE_SHEET) for word in words]
+                with self.subTest(line=line, command=command):
+                    status, out, err = answer_of([command, *line, *words])
+                    self.assertEqual((2, b""), (status, out))
+                    self.assertIn(named, err)
 
     def test_each_number_of_words_is_read_to_its_last(self):
         explained = answer_of(["explain", "TwoC"])

@@ -83,7 +83,10 @@ class StreamsTest(EndsTest):
         of_two = [["check", self.field, folder]]
         of_two += [[command, self.field, "S1", folder] for command in ["compare", "differences"]]
         named = [[command, self.field, "S2"] for command in ["directions", "residuals", "report"]]
-        for args in [*read, *of_two, *named]:
+        above = [[command, "--residual=0", self.field, "S1"] for command in ["directions", "report"]]
+        for command in ["compare", "differences"]:
+            above.append([command, "--residual=0", self.field, "S1", self.table])
+        for args in [*read, *of_two, *named, *above]:
             for err in ["2> /dev/full", "2>&-"]:
                 with self.subTest(args[0], err=err):
                     self.assertEqual((1, b"", b""), answer_in_shell(f'"$@" {err}', *args))

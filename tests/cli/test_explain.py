@@ -5,7 +5,7 @@ import sys
 
 import model
 import preload
-from kinds import NEVER_MET, OF_BYTES, OF_COUNTS, OF_READS, REFUSALS
+from kinds import NEVER_MET, OF_BYTES, OF_COUNTS, OF_READS, REFUSALS, refusal_in
 from program import EXAMPLE, PROGRAM, ROOT, ProgramTest, answer_in_shell, answer_of
 
 sys.path.insert(0, str(ROOT / "conformance"))
@@ -73,7 +73,7 @@ class ExplainTest(ProgramTest):
         for case in run.cases():
             if case.expected[0] != 1:
                 continue
-            line = case.expected[2].decode().rstrip("\n")
+            line = refusal_in(case.expected[2])
             with self.subTest(line):
                 text = explained(line)
                 self.assertEqual(text, explained(*line.split()))
@@ -87,7 +87,7 @@ class ExplainTest(ProgramTest):
         return re.sub(r" (\d+|[0-9n.]+ mgon, limit [0-9n.]+ mgon)$", "", reason)
 
     def test_each_kind_of_refusal_is_explained(self):
-        others = ["cannot open", "write failed", "out of memory"]
+        others = ["cannot open", "already there", "write failed", "out of memory"]
         kinds = [*REFUSALS, *OF_COUNTS, *OF_BYTES, *OF_READS, *NEVER_MET, *others]
         found = {self.name_in(kind.replace(" n", " 1")) for kind in kinds}
         self.assertEqual(found, set(names()))
@@ -108,7 +108,7 @@ class ExplainTest(ProgramTest):
         return {faults.explanation_of(PROGRAM, name).example for name in names()}
 
     def test_each_example_comes(self):
-        met = {case.expected[2].decode().rstrip("\n") for case in run.cases()}
+        met = {refusal_in(case.expected[2]) for case in run.cases() if case.expected[2]}
         never = {f"refused: {kind}" for kind in NEVER_MET}
         for example in sorted(self.examples() - met - never):
             with self.subTest(example):
@@ -124,6 +124,9 @@ class ExplainTest(ProgramTest):
             return answer_of(["check", EXAMPLE, long_sheet])[2]
         if example.startswith("cannot open"):
             return answer_of(["list", "field.gsi"], cwd=self.folder)[2]
+        if example.startswith("already there"):
+            (self.folder / "marked.gsi").touch()
+            return answer_of(["mark", EXAMPLE, "marked.gsi"], cwd=self.folder)[2]
         if example.endswith("write failed"):
             return answer_in_shell('"$@" > /dev/full', "--help")[2]
         env = {"LD_PRELOAD": str(preload.built("refuse_allocation")), "REFUSE_CALL": "1"}
@@ -176,7 +179,7 @@ class ExplainTest(ProgramTest):
             (["TwoC", ":"], ["TwoC"]),
             (["Residuals"], ["Residual"]),
             (["FaceTwise"], ["FaceUnclear", "FaceTwice", "FaceMissing"]),
-            (["targetsom"], ["TargetRow", "TargetSum"]),
+            (["targetsom"], ["TargetCount", "TargetRow", "TargetSum"]),
             (["kernel: Residal 17"], ["Residual"]),
         ]:
             with self.subTest(words):

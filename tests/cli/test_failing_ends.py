@@ -37,6 +37,12 @@ COMMANDS = {
 # The command whose field file has no codes.
 MARK = {"mark": ["mark", "--station=S1", "{job}"]}
 
+# Those that refuse the example for its residuals.
+HELD = {
+    f"{command} --residual": [words[0], "--residual=0", *words[1:]]
+    for command, words in COMMANDS.items()
+    if command in ["directions", "report", "report --csv", "report --table", "compare", "differences"]
+}
 
 
 def report_with_table(field=FIELD, table=TABLE, fails=(False, False)):
@@ -118,7 +124,7 @@ class FailingEndsTest(ProgramTest):
 
     def answer(self, command, **limits):
         files = {"field": self.field, "sheet": self.sheet, "table": self.table, "job": self.job}
-        args = [word.format(**files) for word in {**COMMANDS, **MARK}[command]]
+        args = [word.format(**files) for word in {**COMMANDS, **MARK, **HELD}[command]]
         env = {name: str(value) for name, value in limits.items()}
         with open(self.field, "rb") as field:
             env["LD_PRELOAD"] = str(self.library)
@@ -176,6 +182,17 @@ class FailingEndsTest(ProgramTest):
             for command in ["compare", "differences", "report --table"]
             for room in range(len(TABLE) + 1)
         )
+
+    def test_a_table_that_fails_is_named_before_a_residual(self):
+        self.check_all(
+            (command, {"READ_PATH": self.table, "READ_ROOM": room}, (1, b"", b"refused: table: Read\n"))
+            for command in ["compare --residual", "differences --residual", "report --table --residual"]
+            for room in range(len(TABLE) + 1)
+        )
+
+    def test_a_residual_that_is_refused_meets_no_output(self):
+        refused = (1, b"", b"refused: adjust: Residual 1\n")
+        self.check_all((command, {"WRITE_ROOM": 0}, refused) for command in HELD)
 
     def test_a_table_that_fails_is_looked_at_after_its_station_was_found(self):
         for field, expected in [

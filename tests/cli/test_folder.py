@@ -55,7 +55,8 @@ WRONG = edited(SHEET, (b"set,1,,-20,", b"set,1,,-21,"))
 TABLE = b"A,0.000000\nB,50.000030\n"
 ROUNDED = b"A,0.0000\nB,50.0000\n"
 OFF = b"A,0\nB,50.00005\n"
-AGREES = "agrees S1: 2 targets, within 0.{:03} mgon, limit 0.{:03} mgon"
+# (its residuals are 1 half unit in size)
+AGREES = "agrees S1: 2 sets, 2 targets, within 0.{:03} mgon, limit 0.{:03} mgon, greatest residual 0.005 mgon"
 APART = "refused: compare: Apart 0.{:03} mgon, limit 0.{:03} mgon"
 
 # The same directions in degrees, in each form; the last two are right to a tenth of a second.
@@ -226,13 +227,23 @@ class FolderTest(ProgramTest):
         status, lines = self.answers(files, "--two-c=9")
         self.assertEqual(["refused: block 5: TwoC"] * 3, [line.split(": ", 1)[1] for line in lines[:3]])
 
+    def test_the_limit_of_residuals_holds_tables_too(self):
+        files = {"job.gsi": STATION, "job.directions.csv": TABLE}
+        for residual in ("1", "0.005mgon"):
+            status, lines = self.answers(files, f"--residual={residual}")
+            self.assertEqual((0, f"job.directions: {AGREES.format(0, 10)}"), (status, lines[0]))
+        above = ["job.directions: refused: adjust: Residual 1", f"job: {MISSING.format('S1')}"]
+        above.append(SUMMARY.format(0, 1, 0, 0, 0) + TABLES.format(0, 1, 0))
+        self.assertEqual((1, above), self.answers(files, "--residual=0"))
+
     def test_sheets_and_tables_of_more_stations_go_together(self):
         files = {"three.gsi": THREE, "three.S1.csv": SHEETS[1], "three.S2.directions.csv": TABLE}
         files["three.S3.csv"] = TABLE
         status, lines = self.answers(files)
         summary = SUMMARY.format(1, 1, 1, 0, 0) + TABLES.format(2, 0, 0)
         self.assertEqual((0, summary), (status, lines[-1]))
-        self.assertIn("three.S2.directions: agrees S2: 2 targets, within 0.000 mgon, limit 0.010 mgon", lines)
+        agrees = AGREES.format(0, 10).replace("S1", "S2")
+        self.assertIn(f"three.S2.directions: {agrees}", lines)
 
     def test_a_table_that_belongs_to_nothing_is_no_mistake(self):
         files = {"job.gsi": STATION, "job.csv": SHEET, "three.gsi": THREE}

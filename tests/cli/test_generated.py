@@ -55,6 +55,9 @@ THOUSAND = stations_with(1 for _ in range(1_000))
 SHEET_OF_LAST = model.means(lines(station("S999", 1, 1)), b"S999")[1]
 
 
+# What is stated of their sets, which are read by targets.
+TWO, FORTY = model.StatedSets(2), model.StatedSets(40)
+
 # The faults of size, each with the largest input that has none.
 LARGE = [
     Case("100 targets", "list", lines(station("S1", 1, 100))),
@@ -67,12 +70,12 @@ LARGE = [
     Case("1,000 stations, means of the last", "means", THOUSAND, station="S999"),
     Case("1,000 stations, a sheet of the last", "check", THOUSAND, SHEET_OF_LAST),
     Case("1,001 stations", "list", stations_with(1 for _ in range(1_001))),
-    Case("40 sets, no codes", "mark", lines(job("S1", 40, 2)), station=None),
-    Case("41 sets, no codes", "mark", lines(job("S1", 41, 2)), station=None),
-    Case("100 targets, no codes", "mark", lines(job("S1", 2, 100)), station=None),
-    Case("101 targets, no codes", "mark", lines(job("S1", 2, 101)), station=None),
-    Case("1,000 stations, no codes", "mark", jobs(1_000), station=None),
-    Case("1,001 stations, no codes", "mark", jobs(1_001), station=None),
+    Case("40 sets, no codes", "mark", lines(job("S1", 40, 2)), station=None, stated=FORTY),
+    Case("41 sets, no codes", "mark", lines(job("S1", 41, 2)), station=None, stated=FORTY),
+    Case("100 targets, no codes", "mark", lines(job("S1", 2, 100)), station=None, stated=TWO),
+    Case("101 targets, no codes", "mark", lines(job("S1", 2, 101)), station=None, stated=TWO),
+    Case("1,000 stations, no codes", "mark", jobs(1_000), station=None, stated=TWO),
+    Case("1,001 stations, no codes", "mark", jobs(1_001), station=None, stated=TWO),
     Case("a sheet of 100 targets and 40 sets", "check", FIELD, rows(1, 100, 40, 4_000)),
     Case("a sheet of 101 targets", "check", FIELD, rows(1, 101, 1, 1)),
     Case("a sheet of 41 sets", "check", FIELD, rows(1, 1, 41, 1)),

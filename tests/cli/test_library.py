@@ -13,6 +13,7 @@ from concurrent.futures import ThreadPoolExecutor
 from pathlib import Path
 from typing import Any, NamedTuple
 
+from kinds import refusal_in
 from program import PROGRAM, ROOT, Answer, ProgramTest, answer_of, answer_to
 
 sys.path.insert(0, str(ROOT / "conformance"))
@@ -43,8 +44,12 @@ OPERANDS: dict[str, list[type]] = {
 # Commands whose answer is one line, which the module has without its line feed.
 OF_ONE_LINE = {"check", "compare"}
 
-# The options that the module's functions have, each with its kind.
-OPTIONS = {"two-c": int, "two-i": int, "residual": int, "within": int, "decimals": int, "station": str}
+# The options that the module's functions have, each with its kind; a limit of residuals has one alone.
+OPTIONS = {
+    **{"two-c": int, "two-i": int, "residual": int, "within": int, "decimals": int},
+    **{"station": str, "sets": int, "targets": int},
+}
+OF_SHEETS = "check"
 
 # What is out of its range: a number that is one too large, is negative, or would be 0 in 32 bits.
 BEYOND: list[tuple[str, dict[str, Any]]] = [
@@ -60,6 +65,9 @@ BEYOND: list[tuple[str, dict[str, Any]]] = [
     ("mark", {"station": ""}),
     ("mark", {"station": "SEVENTEEN LETTERS"}),
     ("mark", {"station": "P\u00e47"}),
+    ("mark", {"sets": 0}),
+    ("mark", {"sets": 1 << 32}),
+    ("mark", {"targets": -1}),
 ]
 GIVEN: dict[str, list[bytes | str]] = {
     "check": [GSI.read_bytes(), SHEET.read_bytes()],
@@ -112,7 +120,7 @@ int main(int count, char **words) {
         station_check_means(gsi, n, "P7", 2, 2000, 2000, out, sizeof out, &length);
         station_check_list(gsi, n, 2000, 2000, out, sizeof out, &length);
         station_check_words(gsi, n, out, sizeof out, &length, more, sizeof more, &second);
-        station_check_mark(gsi, n, "", 0, out, sizeof out, &length, more, sizeof more, &second);
+        station_check_mark(gsi, n, "", 0, 0, 0, 0, out, sizeof out, &length, more, sizeof more, &second);
         station_check_digest(gsi, n, "gsi", 3, out, sizeof out, &length);
         station_check_explain("TwoC", 4, out, sizeof out, &length);
     }
@@ -185,7 +193,7 @@ def call_of(case: run.Case) -> Call | None:
     while words:
         name, _, value = words.pop(0).partition("=")
         if name.startswith("--"):
-            if name[2:] not in OPTIONS:
+            if name[2:] not in OPTIONS or (name == "--residual" and command != OF_SHEETS):
                 return None
             options[name[2:].replace("-", "_")] = OPTIONS[name[2:]](value or words.pop(0))
         else:
@@ -220,6 +228,8 @@ class LibraryTest(ProgramTest):
             said = getattr(self.module, command)(*operands, **options)
         except self.module.Refused as refused:
             self.assertEqual(refused.line, str(refused))
+            if command == "mark":
+                return 1, b"", f"{refused.text}{refused.line}\n".encode()
             return 1, refused.text.encode(), f"{refused.line}\n".encode()
         if command == "mark":
             return 0, said.copy, said.notes.encode()
@@ -268,7 +278,7 @@ class LibraryTest(ProgramTest):
 
     @unittest.skipUnless(PROGRAM.exists(), "the program is not built")
     def test_each_refusal_is_explained_as_by_the_program(self) -> None:
-        lines = {case.expected[2].decode().rstrip("\n") for case in run.cases() if case.expected[0] == 1}
+        lines = {refusal_in(case.expected[2]) for case in run.cases() if case.expected[0] == 1}
         self.assertGreater(len(lines), 80)
         for line in sorted(lines):
             with self.subTest(line):
@@ -285,7 +295,10 @@ class LibraryTest(ProgramTest):
     def test_a_report_is_that_of_the_program(self) -> None:
         report = self.module.report(GSI.read_bytes(), "P7", "a file")
         self.assertIn("\nField file            a file\n", report)
+        self.assertIn("\nLimit of residuals    10.000 mgon\n", report)
         self.assertTrue(report.endswith(" mgon, of one two-face direction\n"))
+        of_control = self.module.report(GSI.read_bytes(), "P7", "a\x1bfile")
+        self.assertIn("\nField file            \\a\\x1bfile\n", of_control)
         with self.assertRaisesRegex(self.module.Refused, "^refused: no station$"):
             self.module.report(GSI.read_bytes(), "P8", "a file")
 
@@ -345,7 +358,7 @@ class LibraryTest(ProgramTest):
         status, said, stderr = answer_to([program, GSI, SHEET, *map(str, numbers)], cwd=self.folder)
         lines = said.decode().splitlines()
         of_sheet = [ACCEPTED, *["refused: kernel: Residual 1"] * (len(numbers) - 1)]
-        agrees = "agrees P7: 6 targets, within 0.004 mgon, limit 0.010 mgon"
+        agrees = "agrees P7: 4 sets, 6 targets, within 0.004 mgon, limit 0.010 mgon, greatest residual 0.320 mgon"
         apart = "refused: compare: Apart 0.004 mgon, limit 0.000 mgon"
         of_table = [agrees, *[apart] * (len(numbers) - 1)]
         self.assertEqual((0, [*of_sheet, *of_table], b""), (status, lines, stderr))

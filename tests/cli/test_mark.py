@@ -1,12 +1,13 @@
 """`mark`: copies of field files with codes put in."""
 
+import itertools
 import os
 import re
 import resource
 import unittest
 
 import model
-from against_model import AgainstModel
+from against_model import AgainstModel, Case
 from generated import cases_of_jobs
 from pages import page_steps
 from program import ROOT, SWEEP, ProgramTest, answer_in_shell, answer_of
@@ -24,7 +25,7 @@ OF_READINGS = re.compile(rb": Two[CI]$", re.MULTILINE)
 
 # How a line of the list and a note tell of a station with sets.
 LISTED = re.compile(rb"^station (.*): (\d+) sets, (\d+) targets, \d+ directions$", re.MULTILINE)
-TOLD = re.compile(rb"^note: station (.*): (\d+) sets?, (\d+) targets?; .*$", re.MULTILINE)
+TOLD = re.compile(rb"^note: station (.*): (\d+) sets?, (\d+) targets?, from .*$", re.MULTILINE)
 
 # Limits that nothing recorded breaks.
 WIDE_LIMITS = ["--two-c=1000000", "--two-i=1000000"]
@@ -47,18 +48,23 @@ def set_of(targets):
     return b"".join([*there, *(reading(target, 2) for target in reversed(targets))])
 
 
+def refused_station(name, fault, readings):
+    """What is told where a file is refused for its one station, at a block."""
+    told = f"note: station {name}: not recognized, {fault}; {readings} readings stay outside\n"
+    return told.encode() + refused(fault.replace(": ", ": mark: "))
+
+
 # A set-up line of such a length, and the code lines before the set of its station.
 SET_UP = b"110001+0000%04d 88..10+00001543".ljust(LINE - 1) + b"\n"
 CODE_LINES = b"41....+00000010 42....+00000000\n41....+00000020 42....+00000001\n"
 
 
 class MarkTest(AgainstModel):
-    def marked(self, text, station=None):
+    def marked(self, case):
         """The copy, and what is told of it, of a file that is marked."""
         field = self.folder / "field.gsi"
-        field.write_bytes(text)
-        options = [] if station is None else [f"--station={station}"]
-        status, copy, notes = answer_of(["mark", *options, field])
+        field.write_bytes(case.gsi)
+        status, copy, notes = answer_of(case.args(field, field))
         self.assertEqual(0, status, notes[:200])
         return copy, notes
 
@@ -74,7 +80,7 @@ class MarkTest(AgainstModel):
         self.assertTrue(right)
         for case in right:
             with self.subTest(case.name):
-                copy, notes = self.marked(case.gsi, case.station)
+                copy, notes = self.marked(case)
                 listed = answer_of(["list", *WIDE_LIMITS, "/dev/stdin"], copy)
                 if OF_READINGS.search(listed[2]):
                     continue
@@ -89,22 +95,93 @@ class MarkTest(AgainstModel):
         shown = answer_in_shell(f'{taken_out} "$2" | cmp - "$3"', path, self.folder / "field.gsi")
         self.assertEqual((0, b"", b""), shown)
 
+    def test_a_copy_goes_to_a_new_file_and_over_none(self):
+        job, copy = self.folder / "job.gsi", self.folder / "copy.gsi"
+        job.write_bytes(JOB)
+        self.assertEqual((0, b"", NOTES), answer_of(["mark", "--station=S1", job, copy]))
+        self.assertEqual(MARKED, copy.read_bytes())
+        for path in [copy, job, self.folder]:
+            there = (2, b"", b"already there: %s\n" % bytes(path))
+            self.assertEqual(there, answer_of(["mark", job, path]))
+        self.assertEqual((JOB, MARKED), (job.read_bytes(), copy.read_bytes()))
+        missing = self.folder / "missing" / "copy.gsi"
+        self.assertEqual((1, b"", refused("write failed")), answer_of(["mark", "--station=S1", job, missing]))
+
+    def test_a_refusal_leaves_no_new_file(self):
+        job, copy = self.folder / "job.gsi", self.folder / "copy.gsi"
+        job.write_bytes(MARKED)
+        status, printed, said = answer_of(["mark", "--station=S1", job, copy])
+        self.assertEqual((1, b""), (status, printed), said)
+        self.assertFalse(copy.exists())
+        unread = (2, b"", b"cannot open %s\n" % bytes(self.folder / "none"))
+        self.assertEqual(unread, answer_of(["mark", self.folder / "none", copy]))
+        self.assertFalse(copy.exists())
+
     def test_a_name_of_the_command_line_is_the_station(self):
         for name in ["P7", "A B", "8 bytes.", "10"]:
-            copy, notes = self.marked(set_of("AB"), name)
+            copy, notes = self.marked(Case(name, "mark", set_of("AB"), station=name))
             self.assertTrue(notes.startswith(f"note: station {name}: 1 set, ".encode()), notes)
             self.assertIn(f" 42....+{name:0>8}\n".encode(), copy)
 
+    def test_what_is_stated_never_changes_a_copy(self):
+        """Each number of sets and of targets refuses, or the copy is that without them."""
+        job = set_of("ABC") * 2
+        for stated in itertools.product([None, 1, 2, 3, 40], [None, 2, 3, 4, 100]):
+            case = Case(str(stated), "mark", job, stated=model.StatedSets(*stated))
+            with self.subTest(stated=stated):
+                if stated[0] in (None, 2) and stated[1] in (None, 3):
+                    self.assertEqual(self.marked(Case("", "mark", job)), self.marked(case))
+                else:
+                    kind = "TargetCount" if stated[0] in (None, 2) else "SetCount"
+                    refusal = refused_station("S1", f"block 1: {kind}", 12)
+                    self.assertEqual((1, b"", refusal), self.compare([case])[0])
+
+    def test_sets_by_targets_are_never_shifted_in_silence(self):
+        """An orientation in both faces, or two, then sets by targets, of which the last is broken
+        off at each place: what is marked are never other sets than were read to the end."""
+        for count, sets, cut in itertools.product(range(2, 5), range(1, 4), range(8)):
+            targets = "ABCDE"[:count]
+            whole = b"".join(reading(t, face) for t in targets for face in (1, 2))
+            part = whole[: LINE * min(cut, 2 * count - 1)]
+            for before in range(3):
+                seen = b"".join(reading(t, face) for t in targets[count - before :] for face in (1, 2))
+                job = seen + whole * sets + part
+                for number in (None, sets):
+                    stated = model.StatedSets(number, count)
+                    case = Case(f"{targets} {sets} {cut}", "mark", job, stated=stated)
+                    status, copy, _ = self.compare([case])[0]
+                    if status == 0:
+                        self.assertEqual(number, sets)
+                        inside = re.sub(rb"(?s)^.*?(?=41[.]{4}[+]0{6}20)|41[.]{4}[+]0{6}30.*", b"", copy)
+                        self.assertEqual(whole * sets, re.sub(rb"(?m)^41[.]{4}.*\n", b"", inside))
+
     def test_nothing_is_printed_at_a_refusal(self):
         field = self.folder / "field.gsi"
-        for text, reason in [
-            (set_of("AB") * 300, "block 164: mark: TooManySets"),
-            (set_of("AB") * 2 + b"title\n", "block 9: Word 1"),
-            (set_of("ABCD") * 2 + set_of("ABCD")[: 4 * LINE], "block 17: mark: FaceMissing"),
+        for text, refusal in [
+            (set_of("AB") * 300, refused_station("S1", "block 164: TooManySets", 1_200)),
+            (set_of("AB") * 2 + b"title\n", refused("block 9: Word 1")),
+            (
+                set_of("ABCD") * 2 + set_of("ABCD")[: 4 * LINE],
+                refused_station("S1", "block 17: FaceMissing", 20),
+            ),
         ]:
             field.write_bytes(text)
             answer = answer_of(["mark", "--station=S1", field])
-            self.assertEqual((1, b"", refused(reason)), answer)
+            self.assertEqual((1, b"", refusal), answer)
+
+    def test_others_leave_no_trace_in_a_copy(self):
+        """The copy with `--others` is that in which the readings of stations with a fault are
+        detail: as much is put in as of the others alone, but for code 30 where a set is open."""
+        for faulty in range(4):
+            jobs = [SET_UP % nth + set_of("AB") for nth in range(4)]
+            jobs[faulty] = jobs[faulty][:-LINE]
+            case = Case(str(faulty), "mark", b"".join(jobs), station=None)
+            told = self.compare([case])[0]
+            self.assertEqual((1, b""), told[:2])
+            others = case._replace(stated=model.StatedSets(others=True))
+            status, copy, _ = self.compare([others])[0]
+            self.assertEqual(0, status)
+            self.assertEqual(6 + (faulty > 0), len(re.findall(rb"(?m)^41[.]{4}", copy)))
 
 
 class CommandTest(ProgramTest):
@@ -139,11 +216,17 @@ class CommandTest(ProgramTest):
     def test_mistakes(self):
         for args, message in [
             ([], b"error: the following required arguments were not provided:\n  <GSI>\n"),
-            (["a", "b"], b"error: unexpected argument 'b' found\n"),
+            (["a", "b", "c"], b"error: unexpected argument 'c' found\n"),
+            (["a", ""], b"error: a value is required for '[COPY]' but none"),
             (["--two-c", "1", "a"], b"error: unexpected argument '--two-c' found\n"),
             (["a", "--station"], b"error: a value is required for '--station <NAME>' but none"),
             ([""], b"error: a value is required for '<GSI>' but none"),
             (["--station=A", "--station=A", "a"], b"error: the argument '--station <NAME>' cannot"),
+            (["--sets=0", "a"], b"error: invalid value '0' for '--sets <N>': 0 is not in 1..=40\n"),
+            (["--sets=41", "a"], b"error: invalid value '41' for '--sets <N>': 41 is not in 1..=40\n"),
+            (["--targets=101", "a"], b"error: invalid value '101' for '--targets <N>': 101 is not in 1.."),
+            (["--sets=two", "a"], b"error: invalid value 'two' for '--sets <N>': "),
+            (["--sets=2", "--sets=2", "a"], b"error: the argument '--sets <N>' cannot"),
         ]:
             with self.subTest(args):
                 status, stdout, stderr = answer_of(["mark", *args])
@@ -156,7 +239,8 @@ class CommandTest(ProgramTest):
     def test_help_says_what_it_does(self):
         status, stdout, stderr = answer_of(["mark", "--help"])
         self.assertEqual((0, b""), (status, stderr))
-        for part in [b"--station <NAME>", b"<GSI>", b"Example:\n  station_check mark "]:
+        parts = [b"--station <NAME>", b"--sets <N>", b"--targets <N>", b"--others", b"<GSI>"]
+        for part in [*parts, b"Example:\n  station_check mark "]:
             self.assertIn(part, stdout)
         self.assertLessEqual(max(map(len, stdout.splitlines())), 100)
 
@@ -181,21 +265,29 @@ class LargestFilesTest(ProgramTest):
         self.assertEqual(text, re.sub(rb"(?m)^41[.]{4}.*\n", b"", copy))
 
     def test_the_largest_files_are_refused(self):
-        """Nothing but one reading, sets of two targets, targets that come once, or set-up lines."""
+        """Nothing but one reading, sets of two targets, detail points, pairs, or set-up lines."""
         count = LONGEST_FILE // LINE
         others = b"".join(reading(f"{number}", 1) for number in range(count - 1))
-        of_a, at_end = reading("A", 1), f"block {count + 1}: mark: NoSets"
-        for text, options, reason in [
-            (of_a * count, ["--station=S1"], at_end),
-            (SET_UP % 1 * count, [], at_end),
-            (set_of("AB") + of_a * (count - 4), ["--station=S1"], "block 6: mark: ReadTwice"),
-            (set_of("AB") * (count // 4), ["--station=S1"], "block 164: mark: TooManySets"),
-            (reading("A", 2) + others, ["--station=S1"], "block 204: mark: TooManyTargets"),
-            (others + reading("A", 2), ["--station=S1"], "block 204: mark: TooManyTargets"),
-            (b"\n" * (LONGEST_FILE + 1), ["--station=S1"], "block 1: FileTooLong"),
+        pairs = b"".join(reading(f"{at // 2}", at % 2 + 1) for at in range(count))
+        of_a, at_end = reading("A", 1), refused(f"block {count + 1}: mark: NoSets")
+        outside = f"note: station S1: no sets; {count} readings stay outside\n".encode()
+        for text, options, refusal in [
+            (of_a * count, ["--station=S1"], outside + at_end),
+            (SET_UP % 1 * count, [], b"note: station 1: no readings\n" + at_end),
+            *[
+                (text, ["--station=S1"], refused_station("S1", fault, len(text) // LINE))
+                for text, fault in [
+                    (set_of("AB") + of_a * (count - 4), "block 6: ReadTwice"),
+                    (set_of("AB") * (count // 4), "block 164: TooManySets"),
+                    (reading("A", 2) + others, "block 1: FaceMissing"),
+                    (others + reading("A", 2), f"block {count}: FaceMissing"),
+                    (pairs, "block 204: TooManyTargets"),
+                ]
+            ],
+            (b"\n" * (LONGEST_FILE + 1), ["--station=S1"], refused("block 1: FileTooLong")),
         ]:
-            with self.subTest(reason):
-                self.assertEqual((1, b"", refused(reason)), self.answer(text, *options))
+            with self.subTest(refusal):
+                self.assertEqual((1, b"", refusal), self.answer(text, *options))
 
 
 if __name__ == "__main__":

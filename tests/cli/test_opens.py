@@ -28,6 +28,7 @@ COMMANDS = {
     "report --table": ["report", "--sha256", "--table", "{table}", "{field}", "S1"],
     "compare": ["compare", "{field}", "S1", "{table}"],
     "compare --sha256": ["compare", "--sha256", "{field}", "S1", "{table}"],
+    "compare --residual": ["compare", "--residual=1", "{field}", "S1", "{table}"],
     "differences": ["differences", "{field}", "S1", "{table}"],
     "mark": ["mark", "--station=S1", "{job}"],
 }

@@ -75,7 +75,7 @@ class PagesTest(TimedTest):
         listed = re.search(r"^Commands:\n(.*?)\n\n", answer_of(["--help"])[1].decode(), re.DOTALL | re.MULTILINE)
         names = re.findall(r"^  (\w+)", listed[1], re.MULTILINE)
         self.assertIn("explain", names)
-        for command in [*names, "list --csv", "check --residual"]:
+        for command in [*names, "list --csv", "check --residual", "compare --residual"]:
             if command != "help":
                 self.assertRegex(commands, rf"station_check {command} ")
 
@@ -131,7 +131,7 @@ class PagesTest(TimedTest):
         self.assertEqual(sorted(SEALED), sorted(path for path, text in texts.items() if SEAL in text))
         opened = [path for path in SEALED if re.search(r"\bunfold(ing)?\b", texts[path])]
         self.assertEqual([SOLVER / "proofs" / "found" / "find" / "Answers.antt"], opened)
-        cited = [path for path, text in texts.items() if "modular_solver.proofs" in text]
+        cited = [path for path, text in texts.items() if re.search(r"modular_solver(\.|::)proofs", text)]
         self.assertEqual([], [path for path in cited if SOLVER not in path.parents])
 
     def test_no_code_above_the_ends_names_a_reader_of_the_system(self):

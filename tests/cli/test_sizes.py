@@ -51,8 +51,11 @@ OTHERS = [
     "words", "list --csv", "residuals", "differences", "report", "report --csv", "report --table",
 ]  # fmt: skip
 
+# Those of them that take a limit of residuals, which are all 0.
+HELD = ["differences", "report", "report --csv", "report --table"]
 
-def least_squares_of_like_sets(station):
+
+def least_squares_of_like_sets(station, limit=None):
     """The least-squares directions in gon of a station whose sets are all alike, and its residuals,
     which are 0: what the model finds by equations, of which these are too many."""
     first, *_ = station.observations
@@ -68,15 +71,17 @@ def without_codes(field):
 
 
 def told(name, sets, targets):
-    """What `mark` tells of a station with so many sets, more than one target and no other reading."""
-    words = f"{sets} set{'s' * (sets > 1)}, {targets} targets"
+    """What `mark` tells of a station with so many sets of these targets and no other reading."""
+    ends = f"from {targets[0]} to {targets[-1]}"
+    words = f"{sets} set{'s' * (sets > 1)}, {len(targets)} targets, {ends}"
     outside = "0 readings before them and 0 after stay outside"
     notes = f"note: station {name}: {words}; {outside}\nnote: compare this with the field book\n"
     return notes.encode()
 
 
-def agrees(targets):
-    return b"agrees S1: %d targets, within 0.000 mgon, limit 0.010 mgon\n" % targets
+def agrees(sets, targets):
+    found = b"within 0.000 mgon, limit 0.010 mgon, greatest residual 0.000 mgon"
+    return b"agrees S1: %d sets, %d targets, %s\n" % (sets, targets, found)
 
 
 def accepted(sets, targets, name=b"S1"):
@@ -162,29 +167,32 @@ class SizesTest(ProgramTest):
         self.assertEqual((0, sheet_of(sets, targets), b""), answer_of(["means", field, "S1"]), size)
         check = answer_of(["check", field, sheet])
         self.assertEqual((0, accepted(sets, targets), b""), check, size)
-        directions = answer_of(["directions", field, "S1"])
-        self.assertEqual((0, table_of(targets), b""), directions, size)
-        compare = answer_of(["compare", field, "S1", "/dev/stdin"], table_of(targets))
-        self.assertEqual((0, agrees(targets), b""), compare, size)
+        for limit in [[], ["--residual=0"]]:
+            directions = answer_of(["directions", *limit, field, "S1"])
+            self.assertEqual((0, table_of(targets), b""), directions, size)
+            compare = answer_of(["compare", *limit, field, "S1", "/dev/stdin"], table_of(targets))
+            self.assertEqual((0, agrees(sets, targets), b""), compare, size)
         self.check_others(field, sets, targets)
-        # A single set that is read by targets is refused.
-        if targets > 1 and sets > 1:
-            self.check_marked("S1", field, sets, targets)
+        # A set has two targets at least.
+        if targets > 1:
+            self.check_marked("S1", field, sets, [str(n) for n in range(1, targets + 1)])
 
     def check_others(self, field, sets, targets):
         """Each other command, with each kind of rows and of report, has the model's answer."""
-        table = self.file(f"{sets} {targets}.table", table_of(targets))
-        for command in OTHERS:
-            case = Case(command, command, field.read_bytes(), table_of(targets))
+        text = table_of(targets)
+        table = self.file(f"{sets} {targets}.table", text)
+        for command, limit in [*((one, None) for one in OTHERS), *((one, 0) for one in HELD)]:
+            case = Case(command, command, field.read_bytes(), text, residual=limit)
             expected = case.expected(field, table)
             self.assertEqual((0, b""), (expected[0], expected[2]), (command, sets, targets))
             self.assertEqual(expected, answer_of(case.args(field, table)), (command, sets, targets))
 
     def check_marked(self, name, field, sets, targets):
-        """Without its codes the file gets the same codes again."""
+        """Without its codes the file of sets of these targets gets the same codes again."""
         text = field.read_bytes()
         job = self.file(f"{field.name} {name.encode().hex()}.job", without_codes(text))
-        mark = answer_of(["mark", f"--station={name}", job])
+        stated = [f"--station={name}", f"--sets={sets}", f"--targets={len(targets)}"]
+        mark = answer_of(["mark", *stated, job])
         self.assertEqual((0, text, told(name, sets, targets)), mark, field.name)
         job.unlink()
 
@@ -222,7 +230,7 @@ class SizesTest(ProgramTest):
         names = [f"S{n}" for n in range(1, model.MOST_STATIONS + 1)]
         set_ups = [f"11....+{name:0>8} 88..10+00001543\n".encode() for name in names]
         fields = [lines(station(name, 2, 2)) + b"\n" for name in names]
-        notes = [told(name, 2, 2).splitlines(keepends=True) for name in names]
+        notes = [told(name, 2, "12").splitlines(keepends=True) for name in names]
 
         def check(count):
             parts = list(zip(set_ups[:count], fields))
@@ -230,7 +238,7 @@ class SizesTest(ProgramTest):
             copy = b"".join(set_up + field for set_up, field in parts)
             said = b"".join([*(first for first, _ in notes[:count]), notes[0][1]])
             path = self.file(f"{count}.job", text)
-            self.assertEqual((0, copy, said), answer_of(["mark", path]), count)
+            self.assertEqual((0, copy, said), answer_of(["mark", "--sets=2", path]), count)
             path.unlink()
 
         self.each(check, sample(range(1, model.MOST_STATIONS + 1), 37))
@@ -263,7 +271,7 @@ class SizesTest(ProgramTest):
                 field = lines(named_station(asked, targets)) + b"\n"
                 sheet = model.means(field, asked.encode())[1]
                 table = model.directions(field, asked.encode())[1]
-                self.check_marked(asked, self.file("field.gsi", field), 2, 2)
+                self.check_marked(asked, self.file("field.gsi", field), 2, targets)
                 for command in ["words", "list", "means", "check", "directions", "report", "compare"]:
                     second = table if command == "compare" else sheet
                     paths = self.file("field.gsi", field), self.file("second.csv", second)
@@ -371,7 +379,7 @@ class SizesTest(ProgramTest):
         more = (b"\r\n\n" * length)[: min(length, model.LONGEST_TABLE - len(TABLE))]
         path = self.file(f"{length}.csv", more + TABLE)
         compare = answer_of(["compare", self.field, "S1", path])
-        self.assertEqual((0, agrees(2), b""), compare, length)
+        self.assertEqual(model.compared(FIELD, b"S1", TABLE), compare, length)
         path.unlink()
 
     def test_tables_of_many_lengths(self):

@@ -11,12 +11,44 @@ from generated import SEED, changed_table, station_to_adjust
 from program import EXAMPLE, SWEEP, ProgramTest, Run, answer_of
 from test_directions import FAULTS, one_set
 from test_means import largest
-from worked import REPORT, REPORT_ROWS, SECTION, STATION, TABLE_15, field_file, refused, widened
+from worked import (
+    REPORT,
+    REPORT_ROWS,
+    SECTION,
+    STATION,
+    TABLE_15,
+    edited,
+    field_file,
+    refused,
+    widened,
+)
 
 STATIONS = 300 if SWEEP else 30
 
-# No line is wider, but for that of the field file's path.
+# No line is wider, but for those that begin so: of paths, and of an agreement.
 WIDEST = 100
+WIDER = b"Field file ", b"Table ", b"Comparison            agrees "
+
+# What a report has of the table of P7 whose P8 is off.
+FROM_THE_MEDIAN = b"""\
+  TOWER                     0.000000        -0.502             -0.002
+  P3                       64.521340        -0.499              0.001
+  MAST                    139.404540        -0.500              0.000
+  P8                      212.758200         0.503              1.003
+  CHURCH                  278.860590        -0.503             -0.003
+  P12                     345.209190        -0.500              0.000
+"""
+
+# Names of files, and how a report shows them.
+PATHS = [
+    ("a\nb", b"\\a\\nb"),
+    ("a\rb", b"\\a\\rb"),
+    ("\\", b"\\\\\\"),
+    ("\x1b[31mred", b"\\\\x1b[31mred"),
+    ("\\x1b[31mred", b"\\\\\\x1b[31mred"),
+    ("\t\x01\x1f\x7f \\", b"\\\\x09\\x01\\x1f\\x7f \\\\"),
+    ("\u00e9\u0080", "\u00e9\u0080".encode()),
+]
 
 
 def lines_of(text, *beginnings):
@@ -40,12 +72,13 @@ class ReportTest(ProgramTest):
 
     def test_the_head_has_the_name_as_given_and_the_limits(self):
         for path in [EXAMPLE, EXAMPLE.parent / "." / EXAMPLE.name, Path("/dev/stdin")]:
-            for two_c, two_i in [(10, 2), (1_000_000, 12_345)]:
-                limits = [f"--two-c={two_c}", f"--two-i={two_i}"]
+            for two_c, two_i, residual in [(10, 2, 1), (1_000_000, 12_345, 1_999)]:
+                limits = [f"--two-c={two_c}", f"--two-i={two_i}", f"--residual={residual}"]
                 _, printed, _ = answer_of(["report", *limits, path, "S1"], EXAMPLE.read_bytes())
                 head = REPORT % bytes(path)
                 head = head.replace(b"20.00", b"%d.%02d" % divmod(two_c, 100), 1)
                 head = head.replace(b"20.00", b"%d.%02d" % divmod(two_i, 100), 1)
+                head = head.replace(b"10.000", b"%d.%03d" % divmod(5 * residual, 1_000), 1)
                 with self.subTest(path, two_c=two_c):
                     self.assertEqual(head, printed)
 
@@ -94,11 +127,26 @@ class ReportTest(ProgramTest):
         table = self.folder / "table.csv"
         table.write_bytes(TABLE_15)
         section = SECTION.replace(b"0.055 mgon", b"0.014 mgon")
-        section = section.replace(b"agrees S1: 2 targets, within", b"apart S1: 2 targets, by")
+        section = section.replace(b"agrees S1: 2 sets, 2 targets, within", b"apart S1: 2 targets, by")
+        section = section.replace(b", greatest residual 0.005 mgon", b"")
         before, residuals, after = (REPORT % bytes(EXAMPLE)).partition(b"Residuals")
         expected = before + section % bytes(table) + residuals + after
         answer = answer_of(["report", "--within=14", "--table", table, EXAMPLE, "S1"])
         self.assertEqual((1, expected, refused("compare: Apart 0.015 mgon, limit 0.014 mgon")), answer)
+
+    def test_a_right_direction_once_stood_beside_the_wrong_one(self):
+        """P8 is 1 mgon off. After the best rotation it has 0.503 and CHURCH, which is right, as much on
+        the other side; from the median P8 stands alone, as in `differences`."""
+        field, table = (EXAMPLE.parent / name for name in ["station_p7.gsi", "station_p7_directions.csv"])
+        wrong = self.folder / "wrong.csv"
+        wrong.write_bytes(edited(table.read_bytes(), (b"212.75720", b"212.75820")))
+        status, printed, said = answer_of(["report", "--table", wrong, field, "P7"])
+        self.assertEqual((1, refused("compare: Apart 0.504 mgon, limit 0.010 mgon")), (status, said))
+        section = printed.partition(b"From the median\n\n")[2].partition(b"\n\n")[0]
+        self.assertEqual(FROM_THE_MEDIAN, section + b"\n")
+        _, rows, _ = answer_of(["differences", field, "P7", wrong])
+        columns = [line.split()[2:] for line in section.splitlines()]
+        self.assertEqual(columns, [row.split(b",")[3:] for row in rows.splitlines()[1:]])
 
     def test_a_table_that_is_refused_is_named_and_nothing_is_printed(self):
         table = self.folder / "table.csv"
@@ -160,12 +208,36 @@ class ReportTest(ProgramTest):
         args = ["report", "--sha256", "--table", table, field, "S2"]
         self.assertEqual((1, b"", refused("no station")), answer_of(args))
 
-    def test_no_path_adds_a_line(self):
-        for name, shown in [("a\nb", b"\\a\\nb"), ("a\rb", b"\\a\\rb"), ("\\", b"\\\\\\")]:
-            path = self.folder / name
-            path.write_bytes(STATION)
-            answer = answer_of(["report", "--", name, "S1"], cwd=self.folder)
-            self.assertEqual((0, REPORT % shown, b""), answer)
+    def test_no_path_adds_a_line_or_controls_a_terminal(self):
+        """The names of both files; a digest's line is still one that `sha256sum` reads."""
+        for name, shown in PATHS:
+            field, table = self.folder / name, self.folder / f"{name}.csv"
+            field.write_bytes(STATION)
+            table.write_bytes(TABLE_15)
+            with self.subTest(name):
+                answer = answer_of(["report", "--", name, "S1"], cwd=self.folder)
+                self.assertEqual((0, REPORT % shown, b""), answer)
+                args = ["report", "--sha256", f"--table={name}.csv", "--", name, "S1"]
+                status, printed, said = answer_of(args, cwd=self.folder)
+                self.assertEqual((0, b""), (status, said))
+                for line in [b"Field file            " + shown, b"Table                 " + shown + b".csv"]:
+                    self.assertIn(b"\n" + line + b"\n", printed)
+                sums = ["sha256sum", "--", name, f"{name}.csv"]
+                lines = subprocess.run(sums, check=True, capture_output=True, cwd=self.folder).stdout
+                self.assertTrue(printed.endswith(lines))
+
+    def test_each_byte_of_a_path_is_shown_so_that_no_other_is(self):
+        """Of each byte that a name may have; names that differ are shown as lines that do."""
+        shown = set()
+        for byte in [byte for byte in range(1, 0x80) if byte != ord("/")]:
+            name = b"a" + bytes([byte])
+            (self.folder / name.decode()).write_bytes(STATION)
+            _, printed, _ = answer_of(["report", "--", name, "S1"], cwd=self.folder)
+            with self.subTest(byte=byte):
+                self.assertEqual(REPORT % model.path_text(name), printed)
+                self.assertNotRegex(printed, rb"[^\n\x20-\x7e]")
+            shown.add(printed)
+        self.assertEqual(126, len(shown))
 
     def test_the_largest_station(self):
         _, sets, *_ = largest()
@@ -191,17 +263,19 @@ class GeneratedTest(AgainstModel):
             self.compare([Case(f"{place}", "report --table", file, table, within=within)])
 
     def test_the_largest_names_and_numbers_keep_their_columns(self):
-        """Of stations up to the largest, each line is no wider than it may be and has no blank at its
-        end."""
-        field, printed = self.folder / "field.gsi", 0
+        """Of stations up to the largest, with a table and without, each line is no wider than it may
+        be and has no blank at its end."""
+        field, table, printed = self.folder / "field.gsi", self.folder / "table.csv", 0
         for place in range(STATIONS):
             field.write_bytes(station_to_adjust(Random(f"{SEED} widths {place}"), 40, 100))
-            status, text, _ = answer_of(["report", "--two-c=1000000", field, "S1"])
-            printed += status == 0
-            for line in text.splitlines():
-                if not line.startswith(b"Field file"):
+            table.write_bytes(answer_of(["directions", "--decimals=8", field, "S1"])[1])
+            for stated in [[], [f"--table={table}", f"--within={place % 2}"]]:
+                status, text, _ = answer_of(["report", "--two-c=1000000", *stated, field, "S1"])
+                printed += status == 0
+                for line in text.splitlines():
                     with self.subTest(place, line=line):
-                        self.assertLessEqual(len(line), WIDEST)
+                        if not line.startswith(WIDER):
+                            self.assertLessEqual(len(line), WIDEST)
                         self.assertEqual(line.rstrip(), line)
         self.assertGreater(printed, STATIONS // 2)
 

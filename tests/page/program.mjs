@@ -9,6 +9,7 @@ import vm from 'node:vm';
 
 const DEFAULTS = {
   '--two-c': 2000, '--two-i': 2000, '--residual': null, '--within': null, '--decimals': 6, '--room': null,
+  '--sets': 0, '--targets': 0,
 };
 const RUNS = 5;
 
@@ -22,10 +23,11 @@ const calls = vm.runInThisContext('calls');
 const core = await WebAssembly.compile(Buffer.from(part('module'), 'base64'));
 
 const options = { ...DEFAULTS }, operands = [];
-let station = '';
+let station = '', others = false;
 while (words.length > 0) {
   const [word, value] = words.shift().split('=');
   if (word === '--station') station = value ?? words.shift();
+  else if (word === '--others') others = true;
   else if (word in options) options[word] = Number(value ?? words.shift());
   else operands.push(word);
 }
@@ -52,7 +54,8 @@ const answers = {
     calls.compare(core, bytesOf(gsi), bytesOf(table), nameOf(name), ...faces, options['--within']),
   differences: (gsi, name, table) =>
     calls.differences(core, bytesOf(gsi), bytesOf(table), nameOf(name), ...faces),
-  mark: gsi => calls.mark(core, bytesOf(gsi), nameOf(station)),
+  mark: gsi =>
+    calls.mark(core, bytesOf(gsi), nameOf(station), options['--sets'], options['--targets'], others),
   digest: (file, name) => calls.digest(core, bytesOf(file), nameOf(name)),
   explain: (line = '') => calls.explain(core, nameOf(line)),
   'explain-bytes': file => calls.explain(core, bytesOf(file)),

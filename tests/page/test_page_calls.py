@@ -16,6 +16,7 @@ import unittest
 from fractions import Fraction
 from pathlib import Path
 
+from kinds import refusal_in
 from program import EXAMPLE, PROGRAM, ROOT, SWEEP, TimedTest, answer_to
 
 sys.path[:0] = [str(ROOT / name) for name in ("conformance", "page")]
@@ -82,11 +83,12 @@ def node():
 def is_of_page(case):
     """Whether the files of a case can be handed in: they are there, and none is a folder. What the
     program notes beside an empty list is its own, and so are the rows of a list, tables in degrees,
-    reports with a table and limits in mgon."""
+    reports with a table, limits in mgon, and a limit of residuals but of a sheet."""
     paths = [case.folder / word for word in case.args if "." in word]
     is_noted = case.args[:1] == ["list"] and case.expected[0] == 0 and case.expected[2]
     is_stated = any(word in ("--csv", "--degrees") or word.startswith("--table") for word in case.args)
-    is_own = is_noted or is_stated or any(word.endswith("mgon") for word in case.args)
+    is_held = case.args[:1] != ["check"] and any(word.startswith("--residual") for word in case.args)
+    is_own = is_noted or is_stated or is_held or any(word.endswith("mgon") for word in case.args)
     return not is_own and case.expected[0] < 2 and all(path.is_file() for path in paths)
 
 
@@ -175,7 +177,7 @@ class PageCallsTest(TimedTest):
 
     @unittest.skipUnless(PROGRAM.exists(), "the program is not built")
     def test_each_refusal_is_explained_as_by_the_program(self):
-        refusals = {case.expected[2].decode().rstrip("\n") for case in run.cases() if case.expected[0] == 1}
+        refusals = {refusal_in(case.expected[2]) for case in run.cases() if case.expected[0] == 1}
         self.assertGreater(len(refusals), 80)
         # Names alone, in small letters too, and the list of all.
         words = [[line] for line in sorted(refusals)] + [["TwoC"], ["twoc"], []]

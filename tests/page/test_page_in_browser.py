@@ -34,6 +34,12 @@ P7_HEADLINE = "Accepted. Greatest residual 0.320 mgon, set 4, TOWER."
 NOTHING_CHECKED = "Nothing was checked: this file has no sets."
 NOTHING_NAMED = "Nothing was checked yet: the station needs a name."
 NOTHING_RECOGNIZED = "Nothing was checked: the sets of this job are not recognized."
+NOTHING_COUNTED = (
+    "Nothing was checked yet: the sets were read target by target, and their number is needed."
+)
+COUNTED_OTHERWISE = (
+    "Nothing was checked: the sets of this job are not as many as you stated, or have other targets."
+)
 
 # The directions of P7 as a controller shows them, with four decimals.
 FOUR_DECIMALS = b"TOWER,0.0000\nP3,64.5213\nMAST,139.4045\nP8,212.7572\nCHURCH,278.8606\nP12,345.2092\n"
@@ -505,7 +511,7 @@ class PageInBrowserTest(TimedTest):
         self.assertIn("no line of it names the station", page.text(".card"))
         self.state_name(page, "P7")
         self.assertEqual(["read", "Station P7"], self.cards(page)[0][:2])
-        recognized = "Station P7: 4 sets, 6 targets. 1 reading before the sets and 0 after them stay outside."
+        recognized = "Station P7: 4 sets, 6 targets, from TOWER to P12. 1 reading before the sets and 0 after them stay outside."
         self.assertEqual(recognized, page.text(".marked p:nth-child(2)"))
         # What was recognized stands before the answer.
         page.give(self.file("plain.csv", P7_SHEET.read_bytes()))
@@ -524,8 +530,8 @@ class PageInBrowserTest(TimedTest):
         for said in [recognized, command, *digests]:
             self.assertIn(said, facts)
         # Another name may be stated.
-        self.state_name(page, "P8")
-        self.assertEqual(["read", "Station P8"], self.cards(page)[0][:2])
+        self.state_name(page, "P70")
+        self.assertEqual(["read", "Station P70"], self.cards(page)[0][:2])
 
     def test_each_station_of_a_job_is_recognized_by_its_set_up_line(self):
         detail = b"*110062+00000000000000P8 88..10+0000000000001500\n*110063+00000000000000P7 21.322"
@@ -533,10 +539,11 @@ class PageInBrowserTest(TimedTest):
         page = self.page(self.file("job.gsi", JOB.read_bytes() + detail))
         self.assertEqual([("read", "Station P7"), ("read", "Station P9")], [tuple(card[:2]) for card in self.cards(page)])
         self.assertEqual([[
-            "Station P7: 4 sets, 6 targets. 1 reading before the sets and 3 after them stay outside.",
+            "Station P7: 4 sets, 6 targets, from TOWER to P12. 1 reading before the sets and 3 after them stay outside.",
+            "2 of 24 directions are missing.",
             "Station P8: no sets. Its 1 reading stays outside, and nothing of it was checked.",
         ], [
-            "Station P9: 2 sets, 3 targets. 1 reading before the sets and 0 after them stay outside.",
+            "Station P9: 2 sets, 3 targets, from P7 to MAST. 1 reading before the sets and 0 after them stay outside.",
         ]], page.js(
             "[...document.querySelectorAll('.marked')].map(part => [...part.querySelectorAll('p')]"
             ".map(p => p.textContent).slice(1, -1))"
@@ -552,6 +559,55 @@ class PageInBrowserTest(TimedTest):
         self.assertTrue(page.texts(EXPLAINED)[-1].startswith("What to do: "))
         # Who has the page alone has no script of the program's.
         self.assertIn("If you have no prepare.py, change a copy of the file in a text editor", page.text(".here"))
+
+    def state_numbers(self, page, *numbers):
+        """States how many sets were read to the end, and how many targets they have."""
+        with page.answered():
+            page.js(
+                f"[...document.querySelectorAll('.card input[type=number]')].forEach((input, nth) =>"
+                f" input.value = {json.dumps(numbers)}[nth] ?? '');"
+                " document.querySelector('.card form:has(input[type=number])').requestSubmit()"
+            )
+
+    def test_the_number_of_sets_is_asked_where_they_were_read_target_by_target(self):
+        job = (CASES / "mark" / "mark_of_stated_sets_at_two_stations" / "field.gsi").read_bytes()
+        page = self.page(self.file("targets.gsi", job))
+        self.assertEqual([["open", "targets.gsi", NOTHING_COUNTED]], self.cards(page))
+        self.assertEqual("refused: block 2: mark: ByTargets", page.text(".exact samp"))
+        # The number that would be found is not told.
+        self.assertNotIn("Station P1: 2 sets", page.text(".card"))
+        page.give(self.file("targets.P1.csv", b"A,0\nB,0\n"))
+        self.assertIn("Checked as soon as the number of sets is stated", page.text(".card"))
+        page.empty()
+        page.give(self.folder / "targets.gsi")
+        self.state_numbers(page, 3)
+        self.assertEqual([["open", "targets.gsi", COUNTED_OTHERWISE]], self.cards(page))
+        self.assertEqual("refused: block 2: mark: SetCount", page.text(".exact samp"))
+        self.state_numbers(page, 2, 3)
+        self.assertEqual("refused: block 2: mark: TargetCount", page.text(".exact samp"))
+        self.state_numbers(page, 2, 2)
+        self.assertEqual([("read", "Station P1"), ("read", "Station P3")], [tuple(card[:2]) for card in self.cards(page)])
+        command = "station_check mark --sets 2 --targets 2 targets.gsi > targets_marked.gsi"
+        self.assertIn(command, page.text(".marked pre"))
+        # Other numbers may be stated.
+        self.state_numbers(page, 2)
+        self.assertIn(command.replace(" --targets 2", ""), page.text(".marked pre"))
+
+    def test_stations_that_are_not_recognized_may_be_left_outside(self):
+        job = (CASES / "mark" / "mark_with_others" / "field.gsi").read_bytes()
+        page = self.page(self.file("others.gsi", job))
+        self.assertEqual([["open", "others.gsi", NOTHING_RECOGNIZED]], self.cards(page))
+        self.assertIn("Station P1: 1 set, 2 targets, from A to B. No reading stays outside.", page.text(".card"))
+        told = "Station P2: not recognized, block 9: FaceMissing. Its 3 readings stay outside"
+        self.assertIn(told, page.text(".card"))
+        with page.answered():
+            page.press("Leave the stations that are not recognized outside")
+        self.assertEqual([("read", "Station P1"), ("read", "Station P3")], [tuple(card[:2]) for card in self.cards(page)])
+        self.assertIn(told, page.text(".marked"))
+        self.assertIn("station_check mark --others others.gsi > others_marked.gsi", page.text(".marked pre"))
+        with page.answered():
+            page.press("Leave no station outside")
+        self.assertEqual([["open", "others.gsi", NOTHING_RECOGNIZED]], self.cards(page))
 
     def test_no_name_is_asked_for_where_it_would_be_in_vain(self):
         degrees = self.plain().read_bytes().replace(b" 21.322", b" 21.324")
@@ -576,7 +632,7 @@ class PageInBrowserTest(TimedTest):
     def test_what_was_not_checked_is_never_green(self):
         page = self.page(self.plain())
         self.assertEqual([["open", "plain.gsi", NOTHING_NAMED]], self.cards(page))
-        recognized = "Station ?: 4 sets, 6 targets. 1 reading before the sets and 0 after them stay outside."
+        recognized = "Station ?: 4 sets, 6 targets, from TOWER to P12. 1 reading before the sets and 0 after them stay outside."
         self.assertIn(recognized, page.text(".card"))
         page.give(P7_SHEET)
         self.assertIn("Checked as soon as the station has its name: station_p7.csv.", page.text(".card"))
@@ -809,6 +865,7 @@ class PageInBrowserTest(TimedTest):
         table = self.file("of_it.csv", page.saved("Save directions (CSV)", "P7_directions.csv"))
         kept = "Greatest residual 3.401 mgon, set 2, P8: within the limit of 10 mgon."
         above = "Greatest residual 3.401 mgon, set 2, P8: above the limit of 1 mgon."
+        command = "station_check directions --residual 200 moved600.gsi P7"
         agrees = "Agrees. 6 targets within 0.001 mgon of the least-squares directions; the limit is 0.01 mgon."
         read = "Read without a fault: 4 sets, 6 targets, 22 directions."
         for others, mood, said in [((), "read", read), ((table,), "good", agrees)]:
@@ -822,9 +879,35 @@ class PageInBrowserTest(TimedTest):
             self.assertIn(above, page.text("#verdict"))
             self.assertNotIn("Computed rightly", page.text(".card"))
             self.assertIn(above, "".join(self.facts(page)))
+            self.assertEqual([], page.texts("#answers .good, #protocol .good"))
+            self.assertEqual(command, page.texts(".exact code")[-1])
+            self.assertIn(command, "".join(self.facts(page)))
             for limit, isKept in (("3.4", False), ("3.405", True), ("10", True)):
                 page.fill("residual", limit)
                 self.assertEqual(isKept, "within the limit" in page.text(".card"), limit)
+
+    def test_the_greatest_residual_is_the_one_of_the_line_and_is_said_once_in_words(self):
+        page = self.page(self.moved(600))
+        table = self.file("of_it.csv", page.saved("Save directions (CSV)", "P7_directions.csv"))
+        page.give(table)
+        line = "agrees P7: 4 sets, 6 targets, within 0.001 mgon, limit 0.010 mgon, greatest residual 3.401 mgon"
+        self.assertEqual([line], page.texts(".exact samp"))
+        words = page.js(
+            "[...document.querySelectorAll('.card > p, .card .answer > p')].map(one => one.textContent).join(' ')"
+        )
+        self.assertEqual(1, words.count("3.401"), words)
+
+    def test_a_report_says_by_which_limit_of_residuals_another_one_is_printed(self):
+        page = self.page(P7_FIELD)
+        button, name = "Save report (TXT)", "P7_report.txt"
+        report = page.saved(button, name).decode()
+        self.assertIn("Limit of residuals    10.000 mgon\n", report)
+        self.assertEqual(f"Saved as {name}.", page.text(".results [role=status]"))
+        page.fill("residual", "1")
+        page.press(button)
+        more = "It was held to 10 mgon, the largest limit of residuals; with yours: "
+        command = f"station_check report --residual 200 {P7_FIELD.name} P7"
+        self.assertEqual(f"Saved as {name}. {more}{command}", page.text(".results [role=status]"))
 
     def facts(self, page):
         """What stands among the facts of the protocols."""
@@ -852,6 +935,15 @@ class PageInBrowserTest(TimedTest):
         page.empty()
         page.give(self.file("fault.gsi", FIELD.read_bytes().replace(b"25000010", b"2500001X", 1)))
         self.assertIn("2c 20, 2i 20 mgon", self.facts(page))
+        # A station in two parts has no residuals, and one beyond every limit is refused for them.
+        for case, limits in [
+            ("fault_adjust_not_connected", "2c 20, 2i 20 mgon"),
+            ("fault_adjust_residual_for_residuals", "2c 20, 2i 20, residuals 10 mgon"),
+        ]:
+            page.empty()
+            page.give(ROOT / "conformance" / "refused" / "adjustment" / case / "field.gsi")
+            self.assertEqual("bad", self.cards(page)[0][0])
+            self.assertIn(limits, self.facts(page))
 
     def test_of_a_large_file_residuals_are_judged_when_they_are_opened(self):
         """Before, no limit of them is told; then the card says what came of it."""

@@ -29,39 +29,44 @@ class Case(NamedTuple):
     decimals: int = model.USUAL_DECIMALS
     within: int | None = None
     degrees: bool = False
+    stated: model.StatedSets = model.StatedSets()  # of `mark`
 
     def expected(
         self, gsi: Path = Path("field.gsi"), sheet: Path = Path("table.csv")
     ) -> Answer:
         """What the model answers, of files at these paths."""
         name = (self.station or "").encode()
+        limits, residual = self.limits, self.residual
         if self.command == "mark":
-            return model.marked(self.gsi, None if self.station is None else name)
+            stated_name = None if self.station is None else name
+            return model.marked(self.gsi, stated_name, stated=self.stated)
         if self.command == "words":
             return model.words(self.gsi)
         if self.command == "list":
-            return model.listed(self.gsi, self.limits)
+            return model.listed(self.gsi, limits)
         if self.command == "list --csv":
-            return model.listed_rows(self.gsi, self.limits)
+            return model.listed_rows(self.gsi, limits)
         if self.command == "means":
-            return model.means(self.gsi, name, self.limits)
+            return model.means(self.gsi, name, limits)
         if self.command == "directions":
-            return model.directions(self.gsi, name, self.limits, self.decimals)
+            return model.directions(self.gsi, name, limits, self.decimals, residual=residual)
         if self.command == "residuals":
-            return model.residuals(self.gsi, name, self.limits)
+            return model.residuals(self.gsi, name, limits)
         if self.command == "differences":
-            return model.differences(self.gsi, name, self.sheet, self.limits, self.degrees)
+            given = self.sheet, limits, self.degrees
+            return model.differences(self.gsi, name, *given, residual=residual)
         if self.command == "report":
-            return model.reported(self.gsi, bytes(gsi), name, self.limits)
+            return model.reported(self.gsi, bytes(gsi), name, limits, residual=residual)
         if self.command == "report --csv":
-            return model.reported_rows(self.gsi, name, self.limits)
+            return model.reported_rows(self.gsi, name, limits, residual=residual)
         if self.command == "report --table":
             table = model.ReportTable(bytes(sheet), self.sheet, self.within, self.degrees)
-            return model.reported(self.gsi, bytes(gsi), name, self.limits, table=table)
+            path = bytes(gsi)
+            return model.reported(self.gsi, path, name, limits, table=table, residual=residual)
         if self.command == "compare":
             units = self.within, self.degrees
-            return model.compared(self.gsi, name, self.sheet, self.limits, *units)
-        return model.check(self.gsi, self.sheet, self.limits, self.residual)
+            return model.compared(self.gsi, name, self.sheet, limits, *units, residual=residual)
+        return model.check(self.gsi, self.sheet, limits, residual=residual)
 
     def args(self, gsi: Path, sheet: Path) -> list:
         """The words of its command line, over these paths."""
@@ -76,7 +81,10 @@ class Case(NamedTuple):
         if self.degrees:
             options.append("--degrees")
         if self.command == "mark":
-            return ["mark", *([] if self.station is None else [f"--station={self.station}"]), gsi]
+            sets, targets, others = self.stated
+            said = {"station": self.station, "sets": sets, "targets": targets}
+            of_sets = [f"--{name}={value}" for name, value in said.items() if value is not None]
+            return ["mark", *of_sets, *["--others"] * others, gsi]
         return {
             "words": ["words", gsi],
             "list": ["list", *options, gsi],
@@ -131,7 +139,7 @@ class AgainstModel(ProgramTest):
         cases, found = list(cases), list[Answer]()
         self.assertTrue(cases)
         answers = side_by_side(self.answer, range(len(cases)), cases)
-        for place, (case, answer) in enumerate(zip(cases, answers)):
+        for place, (case, answer) in enumerate(zip(cases, answers, strict=True)):
             found.append(answer)
             with self.subTest(case.name, gsi=case.gsi[:2000], sheet=case.sheet[:2000]):
                 self.assertEqual(case.expected(self.field(place), self.sheet(place)), answer)

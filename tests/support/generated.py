@@ -293,6 +293,13 @@ class Job:
                 self.sight(*sight)
                 if self.random.random() < 0.02:
                     self.height(sight[0])
+            if self.random.random() < 0.02:
+                self.details(70, [1])
+
+    def details(self, first: int, counts: Sequence[int]) -> None:
+        """Detail points, named by the numbers from this one on: as many as one of these."""
+        for number in range(first, first + self.random.choice(counts)):
+            self.sight(f"{number}", 1)
 
     def trailing(self, targets: Sequence[str]) -> None:
         """Check sights and detail points."""
@@ -307,6 +314,7 @@ class Job:
         targets = self.random.sample(["A", "B", "C", "D", "E"], self.random.randint(1, 4))
         if self.random.random() < 0.08:  # so many that they are not looked through one by one
             targets = [f"T{number}" for number in range(self.random.randint(15, 40))]
+        self.details(50, [0, 0, 0, 0, 1, 5])
         self.leading(targets)
         self.sets(targets)
         self.trailing(targets)
@@ -323,7 +331,7 @@ def job(random: Random) -> tuple[bytes, str | None]:
         made.sight("A", 1)
     for _ in range(random.choice([1, 1, 1, 2, 2, 3]) if stated is None else 1):
         if (stated is None) != (random.random() < 0.03):
-            made.set_up(random.choice(["S1", "S2", "S3", "00S4", "A B", "P7"]))
+            made.set_up(random.choice(["S1", "S2", "S3", "00S4", "A B", "P7", "B"]))
         made.station()
     if len(made.lines.lines) > 1 and random.random() < 0.03:
         made.lines.join()
@@ -602,18 +610,55 @@ def changed_table(random: Random, station: model.Station, degrees: bool = False)
 # ---------------------------------------------------------------- cases
 
 
+def divisions_in(text: bytes, name: str | None) -> list[model.Division]:
+    """The divisions of the stations of a job that have some, whatever is stated."""
+    divisions = []
+    try:
+        stations, _ = model.occupations_of(text, None if name is None else name.encode(), False)
+    except model.Refusal:
+        return []
+    for station in stations:
+        if not model.has_no_sets(station.sights):
+            try:
+                divisions.append(model.division_of(station.sights))
+            except model.FaultOfSets:
+                continue
+    return divisions
+
+
+def sets_stated(random: Random, text: bytes, name: str | None) -> model.StatedSets:
+    """What is stated of the sets of a job: mostly the numbers of one of its stations; and now and
+    then that stations with a fault stay outside."""
+    divisions, others = divisions_in(text, name), random.random() < 0.4
+    if not divisions:
+        return model.StatedSets(*random.choice([(None, None), (2, 3)]), others)
+    division = random.choice(divisions)
+    sets, targets = len(division.sets), len(model.targets_in_sets(division))
+    return model.StatedSets(
+        random.choice([None, sets, sets, sets, sets, sets % model.MOST_SETS + 1]),
+        random.choice([None, None, targets, targets, targets % model.MOST_TARGETS + 1]),
+        others,
+    )
+
+
 def cases_of_jobs(place: int) -> Iterator[Case]:
     """Runs over jobs without codes."""
     random = Random(f"job {SEED} {place}")
     for nth in range(3):
-        text, stated = job(random)
-        yield Case(f"{place}: job {nth}", "mark", text, station=stated)
+        text, name = job(random)
+        stated = sets_stated(random, text, name)
+        yield Case(f"{place}: job {nth}", "mark", text, station=name, stated=stated)
 
 
 def cases_of(place: int) -> Iterator[Case]:
     """The runs over one generated file, and over sheets of its stations."""
-    random = Random(f"{SEED} {place}")
+    random, of_residuals = Random(f"{SEED} {place}"), Random(f"residuals {SEED} {place}")
     field, limits = field_file(random)
+
+    def held() -> dict[str, Any]:
+        """A limit of residuals, or that none is stated."""
+        return {"residual": of_residuals.choice([None, None, None, 0, 1, 20, 200, 2_000])}
+
     yield Case(f"{place}: words", "words", field)
     yield Case(f"{place}: list", "list", field, limits=limits)
     yield Case(f"{place}: rows of the list", "list --csv", field, limits=limits)
@@ -629,14 +674,16 @@ def cases_of(place: int) -> Iterator[Case]:
     yield Case(f"{place}: means", "means", field, station=asked, limits=limits)
     of_station: dict[str, Any] = {"station": asked, "limits": limits}
     decimals = random.randint(1, 8)
-    yield Case(f"{place}: directions", "directions", field, decimals=decimals, **of_station)
+    yield Case(
+        f"{place}: directions", "directions", field, decimals=decimals, **of_station, **held()
+    )
     yield Case(f"{place}: residuals", "residuals", field, **of_station)
-    yield Case(f"{place}: report", "report", field, **of_station)
-    yield Case(f"{place}: rows of the report", "report --csv", field, **of_station)
+    yield Case(f"{place}: report", "report", field, **of_station, **held())
+    yield Case(f"{place}: rows of the report", "report --csv", field, **of_station, **held())
     for nth in range(2):
         compared = random.choice(stations)
         within = random.choice([None, None, None, 10, 0, 1, 100, 1_000_000])
-        of_table: dict[str, Any] = {"station": compared.name.decode(), "limits": limits}
+        of_table: dict[str, Any] = {"station": compared.name.decode(), "limits": limits, **held()}
         of_table["within"] = within
         degrees = random.random() < 0.3
         table = changed_table(random, compared, degrees)

@@ -26,7 +26,7 @@ TABLE_ROW_FAULTS = ["Fields", "Name", "Number", "Range", "Unknown", "Twice"]
 MARK_FAULTS = [
     *["TwoLines", "HasCodes", "HasSetUp", "NoSetUp", "NameTooLong", "NoSets", "ReadTwice"],
     *["FaceMissing", "OneTarget", "Order", "EndsElsewhere", "OneSet", "FirstFace", "MayBeShifted"],
-    *["OneSetByTargets", "OtherTargets", "StationTwice"],
+    *["PairAfter", "OtherTargets", "SightsItself", "StationTwice", "ByTargets", "SetCount", "TargetCount"],
 ]
 
 WRITTEN = ["accepted", "agrees", "written", "nothing to write"]
@@ -55,6 +55,11 @@ OF_READS = ["block n: Read", "sheet: Read", "table: Read"]
 NEVER_MET = ["adjust: NotFound"]
 
 
+def refusal_in(stderr: bytes) -> str:
+    """The line of a refusal, before which may stand what is told of stations."""
+    return stderr.decode().splitlines()[-1]
+
+
 def kind_of(answer: tuple[int, bytes, bytes]) -> str:
     """What was printed, or the reason of a refusal, with `n` for each number but those of words."""
     status, stdout, stderr = answer
@@ -62,7 +67,7 @@ def kind_of(answer: tuple[int, bytes, bytes]) -> str:
         verdict = stdout.split(b" ")[0].decode()
         printed = "written" if stdout else "nothing to write"
         return verdict if verdict in ("accepted", "agrees") else printed
-    reason = stderr.decode().removeprefix("refused: ").rstrip("\n")
+    reason = refusal_in(stderr).removeprefix("refused: ")
     reason = re.sub(r"^(block|sheet row|table row) \d+", r"\1 n", reason)
     reason = re.sub(r"\d+\.\d{3} mgon", "n mgon", reason)
     return reason if "WordTwice" in reason else re.sub(r" \d+$", " n", reason)

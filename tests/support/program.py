@@ -69,7 +69,9 @@ def side_by_side(call: Callable[..., T], *given: Iterable[Any]) -> Iterator[T]:
     try:
         yield from pool.map(call, *given)
     finally:
-        pool.shutdown(cancel_futures=True)
+        # (without waiting: where not all was asked for, this is called while garbage is collected,
+        # perhaps by a thread of a pool, which would wait for itself)
+        pool.shutdown(wait=False, cancel_futures=True)
 
 
 def until(is_so: Callable[[], object]) -> None:

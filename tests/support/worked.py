@@ -37,13 +37,15 @@ MARKED = b"".join([
 ])
 
 NOTES = (
-    b"note: station S1: 2 sets, 2 targets; 0 readings before them and 0 after stay outside\n"
+    b"note: station S1: 2 sets, 2 targets, from A to B; 0 readings before them and 0 after stay outside\n"
     b"note: compare this with the field book\n"
 )
 
 ACCEPTED = b"accepted S1: 2 sets, 2 targets, 4 directions, greatest residual 4/4\n"
 
-AGREES = b"agrees S1: 2 targets, within 0.000 mgon, limit 0.010 mgon\n"
+AGREES = (
+    b"agrees S1: 2 sets, 2 targets, within 0.000 mgon, limit 0.010 mgon, greatest residual 0.005 mgon\n"
+)
 
 DIFFERENCES = b"""\
 target,stated,least squares,difference,from the median
@@ -70,6 +72,7 @@ Targets               2
 Two-face directions   4
 Limit of 2c           20.00 mgon
 Limit of 2i           20.00 mgon
+Limit of residuals    10.000 mgon
 
 Readings in gon, mean of both faces counted from the first row of the set, 2c and 2i in mgon
 
@@ -113,14 +116,14 @@ S1,2,B,150.000040,350.000080,150.000060,0.04,0.00,150.000055,-0.005
 SECTION = b"""\
 Stated directions in gon, differences in mgon: stated less adjusted, after the best rotation
 
-  Target                      Stated    Difference
+  Target                      Stated    Difference    From the median
 
-  A                       100.000100         0.015
-  B                       150.000100        -0.015
+  A                       100.000100         0.015              0.030
+  B                       150.000100        -0.015              0.000
 
 Table                 %s
 Limit of differences  0.055 mgon
-Comparison            agrees S1: 2 targets, within 0.015 mgon, limit 0.055 mgon
+Comparison            agrees S1: 2 sets, 2 targets, within 0.015 mgon, limit 0.055 mgon, greatest residual 0.005 mgon
 
 """
 

@@ -1,13 +1,12 @@
 -- What an argument more, or a command more, makes of a grammar.
 use Rattle.std.proofs.Common.{◌≡◌, ◌∙◌, ◌∷◌, ◌++◌, ◌+◌, ℕ, zero, suc, add-one, get_or}
-use Rattle.std.proofs.Common.{true, false, not, ap, ap₂, is_some, List, [], map}
-use Rattle.std.proofs.Common.{append-nil, append_assoc}
+use Rattle.std.proofs.Common.{◌<◌, true, false, not, ap, ap₂, is_some, length, List, [], map, take}
 use Rattle.std.proofs.Common.{None, Option, Some, option_map, refl, subst, sym, true≢false}
-use Rattle.std.proofs.lemmas.Result.{IfOk-weaker}
+use Rattle.std.proofs.lemmas.List.{map-append, take_more}
 use Rattle.clap.proofs.SimpleLemmas.{is_false, plain_fields}
 use Rattle.clap.proofs.WalkLemmas.{both}
 use Rattle.clap.specs.Walk.{is_empty, is_simple_arg}
-use Rattle.clap.specs.Words.{AddsArg, AddsInTurn, AddsSubcommand, App, Rule, Shape, app_of, rule_of}
+use Rattle.clap.specs.Words.{AddsArg, AddsSubcommand, App, Rule, Shape, app_of, rule_of}
 use Rattle.clap.specs.Words.{with_rule}
 use Rattle.clap.specs.Words.{with_subcommand}
 use Rattle.clap.specs.Words.{FailsBy, HasMatchesOf, Row, Text, fault_of, has_subcommand, is_simple}
@@ -22,10 +21,12 @@ use Rattle.clap.specs.declared.parser.matches.ArgMatches.TheViews.{out-ArgMatche
 use Rattle.clap.specs.declared.parser.matches.Found.{Found}
 use Rattle.clap.specs.declared.parser.matches.SubCommand.{SubCommand}
 use Rattle.std.specs.Box.{box_value}
-use Rattle.std.specs.Prelude.{Box, Result, Ok, Err, IfOk, IsOkAnd, option_and_then}
+use Rattle.std.specs.Prelude.{Box, Result, option_and_then}
 use Rattle.command_line.specs.CommandLine.{Meets, named_by}
-use Rattle.command_line.specs.Commands.{alone, are_simple, of_rules, program_alone, the_program}
+use Rattle.command_line.specs.Commands.{alone, of_rules, program_alone, rule_for, the_program}
 use Rattle.command_line.specs.Commands.{words_of}
+use Rattle.command_line.specs.declared.arguments.Argument.{Argument}
+use Rattle.command_line.specs.declared.arguments.Argument.TheVariants as argument
 use Rattle.command_line.specs.declared.commands.Subcommand.{Subcommand}
 use Rattle.command_line.specs.declared.commands.Subcommand.TheVariants as command
 use Rattle.command_line.specs.declared.commands.TheConstants.{SUBCOMMANDS}
@@ -44,35 +45,47 @@ is_local a e =
     let x = both (not a.last) _ w.1 in
     is_false _ x.1
 
--- Arguments that change nothing in how words are read, added in turn to a command that has these
--- rules.
-pub in_turn : (old : Command) (args : List Arg) (new : Command) (name : Text) (rules : List Rule)
-    → AddsInTurn AddsArg old args new
-    → app_of old ≡ alone (of_rules name rules) → are_simple (map rule_of args) ≡ true
-    → app_of new ≡ alone (of_rules name (rules ++ map rule_of args))
-in_turn old [] new name rules added is_old simple =
-    rw (append-nil rules) (ap app_of (sym added) ∙ is_old)
-in_turn old (a ∷ args) new name rules added is_old simple =
-    let tests = both (is_simple_arg a) _ simple in
-    rw (← append_assoc rules (rule_of a ∷ []) (map rule_of args))
-    (in_turn added.0 args new name (rules ++ rule_of a ∷ []) added.2
-    (added.1.shape (is_local a tests.0) ∙ ap (λ grammar. with_rule grammar (rule_of a)) is_old)
-    tests.1)
+-- No argument of a command changes how words are read.
+is_simple_rule : (a : Argument) → (rule_for a).is_simple ≡ true
+is_simple_rule argument.FieldFile = refl
+is_simple_rule argument.Copy = refl
+is_simple_rule argument.Station = refl
+is_simple_rule argument.Sheet = refl
+is_simple_rule argument.Table = refl
+is_simple_rule argument.Fault = refl
+is_simple_rule argument.TwoC = refl
+is_simple_rule argument.TwoI = refl
+is_simple_rule argument.Residual = refl
+is_simple_rule argument.Within = refl
+is_simple_rule argument.Degrees = refl
+is_simple_rule argument.Decimals = refl
+is_simple_rule argument.Digests = refl
+is_simple_rule argument.Rows = refl
+is_simple_rule argument.StatedTable = refl
+is_simple_rule argument.StatedName = refl
+is_simple_rule argument.StatedSets = refl
+is_simple_rule argument.StatedTargets = refl
+is_simple_rule argument.Others = refl
 
--- A command that was made of listed arguments, by what they are.
-pub has_rules : {V E : Type 0} (items_of : V → List Arg) (args : List Arg) (listed : Result V E)
-    (made : Result Command Error) (name : Text) (rules : List Rule)
-    → IfOk made (λ new. IsOkAnd listed (λ given. are_simple (map rule_of (items_of given)) ≡ true
-    → app_of new ≡ alone (of_rules name (map rule_of (items_of given)))))
-    → IfOk listed (λ given. items_of given ≡ args)
-    → map rule_of args ≡ rules → are_simple rules ≡ true
-    → IfOk made (λ new. app_of new ≡ alone (of_rules name rules))
-has_rules items_of args (Ok given) made name rules words lists are simple =
-    let same = ap (map rule_of) lists ∙ are in
-    IfOk-weaker made _ _
-    (λ new is. is (ap are_simple same ∙ simple) ∙ ap (λ l. alone (of_rules name l)) same) words
-has_rules items_of args (Err error) made name rules words lists are simple =
-    IfOk-weaker made _ _ (λ new is. absurd is) words
+-- A command of this name with the first of these arguments, so many of them.
+abbrev pub command_with : Text → List Argument → ℕ → App
+command_with name arguments n = alone (of_rules name (map rule_for (take n arguments)))
+
+-- One argument more is added.
+pub adds_argument : (name : Text) (arguments : List Argument) (n : ℕ) (old new : Command) (a : Arg)
+    → n < length arguments → AddsArg old a new → app_of old ≡ command_with name arguments n
+    → rule_of a ≡ rule_for (get_or arguments n argument.FieldFile)
+    → app_of new ≡ command_with name arguments (n + 1)
+adds_argument name arguments n old new a in_list added is_old is_rule =
+    let next = get_or arguments n argument.FieldFile in
+    let simple : is_simple_arg a ≡ true =
+    ap (λ (r : Rule). r.is_simple) is_rule ∙ is_simple_rule next in
+    let one_more : map rule_for (take (n + 1) arguments)
+    ≡ map rule_for (take n arguments) ++ rule_for next ∷ [] =
+    ap (map rule_for) (take_more arguments n argument.FieldFile in_list)
+    ∙ map-append rule_for (take n arguments) (next ∷ []) in
+    added.shape (is_local a simple) ∙ ap₂ with_rule is_old is_rule
+    ∙ ap (λ rules. alone (of_rules name rules)) (sym one_more)
 
 -- A command of this grammar, added to a program of that one.
 adds_command : (old sub new : Command) (grammar : App) (s : Shape) → AddsSubcommand old sub new

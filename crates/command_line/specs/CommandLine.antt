@@ -1,18 +1,22 @@
 -- What the words of a command line ask for, or why they are answered with an error.
-use Rattle.std.specs.Prelude.{◌≡◌, ◌≢◌, ◌⊎◌, ℕ, List, [], Option, Some, None, codes, option_map}
+use Rattle.std.specs.Prelude.{◌≡◌, ◌≢◌, ◌⊎◌, ℕ, Bool, List, [], Option, Some, None, codes}
+use Rattle.std.specs.Prelude.{option_map}
 use Rattle.std.specs.Borrow.{Bor}
 use Rattle.std.specs.List.{join_by}
-use Rattle.clap.specs.Words.{matched_of, raw_values, kind_of, fault_of, HasKind, Row, Text}
+use Rattle.clap.specs.Words.{first_value, matched_of, raw_values, kind_of, fault_of, HasKind, Row, Text}
 use Rattle.clap.specs.Words.{subcommand_of, rows_of}
 use Rattle.clap.specs.declared.error.Error.{Error}
 use Rattle.clap.specs.declared.error.kind.ErrorKind.TheVariants.{InvalidValue, OutOfMemory}
 use Rattle.clap.specs.declared.error.kind.ErrorKind.TheVariants.{ValueValidation}
 use Rattle.clap.specs.declared.parser.matches.Found.{Found}
+use Rattle.adjust_kernel.specs.declared.bounds.TheConstants.{MOST_SETS, MOST_TARGETS}
 use Rattle.station_book.specs.Limits.{FaceLimits}
+use Rattle.station_book.specs.declared.result_limits.ResultLimits.{ResultLimits}
 use Rattle.station_explain.specs.Naming.{Names, IsMeant, IsNoNameInAnyCase}
 use Rattle.station_explain.specs.Table.{Explanation}
 use Rattle.command_line.specs.Commands.{the_program}
-use Rattle.command_line.specs.Stated.{IsGiven, IsMissing, StatesDigests, StatesForm, StatesLimits}
+use Rattle.command_line.specs.Stated.{HoldsResiduals, IsGiven, IsMissing, StatesDigests, StatesForm}
+use Rattle.command_line.specs.Stated.{StatesCount, StatesLimits, StatesNoCount, StatesOthers}
 use Rattle.command_line.specs.Stated.{StatesName, StatesNoLimits, StatesNoName, StatesNoNumber}
 use Rattle.command_line.specs.Stated.{StatesNoResidual, StatesNoWithin, StatesNumber}
 use Rattle.command_line.specs.Stated.{StatesResidual, StatesUnit, StatesWithin}
@@ -26,7 +30,7 @@ use Rattle.direction_table.specs.declared.unit.AngleUnit.TheVariants.{Gon, Degre
 
 -- What is asked for, with the paths of its files.
 abbrev pub Asked : Type 0
-Asked = Request (Bor (List ℕ))
+Asked = Request (Bor (List ℕ)) (Bor (List ℕ))
 
 -- A station of a field file is asked for: the path of the file, the station's name, and the limits
 -- of face differences.
@@ -36,31 +40,38 @@ pub record AsksOfStation (found : Found) (gsi station : List ℕ) (limits : Face
   pub of_station : IsGiven found (codes "STATION") station
   pub of_limits : StatesLimits found limits
 
--- What `compare` asks for: a station, the path of the table and its unit, the limit of the
--- comparison or none, and whether digests are printed.
+-- What a result of a station asks for: the station with the limits of its face differences, and the
+-- limit of its residuals, which is the largest where none is stated.
+pub record AsksForResult (found : Found) (gsi station : List ℕ) (limits : ResultLimits)
+    : Type 0 where
+  pub station_of : AsksOfStation found gsi station limits.faces
+  pub of_residuals : HoldsResiduals found limits.residual
+
+-- What `compare` asks for: a result of a station, the path of the table and its unit, the limit of
+-- the comparison or none, and whether digests are printed.
 pub record AsksToCompare (found : Found) (gsi station table : List ℕ) (unit : AngleUnit)
-    (limits : FaceLimits) (within : Option ℕ) (digests : Digests) : Type 0 where
-  pub station_of : AsksOfStation found gsi station limits
+    (limits : ResultLimits) (within : Option ℕ) (digests : Digests) : Type 0 where
+  pub result_of : AsksForResult found gsi station limits
   pub of_table : IsGiven found (codes "TABLE") table
   pub of_unit : StatesUnit found unit
   pub of_within : StatesWithin found within
   pub of_digests : StatesDigests found digests
 
--- What `report` asks for without a table: a station, and whether digests are printed. No limit of a
--- comparison is stated and no unit but gon, and not that it be of rows.
-pub record AsksToReport (found : Found) (gsi station : List ℕ) (limits : FaceLimits)
+-- What `report` asks for without a table: a result of a station, and whether digests are printed.
+-- No limit of a comparison is stated and no unit but gon, and not that it be of rows.
+pub record AsksToReport (found : Found) (gsi station : List ℕ) (limits : ResultLimits)
     (digests : Digests) : Type 0 where
-  pub station_of : AsksOfStation found gsi station limits
+  pub result_of : AsksForResult found gsi station limits
   pub no_table : IsMissing found (codes "table")
   pub no_within : StatesWithin found None
   pub no_degrees : StatesUnit found Gon
   pub of_digests : StatesDigests found digests
   pub of_lines : StatesForm found Lines
 
--- What it asks for as rows: a station, and nothing beside it.
-pub record AsksForReportRows (found : Found) (gsi station : List ℕ) (limits : FaceLimits)
+-- What it asks for as rows: a result of a station, and nothing beside it.
+pub record AsksForReportRows (found : Found) (gsi station : List ℕ) (limits : ResultLimits)
     : Type 0 where
-  pub station_of : AsksOfStation found gsi station limits
+  pub result_of : AsksForResult found gsi station limits
   pub no_table : IsMissing found (codes "table")
   pub no_within : StatesWithin found None
   pub no_degrees : StatesUnit found Gon
@@ -70,8 +81,8 @@ pub record AsksForReportRows (found : Found) (gsi station : List ℕ) (limits : 
 -- What it asks for with a table: all that `compare` asks for, where the table is that of the
 -- option.
 pub record AsksToReportTable (found : Found) (gsi station table : List ℕ) (unit : AngleUnit)
-    (limits : FaceLimits) (within : Option ℕ) (digests : Digests) : Type 0 where
-  pub station_of : AsksOfStation found gsi station limits
+    (limits : ResultLimits) (within : Option ℕ) (digests : Digests) : Type 0 where
+  pub result_of : AsksForResult found gsi station limits
   pub of_table : IsGiven found (codes "table") table
   pub of_unit : StatesUnit found unit
   pub of_within : StatesWithin found within
@@ -88,6 +99,18 @@ pub record AsksToCheck (found : Found) (gsi sheet : List ℕ) (limits : FaceLimi
   pub of_residual : StatesResidual found residual
   pub of_digests : StatesDigests found digests
 
+-- What `mark` asks for: the path of the field file and that of its copy or none, the name of its one
+-- station or none, how many sets were read to the end and how many targets they have, where that is
+-- stated, and whether stations with a fault stay outside.
+pub record AsksToMark (found : Found) (gsi : List ℕ) (copy station : Option (List ℕ))
+    (sets targets : Option ℕ) (others : Bool) : Type 0 where
+  pub field_file : IsGiven found (codes "GSI") gsi
+  pub of_copy : first_value found (codes "COPY") ≡ copy
+  pub of_name : StatesName found station
+  pub of_sets : StatesCount found (codes "sets") sets
+  pub of_targets : StatesCount found (codes "targets") targets
+  pub of_others : StatesOthers found others
+
 -- What a subcommand of this name asks for, by what is found of the words after it: each its own
 -- request.
 abbrev pub AsksFor : Text → Found → Asked → Type 0
@@ -95,10 +118,10 @@ AsksFor name found (request.Compare gsi station table unit limits within digests
     (name ≡ codes "compare")
     × AsksToCompare found gsi.now station.now table.now unit limits within digests
 AsksFor name found (request.Differences gsi station table unit limits) =
-    (name ≡ codes "differences") × AsksOfStation found gsi.now station.now limits
+    (name ≡ codes "differences") × AsksForResult found gsi.now station.now limits
     × IsGiven found (codes "TABLE") table.now × StatesUnit found unit
 AsksFor name found (request.Directions gsi station limits decimals) =
-    (name ≡ codes "directions") × AsksOfStation found gsi.now station.now limits
+    (name ≡ codes "directions") × AsksForResult found gsi.now station.now limits
     × StatesNumber found (codes "decimals") decimals
 AsksFor name found (request.Residuals gsi station limits) =
     (name ≡ codes "residuals") × AsksOfStation found gsi.now station.now limits
@@ -113,8 +136,9 @@ AsksFor name found (request.Check gsi sheet limits residual digests) =
     (name ≡ codes "check") × AsksToCheck found gsi.now sheet.now limits residual digests
 AsksFor name found (request.Means gsi station limits) =
     (name ≡ codes "means") × AsksOfStation found gsi.now station.now limits
-AsksFor name found (request.Mark gsi station) =
-    (name ≡ codes "mark") × IsGiven found (codes "GSI") gsi.now × StatesName found station
+AsksFor name found (request.Mark gsi copy station sets targets others) =
+    (name ≡ codes "mark")
+    × AsksToMark found gsi.now (option_map (λ path. path.now) copy) station sets targets others
 AsksFor name found (request.List gsi limits form) =
     (name ≡ codes "list") × IsGiven found (codes "GSI") gsi.now
     × StatesLimits found limits × StatesForm found form
@@ -128,18 +152,23 @@ abbrev pub LacksStation : Found → Type 0
 LacksStation found =
     IsMissing found (codes "GSI") ⊎ IsMissing found (codes "STATION") ⊎ StatesNoLimits found
 
+-- No result of a station can be asked for: no station can be, or a residual limit is stated that
+-- may not be.
+abbrev pub LacksResult : Found → Type 0
+LacksResult found = LacksStation found ⊎ StatesNoResidual found
+
 -- What `compare` needs isn't found.
 abbrev pub LacksToCompare : Found → Type 0
 LacksToCompare found =
-    LacksStation found ⊎ IsMissing found (codes "TABLE") ⊎ StatesNoWithin found
+    LacksResult found ⊎ IsMissing found (codes "TABLE") ⊎ StatesNoWithin found
 
 -- What `differences` needs isn't found.
 abbrev pub LacksForDifferences : Found → Type 0
-LacksForDifferences found = LacksStation found ⊎ IsMissing found (codes "TABLE")
+LacksForDifferences found = LacksResult found ⊎ IsMissing found (codes "TABLE")
 
 -- What `directions` needs isn't found.
 abbrev pub LacksForDirections : Found → Type 0
-LacksForDirections found = LacksStation found ⊎ StatesNoNumber found (codes "decimals") 1 8
+LacksForDirections found = LacksResult found ⊎ StatesNoNumber found (codes "decimals") 1 8
 
 -- A limit of a comparison is stated, or that a table is in degrees, and no table.
 abbrev pub SpeaksOfNoTable : Found → Type 0
@@ -159,7 +188,7 @@ HasMoreThanRows found =
 -- What `report` needs isn't found, or what it has doesn't go together.
 abbrev pub LacksToReport : Found → Type 0
 LacksToReport found =
-    LacksStation found ⊎ StatesNoWithin found ⊎ SpeaksOfNoTable found ⊎ HasMoreThanRows found
+    LacksResult found ⊎ StatesNoWithin found ⊎ SpeaksOfNoTable found ⊎ HasMoreThanRows found
 
 -- What `check` needs isn't found.
 abbrev pub LacksToCheck : Found → Type 0
@@ -169,6 +198,8 @@ LacksToCheck found = IsMissing found (codes "GSI") ⊎ IsMissing found (codes "S
 -- What `mark` needs isn't found.
 abbrev pub LacksToMark : Found → Type 0
 LacksToMark found = IsMissing found (codes "GSI") ⊎ StatesNoName found
+    ⊎ StatesNoCount found (codes "sets") MOST_SETS
+    ⊎ StatesNoCount found (codes "targets") MOST_TARGETS
 
 -- What `list` needs isn't found.
 abbrev pub LacksForList : Found → Type 0

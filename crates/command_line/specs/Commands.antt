@@ -1,12 +1,14 @@
 -- The grammar of the command line: the commands, and the arguments and options of each, in the
 -- order in which they are read.
-use Rattle.std.specs.Prelude.{◌∷◌, [], ℕ, Bool, pos, true, false, List, Some, codes}
-use Rattle.std.specs.List.{list_all}
+use Rattle.std.specs.Prelude.{◌∷◌, [], ℕ, pos, true, false, List, Some, codes}
+use Rattle.adjust_kernel.specs.declared.bounds.TheConstants.{MOST_SETS, MOST_TARGETS}
 use Rattle.clap.specs.Lexer.{usize_max}
 use Rattle.clap.specs.Simple.{new_shape}
 use Rattle.clap.specs.Words.{App, Rule, Shape, Text, new_rule}
 use Rattle.clap.specs.declared.builder.action.ArgAction.TheVariants.{Set, SetTrue, Append}
 use Rattle.clap.specs.declared.builder.value_parser.ValueParser.TheVariants.{NonEmptyString, Signed}
+use Rattle.command_line.specs.declared.arguments.Argument.{Argument}
+use Rattle.command_line.specs.declared.arguments.Argument.TheVariants as argument
 use Rattle.command_line.specs.declared.commands.Subcommand.{Subcommand}
 use Rattle.command_line.specs.declared.commands.Subcommand.TheVariants as command
 
@@ -17,20 +19,6 @@ given_rule id = record (new_rule id) { required = true; action = Some Set }
 -- A path that must be given: one word, and not the empty one.
 abbrev pub path_rule : Text → Rule
 path_rule id = record (given_rule id) { parser = Some NonEmptyString }
-
--- An option `--id N`, which may be left out, of a whole number from a smallest up to a largest.
-abbrev pub number_rule : Text → ℕ → ℕ → Rule
-number_rule id smallest largest = record (new_rule id) {
-  long = Some id;
-  action = Some Set;
-  value_names = 1;
-  parser = Some (Signed (pos smallest) (pos largest));
-}
-
--- The same, with the number that stands where it is left out.
-abbrev pub usual_rule : Text → ℕ → ℕ → Text → Rule
-usual_rule id smallest largest usual =
-    record (number_rule id smallest largest) { defaults = usual ∷ [] }
 
 -- An option `--id TEXT`, which may be left out: one text.
 abbrev pub text_rule : Text → Rule
@@ -52,7 +40,7 @@ two_c_rule = face_limit_rule (codes "two-c")
 abbrev pub two_i_rule : Rule
 two_i_rule = face_limit_rule (codes "two-i")
 
--- The limit of residuals: none where it is left out.
+-- The limit of residuals: no text stands where it is left out.
 abbrev pub residual_rule : Rule
 residual_rule = text_rule (codes "residual")
 
@@ -60,9 +48,25 @@ residual_rule = text_rule (codes "residual")
 abbrev pub within_rule : Rule
 within_rule = text_rule (codes "within")
 
--- How many decimals a direction is written with: 6 where it is left out.
+-- How many decimals a direction is written with, a whole number from 1 up to 8: 6 where it is left
+-- out.
 abbrev pub decimals_rule : Rule
-decimals_rule = usual_rule (codes "decimals") 1 8 (codes "6")
+decimals_rule = record (text_rule (codes "decimals")) {
+  parser = Some (Signed (pos 1) (pos 8));
+  defaults = codes "6" ∷ [];
+}
+
+-- An option `--id N`, which may be left out: a whole number from 1 up to a largest.
+abbrev pub count_rule : Text → ℕ → Rule
+count_rule id largest = record (text_rule id) { parser = Some (Signed (pos 1) (pos largest)) }
+
+-- The option `--sets N`: how many sets were read to the end.
+abbrev pub sets_rule : Rule
+sets_rule = count_rule (codes "sets") MOST_SETS
+
+-- The option `--targets N`: how many targets they have.
+abbrev pub targets_rule : Rule
+targets_rule = count_rule (codes "targets") MOST_TARGETS
 
 -- A flag `--id`.
 abbrev pub flag_rule : Text → Rule
@@ -71,6 +75,10 @@ flag_rule id = record (new_rule id) { long = Some id; action = Some SetTrue }
 -- The flag `--sha256`: digests are printed.
 abbrev pub digests_rule : Rule
 digests_rule = flag_rule (codes "sha256")
+
+-- The flag `--others`: stations with a fault stay outside.
+abbrev pub others_rule : Rule
+others_rule = flag_rule (codes "others")
 
 -- The flag `--csv`: rows are printed, as CSV.
 abbrev pub csv_rule : Rule
@@ -87,6 +95,10 @@ stated_table_rule = record (text_rule (codes "table")) { parser = Some NonEmptyS
 -- The path of the field file.
 abbrev pub field_file_rule : Rule
 field_file_rule = path_rule (codes "GSI")
+
+-- The path of the copy of a field file, which may be left out: one word, and not the empty one.
+abbrev pub copy_rule : Rule
+copy_rule = record (new_rule (codes "COPY")) { action = Some Set; parser = Some NonEmptyString }
 
 -- The name of the station.
 abbrev pub station_rule : Rule
@@ -111,9 +123,27 @@ fault_rule = record (new_rule (codes "FAULT")) {
   range = Some (record { start_inclusive = 0; end_inclusive = usize_max });
 }
 
--- None of these rules changes how words are read.
-abbrev pub are_simple : List Rule → Bool
-are_simple = list_all (λ rule. rule.is_simple)
+-- The rule of each argument and option.
+abbrev pub rule_for : Argument → Rule
+rule_for argument.FieldFile = field_file_rule
+rule_for argument.Copy = copy_rule
+rule_for argument.Station = station_rule
+rule_for argument.Sheet = sheet_rule
+rule_for argument.Table = table_rule
+rule_for argument.Fault = fault_rule
+rule_for argument.TwoC = two_c_rule
+rule_for argument.TwoI = two_i_rule
+rule_for argument.Residual = residual_rule
+rule_for argument.Within = within_rule
+rule_for argument.Degrees = degrees_rule
+rule_for argument.Decimals = decimals_rule
+rule_for argument.Digests = digests_rule
+rule_for argument.Rows = csv_rule
+rule_for argument.StatedTable = stated_table_rule
+rule_for argument.StatedName = stated_name_rule
+rule_for argument.StatedSets = sets_rule
+rule_for argument.StatedTargets = targets_rule
+rule_for argument.Others = others_rule
 
 -- A command of this name, with these arguments and options.
 abbrev pub of_rules : Text → List Rule → Shape
@@ -127,18 +157,19 @@ alone s = record { top = s; subs = [] }
 abbrev pub compare_words : Shape
 compare_words = of_rules (codes "compare")
     (field_file_rule ∷ station_rule ∷ table_rule ∷ degrees_rule
-    ∷ two_c_rule ∷ two_i_rule ∷ within_rule ∷ digests_rule ∷ [])
+    ∷ two_c_rule ∷ two_i_rule ∷ residual_rule ∷ within_rule ∷ digests_rule ∷ [])
 
 -- `differences GSI STATION TABLE`
 abbrev pub differences_words : Shape
 differences_words = of_rules (codes "differences")
     (field_file_rule ∷ station_rule ∷ table_rule ∷ degrees_rule
-    ∷ two_c_rule ∷ two_i_rule ∷ [])
+    ∷ two_c_rule ∷ two_i_rule ∷ residual_rule ∷ [])
 
 -- `directions GSI STATION`
 abbrev pub directions_words : Shape
 directions_words = of_rules (codes "directions")
-    (field_file_rule ∷ station_rule ∷ two_c_rule ∷ two_i_rule ∷ decimals_rule ∷ [])
+    (field_file_rule ∷ station_rule
+    ∷ two_c_rule ∷ two_i_rule ∷ residual_rule ∷ decimals_rule ∷ [])
 
 -- `residuals GSI STATION`
 abbrev pub residuals_words : Shape
@@ -149,8 +180,8 @@ residuals_words =
 abbrev pub report_words : Shape
 report_words = of_rules (codes "report")
     (field_file_rule ∷ station_rule
-    ∷ two_c_rule ∷ two_i_rule ∷ stated_table_rule ∷ degrees_rule ∷ within_rule ∷ digests_rule
-    ∷ csv_rule ∷ [])
+    ∷ two_c_rule ∷ two_i_rule ∷ residual_rule
+    ∷ stated_table_rule ∷ degrees_rule ∷ within_rule ∷ digests_rule ∷ csv_rule ∷ [])
 
 -- `check GSI SHEET`
 abbrev pub check_words : Shape
@@ -163,9 +194,11 @@ abbrev pub means_words : Shape
 means_words =
     of_rules (codes "means") (field_file_rule ∷ station_rule ∷ two_c_rule ∷ two_i_rule ∷ [])
 
--- `mark GSI`
+-- `mark GSI`, or `mark GSI COPY`
 abbrev pub mark_words : Shape
-mark_words = of_rules (codes "mark") (field_file_rule ∷ stated_name_rule ∷ [])
+mark_words = of_rules (codes "mark")
+    (field_file_rule ∷ copy_rule ∷ stated_name_rule ∷ sets_rule ∷ targets_rule ∷ others_rule
+    ∷ [])
 
 -- `list GSI`
 abbrev pub list_words : Shape

@@ -1,6 +1,7 @@
 -- What is read of the words after a subcommand's name: the texts, limits and numbers that a parse
 -- found.
-use Rattle.std.specs.Prelude.{◌≡◌, ◌≢◌, ◌≤◌, ℕ, IsSome, List, Option, Some, None, codes}
+use Rattle.std.specs.Prelude.{◌≡◌, ◌≢◌, ◌≤◌, ◌⊎◌, ℕ, Bool, true, false, IsSome, List, Option, Some}
+use Rattle.std.specs.Prelude.{None, codes}
 use Rattle.std.specs.Str.Parse.{IsNumeral, digits_value, without_leading_plus}
 use Rattle.clap.specs.Words.{one_text, matched_of, first_value}
 use Rattle.clap.specs.declared.parser.matches.Found.{Found}
@@ -69,6 +70,11 @@ abbrev pub StatesNoResidual : Found → Type 0
 StatesNoResidual found = IsSome (matched_of found (codes "residual"))
     × NoLimitIsStated found (codes "residual") HalfUnit LARGEST_RESIDUAL_LIMIT
 
+-- The residuals of a result are held to this limit: it is stated, or none is and it is the largest.
+abbrev pub HoldsResiduals : Found → ℕ → Type 0
+HoldsResiduals found limit = StatesResidual found (Some limit)
+    ⊎ (StatesResidual found None × (limit ≡ LARGEST_RESIDUAL_LIMIT))
+
 -- This limit of a comparison is stated, in units of 0.000001 gon, and is none too large; or none is
 -- stated.
 abbrev pub StatesWithin : Found → Option ℕ → Type 0
@@ -97,6 +103,12 @@ abbrev pub StatesUnit : Found → AngleUnit → Type 0
 StatesUnit found Degrees = one_text found (codes "degrees") ≡ Some (codes "true")
 StatesUnit found Gon = one_text found (codes "degrees") ≢ Some (codes "true")
 
+-- Stations with a fault stay outside where the flag stands, and only there: its value is then the
+-- text `true`.
+abbrev pub StatesOthers : Found → Bool → Type 0
+StatesOthers found true = one_text found (codes "others") ≡ Some (codes "true")
+StatesOthers found false = one_text found (codes "others") ≢ Some (codes "true")
+
 -- This name of a station is stated, or none.
 abbrev pub StatesName : Found → Option (List ℕ) → Type 0
 StatesName found None = IsMissing found (codes "station")
@@ -105,3 +117,13 @@ StatesName found (Some name) = IsGiven found (codes "station") name × IsName na
 -- A text is stated that no station can have for a name.
 abbrev pub StatesNoName : Found → Type 0
 StatesNoName found = (text : List ℕ) × IsGiven found (codes "station") text × ¬ (IsName text)
+
+-- This number is stated by the option of this id, or none is.
+abbrev pub StatesCount : Found → List ℕ → Option ℕ → Type 0
+StatesCount found id None = matched_of found id ≡ None
+StatesCount found id (Some n) = StatesNumber found id n
+
+-- What is stated by the option of this id is no number from 1 up to a largest.
+abbrev pub StatesNoCount : Found → List ℕ → ℕ → Type 0
+StatesNoCount found id largest =
+    IsSome (matched_of found id) × StatesNoNumber found id 1 largest

@@ -1,17 +1,15 @@
 //! The arguments and options of the commands, as the grammar has them, and their help.
 
-ghost use Rattle.std.specs.Prelude.{◌≡◌};
+ghost use Rattle.std.specs.Prelude.{◌≡◌, ◌<◌, ◌^◌};
 ghost use Rattle.clap.specs.Words.{rule_of};
-ghost use Rattle.command_line.specs.Commands.{csv_rule, decimals_rule, degrees_rule, digests_rule};
-ghost use Rattle.command_line.specs.Commands.{face_limit_rule, fault_rule, field_file_rule};
-ghost use Rattle.command_line.specs.Commands.{flag_rule, given_rule, number_rule, path_rule};
-ghost use Rattle.command_line.specs.Commands.{residual_rule};
-ghost use Rattle.command_line.specs.Commands.{sheet_rule};
-ghost use Rattle.command_line.specs.Commands.{stated_name_rule, stated_table_rule, station_rule};
-ghost use Rattle.command_line.specs.Commands.{table_rule};
-ghost use Rattle.command_line.specs.Commands.{text_rule, two_c_rule, two_i_rule, within_rule};
+ghost use Rattle.command_line.specs.Commands.{copy_rule, count_rule, decimals_rule};
+ghost use Rattle.command_line.specs.Commands.{face_limit_rule};
+ghost use Rattle.command_line.specs.Commands.{fault_rule};
+ghost use Rattle.command_line.specs.Commands.{flag_rule, given_rule, path_rule, rule_for};
+ghost use Rattle.command_line.specs.Commands.{stated_table_rule, text_rule};
 
 use crate::help;
+use adjust_kernel::{MOST_SETS, MOST_TARGETS};
 use clap::builder::ValueParser;
 use clap::{Arg, ArgAction};
 use direction_table::MOST_WRITTEN;
@@ -19,6 +17,9 @@ use std::alloc::Global;
 
 /// The path of the field file.
 pub(crate) const GSI: &str = "GSI";
+
+/// The path of the copy of a field file.
+pub(crate) const COPY: &str = "COPY";
 
 /// The path of the sheet.
 pub(crate) const SHEET: &str = "SHEET";
@@ -62,67 +63,189 @@ pub(crate) const STATED_TABLE: &str = "table";
 /// The option of the name of the file's one station.
 pub(crate) const STATED_NAME: &str = "station";
 
+/// The option of how many sets were read to the end.
+pub(crate) const SETS: &str = "sets";
+
+/// The option of how many targets they have.
+pub(crate) const TARGETS: &str = "targets";
+
+/// The flag that leaves stations with a fault outside.
+pub(crate) const OTHERS: &str = "others";
+
 /// The limit of a face difference that no option states.
 const USUAL_LIMIT: &str = "20mgon";
 
 /// How many decimals a direction is written with where no option states it.
 const USUAL_DECIMALS: &str = "6";
 
-/// The argument of the path of the field file.
-pub(crate) fn field_file<'a>(alloc: Global) -> Arg<'a>
-    ensures { rule_of result ≡ field_file_rule }
-{
-    path(alloc, GSI).help("The field file, in GSI-8, GSI-16 or both")
+/// An argument or an option of a command.
+#[derive(Clone, Copy)]
+pub(crate) enum Argument {
+    /// The path of the field file.
+    FieldFile,
+
+    /// The path of the copy of a field file.
+    Copy,
+
+    /// The name of the station.
+    Station,
+
+    /// The path of the sheet.
+    Sheet,
+
+    /// The path of the table of directions.
+    Table,
+
+    /// The words of a fault.
+    Fault,
+
+    /// The limit of 2c.
+    TwoC,
+
+    /// The limit of 2i.
+    TwoI,
+
+    /// The limit of residuals.
+    Residual,
+
+    /// How near a table must be.
+    Within,
+
+    /// That a table states degrees.
+    Degrees,
+
+    /// How many decimals a direction is written with.
+    Decimals,
+
+    /// That digests are printed.
+    Digests,
+
+    /// That rows are printed.
+    Rows,
+
+    /// The path of a table, as an option.
+    StatedTable,
+
+    /// The name of the file's one station.
+    StatedName,
+
+    /// How many sets were read to the end.
+    StatedSets,
+
+    /// How many targets they have.
+    StatedTargets,
+
+    /// That stations with a fault stay outside.
+    Others,
+}
+
+impl Argument {
+    /// The argument, with its help.
+    pub(crate) fn with_help<'a>(self, alloc: Global) -> Arg<'a>
+        ensures { rule_of result ≡ rule_for self }
+    {
+        self.alone(alloc)
+            .help(self.help())
+            .long_help(self.long_help())
+    }
+
+    /// The argument before it has its help.
+    fn alone<'a>(self, alloc: Global) -> Arg<'a>
+        ensures { rule_of result ≡ rule_for self }
+    {
+        match self {
+            Argument::FieldFile => path(alloc, GSI),
+            Argument::Copy => copy_path(alloc),
+            Argument::Station => given(alloc, STATION),
+            Argument::Sheet => path(alloc, SHEET),
+            Argument::Table => path(alloc, TABLE),
+            Argument::Fault => words_of_fault(alloc),
+            Argument::TwoC => face_limit(alloc, TWO_C),
+            Argument::TwoI => face_limit(alloc, TWO_I),
+            Argument::Residual => text_option(alloc, RESIDUAL, "LIMIT"),
+            Argument::Within => text_option(alloc, WITHIN, "LIMIT"),
+            Argument::Degrees => flag(alloc, DEGREES),
+            Argument::Decimals => decimals(alloc),
+            Argument::Digests => flag(alloc, SHA256),
+            Argument::Rows => flag(alloc, CSV),
+            Argument::StatedTable => stated_table(alloc),
+            Argument::StatedName => text_option(alloc, STATED_NAME, "NAME"),
+            Argument::StatedSets => count(alloc, SETS, MOST_SETS),
+            Argument::StatedTargets => count(alloc, TARGETS, MOST_TARGETS),
+            Argument::Others => flag(alloc, OTHERS),
+        }
+    }
+
+    /// What `-h` says of it.
+    fn help(self) -> &'static str {
+        match self {
+            Argument::FieldFile => "The field file, in GSI-8, GSI-16 or both",
+            Argument::Copy => "The file that the copy goes to, where none is yet",
+            Argument::Station => "The name of the station",
+            Argument::Sheet => "The sheet, comma-separated text",
+            Argument::Table => help::TABLE_HELP,
+            Argument::Fault => "The name of the fault, or the line of the refusal",
+            Argument::TwoC => help::TWO_C_HELP,
+            Argument::TwoI => help::TWO_I_HELP,
+            Argument::Residual => help::RESIDUAL_HELP,
+            Argument::Within => help::WITHIN_HELP,
+            Argument::Degrees => "Read the directions of the table in degrees, and not in gon",
+            Argument::Decimals => "How many decimals of a gon a direction is written with: 1 to 8",
+            Argument::Digests => "Print the SHA-256 digests of what was read, after the answer",
+            Argument::Rows => "Print rows for other programs, as CSV",
+            Argument::StatedTable => {
+                "A table of directions, which stands beside the adjusted ones"
+            }
+            Argument::StatedName => "The name of the station, of a file without set-up lines",
+            Argument::StatedSets => "How many sets were read to the end at each station: 1 to 40",
+            Argument::StatedTargets => "How many targets these sets have: 1 to 100",
+            Argument::Others =>
+                "Leave stations that are not recognized outside, and mark the others",
+        }
+    }
+
+    /// What `--help` says of it.
+    fn long_help(self) -> &'static str {
+        match self {
+            Argument::TwoC => help::TWO_C_LONG_HELP,
+            Argument::TwoI => help::TWO_I_LONG_HELP,
+            Argument::Residual => help::RESIDUAL_LONG_HELP,
+            Argument::Within => help::WITHIN_LONG_HELP,
+            Argument::Degrees => help::DEGREES_LONG_HELP,
+            Argument::Decimals => help::DECIMALS_LONG_HELP,
+            Argument::Digests => help::SHA256_LONG_HELP,
+            Argument::Rows => help::CSV_LONG_HELP,
+            Argument::StatedTable => help::STATED_TABLE_LONG_HELP,
+            Argument::Copy => help::COPY_LONG_HELP,
+            Argument::StatedName => help::STATION_LONG_HELP,
+            Argument::StatedSets => help::SETS_LONG_HELP,
+            Argument::StatedTargets => help::TARGETS_LONG_HELP,
+            Argument::Others => help::OTHERS_LONG_HELP,
+            Argument::FieldFile
+            | Argument::Station
+            | Argument::Sheet
+            | Argument::Table
+            | Argument::Fault => self.help(),
+        }
+    }
 }
 
 /// The argument of the words of a fault.
-pub(crate) fn words_of_fault<'a>(alloc: Global) -> Arg<'a>
+fn words_of_fault<'a>(alloc: Global) -> Arg<'a>
     ensures { rule_of result ≡ fault_rule }
 {
     Arg::new(alloc, FAULT)
         .num_args(0..)
         .action(ArgAction::Append)
-        .help("The name of the fault, or the line of the refusal")
 }
 
-/// The argument of the station's name.
-pub(crate) fn station_name<'a>(alloc: Global) -> Arg<'a>
-    ensures { rule_of result ≡ station_rule }
+/// The path of the copy of a field file, which may be left out and is not empty.
+fn copy_path<'a>(alloc: Global) -> Arg<'a>
+    ensures { rule_of result ≡ copy_rule }
 {
-    given(alloc, STATION).help("The name of the station")
-}
-
-/// The argument of the path of the sheet.
-pub(crate) fn sheet_file<'a>(alloc: Global) -> Arg<'a>
-    ensures { rule_of result ≡ sheet_rule }
-{
-    path(alloc, SHEET).help("The sheet, comma-separated text")
-}
-
-/// The argument of the path of the table.
-pub(crate) fn table_file<'a>(alloc: Global) -> Arg<'a>
-    ensures { rule_of result ≡ table_rule }
-{
-    path(alloc, TABLE).help(help::TABLE_HELP)
-}
-
-/// The option of the path of a table.
-pub(crate) fn stated_table<'a>(alloc: Global) -> Arg<'a>
-    ensures { rule_of result ≡ stated_table_rule }
-{
-    text_option(alloc, STATED_TABLE, "TABLE")
+    Arg::new(alloc, COPY)
+        .action(ArgAction::Set)
         .value_parser(ValueParser::NonEmptyString)
-        .help("A table of directions, which stands beside the adjusted ones")
-        .long_help(help::STATED_TABLE_LONG_HELP)
-}
-
-/// The option with the name of the file's one station.
-pub(crate) fn stated_name<'a>(alloc: Global) -> Arg<'a>
-    ensures { rule_of result ≡ stated_name_rule }
-{
-    text_option(alloc, STATED_NAME, "NAME")
-        .help("The name of the station, of a file without set-up lines")
-        .long_help(help::STATION_LONG_HELP)
 }
 
 /// A path that must be given, and is not empty.
@@ -139,85 +262,35 @@ fn given<'a>(alloc: Global, name: &'a str) -> Arg<'a>
     Arg::new(alloc, name).required(true).action(ArgAction::Set)
 }
 
-/// The option of the limit of 2c.
-pub(crate) fn two_c<'a>(alloc: Global) -> Arg<'a>
-    ensures { rule_of result ≡ two_c_rule }
+/// The option of the path of a table.
+fn stated_table<'a>(alloc: Global) -> Arg<'a>
+    ensures { rule_of result ≡ stated_table_rule }
 {
-    face_limit(alloc, TWO_C)
-        .help(help::TWO_C_HELP)
-        .long_help(help::TWO_C_LONG_HELP)
-}
-
-/// The option of the limit of 2i.
-pub(crate) fn two_i<'a>(alloc: Global) -> Arg<'a>
-    ensures { rule_of result ≡ two_i_rule }
-{
-    face_limit(alloc, TWO_I)
-        .help(help::TWO_I_HELP)
-        .long_help(help::TWO_I_LONG_HELP)
+    text_option(alloc, STATED_TABLE, "TABLE").value_parser(ValueParser::NonEmptyString)
 }
 
 /// The option of a limit of face differences.
 fn face_limit<'a>(alloc: Global, name: &'a str) -> Arg<'a>
     ensures { rule_of result ≡ face_limit_rule name.entry.now }
 {
-    limit(alloc, name).default_value(USUAL_LIMIT)
-}
-
-/// The option of the limit of residuals.
-pub(crate) fn residual_limit<'a>(alloc: Global) -> Arg<'a>
-    ensures { rule_of result ≡ residual_rule }
-{
-    limit(alloc, RESIDUAL)
-        .help(help::RESIDUAL_HELP)
-        .long_help(help::RESIDUAL_LONG_HELP)
-}
-
-/// The option of how near a table must be.
-pub(crate) fn within<'a>(alloc: Global) -> Arg<'a>
-    ensures { rule_of result ≡ within_rule }
-{
-    limit(alloc, WITHIN)
-        .help(help::WITHIN_HELP)
-        .long_help(help::WITHIN_LONG_HELP)
-}
-
-/// The flag that says that a table states degrees.
-pub(crate) fn degrees_flag<'a>(alloc: Global) -> Arg<'a>
-    ensures { rule_of result ≡ degrees_rule }
-{
-    flag(alloc, DEGREES)
-        .help("Read the directions of the table in degrees, and not in gon")
-        .long_help(help::DEGREES_LONG_HELP)
+    text_option(alloc, name, "LIMIT").default_value(USUAL_LIMIT)
 }
 
 /// The option of how many decimals a direction is written with.
-pub(crate) fn decimals<'a>(alloc: Global) -> Arg<'a>
+fn decimals<'a>(alloc: Global) -> Arg<'a>
     ensures { rule_of result ≡ decimals_rule }
 {
-    number(alloc, DECIMALS, 1, MOST_WRITTEN)
-        .value_name("K")
+    text_option(alloc, DECIMALS, "K")
+        .value_parser(ValueParser::Signed(1, i64::from(MOST_WRITTEN)))
         .default_value(USUAL_DECIMALS)
-        .help("How many decimals of a gon a direction is written with: 1 to 8")
-        .long_help(help::DECIMALS_LONG_HELP)
 }
 
-/// The flag that prints digests.
-pub(crate) fn digests_flag<'a>(alloc: Global) -> Arg<'a>
-    ensures { rule_of result ≡ digests_rule }
+/// The option of a whole number from 1 up to a largest.
+fn count<'a>(alloc: Global, name: &'a str, largest: usize) -> Arg<'a>
+    requires { largest < 2 ^ 32 }
+    ensures { rule_of result ≡ count_rule name.entry.now largest }
 {
-    flag(alloc, SHA256)
-        .help("Print the SHA-256 digests of what was read, after the answer")
-        .long_help(help::SHA256_LONG_HELP)
-}
-
-/// The flag that prints rows.
-pub(crate) fn csv_flag<'a>(alloc: Global) -> Arg<'a>
-    ensures { rule_of result ≡ csv_rule }
-{
-    flag(alloc, CSV)
-        .help("Print rows for other programs, as CSV")
-        .long_help(help::CSV_LONG_HELP)
+    text_option(alloc, name, "N").value_parser(ValueParser::Signed(1, largest as i64))
 }
 
 /// An option without a value.
@@ -225,13 +298,6 @@ fn flag<'a>(alloc: Global, name: &'a str) -> Arg<'a>
     ensures { rule_of result ≡ flag_rule name.entry.now }
 {
     Arg::new(alloc, name).long(name).action(ArgAction::SetTrue)
-}
-
-/// An option with a limit.
-fn limit<'a>(alloc: Global, name: &'a str) -> Arg<'a>
-    ensures { rule_of result ≡ text_rule name.entry.now }
-{
-    text_option(alloc, name, "LIMIT")
 }
 
 /// An option with a text, which help calls by this name.
@@ -242,15 +308,4 @@ fn text_option<'a>(alloc: Global, name: &'a str, value_name: &'a str) -> Arg<'a>
         .long(name)
         .value_name(value_name)
         .action(ArgAction::Set)
-}
-
-/// An option with a number from a smallest up to a largest.
-fn number<'a>(alloc: Global, name: &'a str, smallest: u32, largest: u32) -> Arg<'a>
-    ensures { rule_of result ≡ number_rule name.entry.now smallest largest }
-{
-    Arg::new(alloc, name)
-        .long(name)
-        .value_name("N")
-        .action(ArgAction::Set)
-        .value_parser(ValueParser::Signed(i64::from(smallest), i64::from(largest)))
 }

@@ -31,7 +31,7 @@ pub fn asked_for<'a>(
     version: &'a str,
     table: &[&'static [Explanation]],
     words: &'a [String],
-) -> Result<Request<'a, &'a str>, Error>
+) -> Result<Request<'a, &'a str, &'a str>, Error>
     ensures asked { IfOk result (IsAskedForBy (map string_bytes words.now) table.now) }
     ensures mistake { IfErr result (IsMistakeIn (map string_bytes words.now) table.now) }
 {
@@ -71,7 +71,7 @@ fn request_named<'a>(
     table: &[&'static [Explanation]],
     called: &str,
     matches: &ArgMatches<'a>,
-) -> Result<Request<'a, &'a str>, Error>
+) -> Result<Request<'a, &'a str, &'a str>, Error>
     ensures asked { IfOk result (IsAskedFor (subcommand_rows_of matches.now) table.now) }
     ensures mistake { IfErr result (λ error. (kind_of error ≡ ErrorKind.OutOfMemory)
         ⊎ NamesMistake (subcommand_rows_of matches.now) table.now error) }
@@ -92,7 +92,7 @@ fn explanation_asked_for<'a>(
     table: &[&'static [Explanation]],
     called: &str,
     found: &ArgMatches<'a>,
-) -> Result<Request<'a, &'a str>, Error>
+) -> Result<Request<'a, &'a str, &'a str>, Error>
     ensures asked { IfOk result (AsksToExplain (found_of found.now) table.now) }
     ensures mistake { IfErr result (IsMistakenName (found_of found.now) table.now) }
 {

@@ -1,22 +1,15 @@
 //! The commands of the program, as the grammar has them, and their help.
 
-ghost use Rattle.std.specs.Prelude.{◌≡◌, IfOk, IfErr, IsOkAnd, map, true};
-ghost use Rattle.clap.specs.Words.{app_of, kind_of, rule_of};
-ghost use Rattle.command_line.specs.Commands.{alone, are_simple, check_words, compare_words};
-ghost use Rattle.command_line.specs.Commands.{differences_words, directions_words, explain_words};
-ghost use Rattle.command_line.specs.Commands.{list_words, mark_words, means_words, of_rules};
-ghost use Rattle.command_line.specs.Commands.{program_alone};
-ghost use Rattle.command_line.specs.Commands.{report_words, residuals_words, the_program};
-ghost use Rattle.command_line.specs.Commands.{words_of, words_words};
+ghost use Rattle.std.specs.Prelude.{◌≡◌, IfOk, IfErr, map};
+ghost use Rattle.clap.specs.Words.{app_of, kind_of, new_app};
+ghost use Rattle.command_line.specs.Commands.{alone, program_alone, rule_for, the_program};
+ghost use Rattle.command_line.specs.Commands.{words_of};
 
-use crate::arguments::{
-    csv_flag, decimals, degrees_flag, digests_flag, field_file, residual_limit, sheet_file,
-    stated_name, stated_table, station_name, table_file, two_c, two_i, within, words_of_fault,
-};
+use crate::arguments::Argument;
 use crate::help;
 use clap::error::ErrorKind;
-use clap::{Arg, Command, Error};
-use std::alloc::{AllocFailed, Global};
+use clap::{Command, Error};
+use std::alloc::Global;
 
 /// A command of the program.
 #[derive(Clone, Copy)]
@@ -32,6 +25,19 @@ enum Subcommand {
     List,
     Words,
     Explain,
+}
+
+/// What the help of a command says.
+#[derive(Clone, Copy)]
+struct Texts {
+    /// In the list of commands, and to `-h`.
+    about: &'static str,
+
+    /// To `--help`.
+    long_about: &'static str,
+
+    /// After all: its statuses and an example.
+    after: &'static str,
 }
 
 impl Subcommand {
@@ -53,6 +59,86 @@ impl Subcommand {
             Subcommand::Explain => "explain",
         }
     }
+
+    /// Its arguments and options, in the order in which they are read and help lists them.
+    fn arguments(self) -> &'static [Argument]
+        ensures { map rule_for result.now ≡ (words_of self).rules }
+    {
+        match self {
+            Subcommand::Compare => &COMPARE,
+            Subcommand::Differences => &DIFFERENCES,
+            Subcommand::Directions => &DIRECTIONS,
+            Subcommand::Residuals => &RESIDUALS,
+            Subcommand::Report => &REPORT,
+            Subcommand::Check => &CHECK,
+            Subcommand::Means => &MEANS,
+            Subcommand::Mark => &MARK,
+            Subcommand::List => &LIST,
+            Subcommand::Words => &WORDS,
+            Subcommand::Explain => &EXPLAIN,
+        }
+    }
+
+    /// What its help says.
+    fn texts(self) -> Texts {
+        match self {
+            Subcommand::Compare => Texts {
+                about: help::COMPARE_ABOUT,
+                long_about: help::COMPARE_LONG_ABOUT,
+                after: help::COMPARE_EXAMPLE,
+            },
+            Subcommand::Differences => Texts {
+                about: "Prints by how much a table of directions differs, target by target",
+                long_about: help::DIFFERENCES_LONG_ABOUT,
+                after: help::DIFFERENCES_EXAMPLE,
+            },
+            Subcommand::Directions => Texts {
+                about: "Prints the least-squares directions of a station as a table",
+                long_about: help::DIRECTIONS_LONG_ABOUT,
+                after: help::DIRECTIONS_EXAMPLE,
+            },
+            Subcommand::Residuals => Texts {
+                about: "Prints the adjusted directions and the residuals of a station, row by row",
+                long_about: help::RESIDUALS_LONG_ABOUT,
+                after: help::RESIDUALS_EXAMPLE,
+            },
+            Subcommand::Report => Texts {
+                about: "Prints the protocol of the sets of a station, with readings and residuals",
+                long_about: help::REPORT_LONG_ABOUT,
+                after: help::REPORT_EXAMPLE,
+            },
+            Subcommand::Check => Texts {
+                about: "Checks a sheet against a field file",
+                long_about: help::CHECK_LONG_ABOUT,
+                after: help::CHECK_EXAMPLE,
+            },
+            Subcommand::Means => Texts {
+                about: "Prints the adjusted sheet of a station whose sets are complete",
+                long_about: help::MEANS_LONG_ABOUT,
+                after: help::MEANS_EXAMPLE,
+            },
+            Subcommand::Mark => Texts {
+                about: help::MARK_ABOUT,
+                long_about: help::MARK_LONG_ABOUT,
+                after: help::MARK_EXAMPLE,
+            },
+            Subcommand::List => Texts {
+                about: "Lists the stations of a field file and their two-face directions",
+                long_about: help::LIST_LONG_ABOUT,
+                after: help::LIST_EXAMPLE,
+            },
+            Subcommand::Words => Texts {
+                about: "Prints the words of a field file",
+                long_about: help::WORDS_LONG_ABOUT,
+                after: help::WORDS_EXAMPLE,
+            },
+            Subcommand::Explain => Texts {
+                about: "Explains a fault that a refusal names",
+                long_about: help::EXPLAIN_LONG_ABOUT,
+                after: help::EXPLAIN_EXAMPLE,
+            },
+        }
+    }
 }
 
 /// The commands, in the order in which help lists them.
@@ -69,6 +155,104 @@ const SUBCOMMANDS: [Subcommand; 11] = [
     Subcommand::Words,
     Subcommand::Explain,
 ];
+
+/// The arguments and options of `compare`.
+const COMPARE: [Argument; 9] = [
+    Argument::FieldFile,
+    Argument::Station,
+    Argument::Table,
+    Argument::Degrees,
+    Argument::TwoC,
+    Argument::TwoI,
+    Argument::Residual,
+    Argument::Within,
+    Argument::Digests,
+];
+
+/// The arguments and options of `differences`.
+const DIFFERENCES: [Argument; 7] = [
+    Argument::FieldFile,
+    Argument::Station,
+    Argument::Table,
+    Argument::Degrees,
+    Argument::TwoC,
+    Argument::TwoI,
+    Argument::Residual,
+];
+
+/// The arguments and options of `directions`.
+const DIRECTIONS: [Argument; 6] = [
+    Argument::FieldFile,
+    Argument::Station,
+    Argument::TwoC,
+    Argument::TwoI,
+    Argument::Residual,
+    Argument::Decimals,
+];
+
+/// The arguments and options of `residuals`.
+const RESIDUALS: [Argument; 4] = [
+    Argument::FieldFile,
+    Argument::Station,
+    Argument::TwoC,
+    Argument::TwoI,
+];
+
+/// The arguments and options of `report`.
+const REPORT: [Argument; 10] = [
+    Argument::FieldFile,
+    Argument::Station,
+    Argument::TwoC,
+    Argument::TwoI,
+    Argument::Residual,
+    Argument::StatedTable,
+    Argument::Degrees,
+    Argument::Within,
+    Argument::Digests,
+    Argument::Rows,
+];
+
+/// The arguments and options of `check`.
+const CHECK: [Argument; 6] = [
+    Argument::FieldFile,
+    Argument::Sheet,
+    Argument::TwoC,
+    Argument::TwoI,
+    Argument::Residual,
+    Argument::Digests,
+];
+
+/// The arguments and options of `means`.
+const MEANS: [Argument; 4] = [
+    Argument::FieldFile,
+    Argument::Station,
+    Argument::TwoC,
+    Argument::TwoI,
+];
+
+/// The arguments and options of `mark`.
+const MARK: [Argument; 6] = [
+    Argument::FieldFile,
+    Argument::Copy,
+    Argument::StatedName,
+    Argument::StatedSets,
+    Argument::StatedTargets,
+    Argument::Others,
+];
+
+/// The arguments and options of `list`.
+const LIST: [Argument; 4] = [
+    Argument::FieldFile,
+    Argument::TwoC,
+    Argument::TwoI,
+    Argument::Rows,
+];
+
+/// The arguments and options of `words`.
+const WORDS: [Argument; 1] = [Argument::FieldFile];
+
+/// The arguments and options of `explain`.
+const EXPLAIN: [Argument; 1] = [Argument::Fault];
 
 /// The program with all its commands, in this version.
 pub(crate) fn program<'a>(alloc: Global, version: &'a str) -> Result<Command<'a>, Error>
@@ -112,248 +296,22 @@ fn command_of<'a>(alloc: Global, subcommand: Subcommand) -> Result<Command<'a>, 
     ensures words { IfOk result (λ command. app_of command ≡ alone (words_of subcommand)) }
     ensures memory { IfErr result (λ error. kind_of error ≡ ErrorKind.OutOfMemory) }
 {
-    match subcommand {
-        Subcommand::Compare => compare_command(alloc),
-        Subcommand::Differences => differences_command(alloc),
-        Subcommand::Directions => directions_command(alloc),
-        Subcommand::Residuals => residuals_command(alloc),
-        Subcommand::Report => report_command(alloc),
-        Subcommand::Check => check_command(alloc),
-        Subcommand::Means => means_command(alloc),
-        Subcommand::Mark => mark_command(alloc),
-        Subcommand::List => list_command(alloc),
-        Subcommand::Words => words_command(alloc),
-        Subcommand::Explain => explain_command(alloc),
+    let arguments = subcommand.arguments();
+    let mut command = bare_command(alloc, subcommand);
+    for &argument in arguments {
+        command = command.arg(argument.with_help(alloc))?;
     }
+    Ok(command)
 }
 
-/// A command of this name, with the texts of its help and these arguments, unless there was no
-/// memory for them.
-fn command<'a, T: Drop>(
-    alloc: Global,
-    name: &'a str,
-    about: &'a str,
-    long_about: &'a str,
-    after_help: &'a str,
-    args: Result<Vec<Arg<'a>>, AllocFailed<T>>,
-) -> Result<Command<'a>, Error>
-    ensures words { IfOk result (λ command. IsOkAnd args.entry (λ given.
-        are_simple (map rule_of given.items) ≡ true
-        → app_of command ≡ alone (of_rules name.entry.now (map rule_of given.items)))) }
-    ensures memory { IfErr result (λ error. kind_of error ≡ ErrorKind.OutOfMemory) }
+/// A command before it has arguments.
+fn bare_command<'a>(alloc: Global, subcommand: Subcommand) -> Command<'a>
+    ensures { app_of result ≡ new_app (words_of subcommand).name }
 {
-    let args = args?;
-    let command = Command::new(alloc, name)
-        .about(about)
-        .long_about(long_about)
-        .after_help(after_help);
-    Ok(command.args(args)?)
-}
-
-fn compare_command<'a>(alloc: Global) -> Result<Command<'a>, Error>
-    ensures words { IfOk result (λ command. app_of command ≡ alone compare_words) }
-    ensures memory { IfErr result (λ error. kind_of error ≡ ErrorKind.OutOfMemory) }
-{
-    command(
-        alloc,
-        "compare",
-        "Compares a table of directions with a field file, whatever program printed it",
-        help::COMPARE_LONG_ABOUT,
-        help::COMPARE_EXAMPLE,
-        vec![in alloc;
-            field_file(alloc),
-            station_name(alloc),
-            table_file(alloc),
-            degrees_flag(alloc),
-            two_c(alloc),
-            two_i(alloc),
-            within(alloc),
-            digests_flag(alloc),
-        ],
-    )
-}
-
-fn differences_command<'a>(alloc: Global) -> Result<Command<'a>, Error>
-    ensures words { IfOk result (λ command. app_of command ≡ alone differences_words) }
-    ensures memory { IfErr result (λ error. kind_of error ≡ ErrorKind.OutOfMemory) }
-{
-    command(
-        alloc,
-        "differences",
-        "Prints by how much a table of directions differs, target by target",
-        help::DIFFERENCES_LONG_ABOUT,
-        help::DIFFERENCES_EXAMPLE,
-        vec![in alloc;
-            field_file(alloc),
-            station_name(alloc),
-            table_file(alloc),
-            degrees_flag(alloc),
-            two_c(alloc),
-            two_i(alloc),
-        ],
-    )
-}
-
-fn directions_command<'a>(alloc: Global) -> Result<Command<'a>, Error>
-    ensures words { IfOk result (λ command. app_of command ≡ alone directions_words) }
-    ensures memory { IfErr result (λ error. kind_of error ≡ ErrorKind.OutOfMemory) }
-{
-    command(
-        alloc,
-        "directions",
-        "Prints the least-squares directions of a station as a table",
-        help::DIRECTIONS_LONG_ABOUT,
-        help::DIRECTIONS_EXAMPLE,
-        vec![in alloc;
-            field_file(alloc),
-            station_name(alloc),
-            two_c(alloc),
-            two_i(alloc),
-            decimals(alloc),
-        ],
-    )
-}
-
-fn residuals_command<'a>(alloc: Global) -> Result<Command<'a>, Error>
-    ensures words { IfOk result (λ command. app_of command ≡ alone residuals_words) }
-    ensures memory { IfErr result (λ error. kind_of error ≡ ErrorKind.OutOfMemory) }
-{
-    command(
-        alloc,
-        "residuals",
-        "Prints the adjusted directions and the residuals of a station, row by row",
-        help::RESIDUALS_LONG_ABOUT,
-        help::RESIDUALS_EXAMPLE,
-        vec![in alloc;
-            field_file(alloc),
-            station_name(alloc),
-            two_c(alloc),
-            two_i(alloc),
-        ],
-    )
-}
-
-fn report_command<'a>(alloc: Global) -> Result<Command<'a>, Error>
-    ensures words { IfOk result (λ command. app_of command ≡ alone report_words) }
-    ensures memory { IfErr result (λ error. kind_of error ≡ ErrorKind.OutOfMemory) }
-{
-    command(
-        alloc,
-        "report",
-        "Prints the protocol of the sets of a station, with readings and residuals",
-        help::REPORT_LONG_ABOUT,
-        help::REPORT_EXAMPLE,
-        vec![in alloc;
-            field_file(alloc),
-            station_name(alloc),
-            two_c(alloc),
-            two_i(alloc),
-            stated_table(alloc),
-            degrees_flag(alloc),
-            within(alloc),
-            digests_flag(alloc),
-            csv_flag(alloc),
-        ],
-    )
-}
-
-fn check_command<'a>(alloc: Global) -> Result<Command<'a>, Error>
-    ensures words { IfOk result (λ command. app_of command ≡ alone check_words) }
-    ensures memory { IfErr result (λ error. kind_of error ≡ ErrorKind.OutOfMemory) }
-{
-    command(
-        alloc,
-        "check",
-        "Checks a sheet against a field file",
-        help::CHECK_LONG_ABOUT,
-        help::CHECK_EXAMPLE,
-        vec![in alloc;
-            field_file(alloc),
-            sheet_file(alloc),
-            two_c(alloc),
-            two_i(alloc),
-            residual_limit(alloc),
-            digests_flag(alloc),
-        ],
-    )
-}
-
-fn means_command<'a>(alloc: Global) -> Result<Command<'a>, Error>
-    ensures words { IfOk result (λ command. app_of command ≡ alone means_words) }
-    ensures memory { IfErr result (λ error. kind_of error ≡ ErrorKind.OutOfMemory) }
-{
-    command(
-        alloc,
-        "means",
-        "Prints the adjusted sheet of a station whose sets are complete",
-        help::MEANS_LONG_ABOUT,
-        help::MEANS_EXAMPLE,
-        vec![in alloc;
-            field_file(alloc),
-            station_name(alloc),
-            two_c(alloc),
-            two_i(alloc),
-        ],
-    )
-}
-
-fn mark_command<'a>(alloc: Global) -> Result<Command<'a>, Error>
-    ensures words { IfOk result (λ command. app_of command ≡ alone mark_words) }
-    ensures memory { IfErr result (λ error. kind_of error ≡ ErrorKind.OutOfMemory) }
-{
-    command(
-        alloc,
-        "mark",
-        "Prints a copy of a job without codes, in which codes begin and end the sets",
-        help::MARK_LONG_ABOUT,
-        help::MARK_EXAMPLE,
-        vec![in alloc; field_file(alloc), stated_name(alloc)],
-    )
-}
-
-fn list_command<'a>(alloc: Global) -> Result<Command<'a>, Error>
-    ensures words { IfOk result (λ command. app_of command ≡ alone list_words) }
-    ensures memory { IfErr result (λ error. kind_of error ≡ ErrorKind.OutOfMemory) }
-{
-    command(
-        alloc,
-        "list",
-        "Lists the stations of a field file and their two-face directions",
-        help::LIST_LONG_ABOUT,
-        help::LIST_EXAMPLE,
-        vec![in alloc;
-            field_file(alloc),
-            two_c(alloc),
-            two_i(alloc),
-            csv_flag(alloc),
-        ],
-    )
-}
-
-fn words_command<'a>(alloc: Global) -> Result<Command<'a>, Error>
-    ensures words { IfOk result (λ command. app_of command ≡ alone words_words) }
-    ensures memory { IfErr result (λ error. kind_of error ≡ ErrorKind.OutOfMemory) }
-{
-    command(
-        alloc,
-        "words",
-        "Prints the words of a field file",
-        help::WORDS_LONG_ABOUT,
-        help::WORDS_EXAMPLE,
-        vec![in alloc; field_file(alloc)],
-    )
-}
-
-fn explain_command<'a>(alloc: Global) -> Result<Command<'a>, Error>
-    ensures words { IfOk result (λ command. app_of command ≡ alone explain_words) }
-    ensures memory { IfErr result (λ error. kind_of error ≡ ErrorKind.OutOfMemory) }
-{
-    command(
-        alloc,
-        "explain",
-        "Explains a fault that a refusal names",
-        help::EXPLAIN_LONG_ABOUT,
-        help::EXPLAIN_EXAMPLE,
-        vec![in alloc; words_of_fault(alloc)],
-    )
+    let name: &'a str = subcommand.name();
+    let texts = subcommand.texts();
+    Command::new(alloc, name)
+        .about(texts.about)
+        .long_about(texts.long_about)
+        .after_help(texts.after)
 }

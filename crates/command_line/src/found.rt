@@ -1,14 +1,15 @@
 //! What is read of the words after a subcommand's name.
 
-ghost use Rattle.std.specs.Prelude.{◌≤◌, ◌^◌, ℕ, IfSome, IfNone, codes};
+ghost use Rattle.std.specs.Prelude.{◌≤◌, ◌<◌, ◌^◌, ℕ, IfSome, IfNone, codes};
 ghost use Rattle.clap.specs.Words.{found_of};
 ghost use Rattle.command_line.specs.Stated.{LimitIsStated, StatesDigests, StatesForm, StatesLimits};
 ghost use Rattle.command_line.specs.Stated.{StatesName, StatesNoLimits, StatesNoName};
 ghost use Rattle.command_line.specs.Stated.{StatesNoNumber, StatesNoResidual, StatesNoWithin};
+ghost use Rattle.command_line.specs.Stated.{StatesCount, StatesNoCount, StatesOthers};
 ghost use Rattle.command_line.specs.Stated.{StatesNumber, StatesResidual, StatesUnit, StatesWithin};
 
 use crate::arguments::{
-    CSV, DECIMALS, DEGREES, RESIDUAL, SHA256, STATED_NAME, TWO_C, TWO_I, WITHIN,
+    CSV, DECIMALS, DEGREES, OTHERS, RESIDUAL, SHA256, STATED_NAME, TWO_C, TWO_I, WITHIN,
 };
 use crate::request::{Digests, ListForm};
 use adjust_kernel::{Name, ResidualLimit};
@@ -27,6 +28,18 @@ pub(crate) fn stated_name_of(found: &ArgMatches<'_>) -> Option<Option<Name>>
         return Some(None);
     };
     Some(Some(Name::new(name.as_bytes())?))
+}
+
+/// The number that an option states, or that none is, unless what it states is no number.
+pub(crate) fn count_of(found: &ArgMatches<'_>, option: &str, largest: usize) -> Option<Option<u32>>
+    requires { largest < 2 ^ 32 }
+    ensures stated { IfSome result (StatesCount (found_of found.now) option.now) }
+    ensures none { IfNone result (StatesNoCount (found_of found.now) option.now largest) }
+{
+    if !found.contains_id(option) {
+        return Some(None);
+    }
+    Some(Some(found.get_one(option)?))
 }
 
 /// The limits of face differences, unless one is missing or out of its range.
@@ -102,6 +115,16 @@ pub(crate) fn form_of(found: &ArgMatches<'_>) -> ListForm
     match found.get_one(CSV) {
         Some(true) => ListForm::Rows,
         _ => ListForm::Lines,
+    }
+}
+
+/// Whether stations with a fault stay outside.
+pub(crate) fn others_of(found: &ArgMatches<'_>) -> bool
+    ensures { StatesOthers (found_of found.now) result }
+{
+    match found.get_one(OTHERS) {
+        Some(true) => true,
+        _ => false,
     }
 }
 

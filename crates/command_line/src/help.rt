@@ -35,11 +35,14 @@ Examples:
   station_check report field.gsi S1 > report.txt
   station_check check field.gsi sheet.csv
   station_check means field.gsi S1 > sheet.csv
-  station_check mark job.gsi > marked.gsi
+  station_check mark job.gsi marked.gsi
   station_check list field.gsi
   station_check < field.gsi
   gunzip -c field.gsi.gz | station_check list /dev/stdin
   station_check explain TwoC";
+
+pub const COMPARE_ABOUT: &str = "\
+Compares a table of directions with a field file, whatever program printed it";
 
 pub const COMPARE_LONG_ABOUT: &str = "\
 Compares the directions that any program printed, complete sets or not, with the least-squares
@@ -47,8 +50,8 @@ directions of a station in a field file: least over all directions, orientations
 
 The table agrees if one rotation brings each of its directions within N units of 0.000001 gon (0.001
 mgon) of the least-squares one. If not, the first fault is named: of the field file, then of the
-table, then of the adjustment, in which no residual may be above 10 mgon; and last, how far the
-directions are apart.
+table, then of the adjustment, in which no residual may be above 10 mgon, or the limit of
+--residual; and last, how far the directions are apart.
 
 TABLE is text with a row for each target of the station, in any order: its name and its direction.
 Commas, semicolons, tabs or blanks separate the two; the first row decides which, and may be one of
@@ -72,7 +75,7 @@ Exit status:
 Example:
   station_check compare field.gsi S1 table.csv
 
-  agrees S1: 2 targets, within 0.000 mgon, limit 0.010 mgon";
+  agrees S1: 2 sets, 2 targets, within 0.000 mgon, limit 0.010 mgon, greatest residual 0.005 mgon";
 
 pub const TABLE_HELP: &str = "The table of directions, text of two columns";
 
@@ -80,7 +83,7 @@ pub const DIFFERENCES_LONG_ABOUT: &str = "\
 Prints a row for each target of a station, complete sets or not: the direction that TABLE states,
 the least-squares direction, and the difference of the two after one rotation. So it shows which
 target makes 'compare' refuse a table. It is no verdict: however far apart they are, the status is
-0.
+0. But a residual above 10 mgon, or the limit of --residual, is a fault.
 
 The rotation is the one that makes the largest of the differences smallest: half of the gap between
 the least and the greatest lies on each side of 0. If one target is off by 1 mgon and all others
@@ -112,7 +115,8 @@ Example:
 
 pub const DIRECTIONS_LONG_ABOUT: &str = "\
 Prints the least-squares directions of a station, complete sets or not, as a table: least over all
-directions, orientations and full turns. A residual above 10 mgon is a fault.
+directions, orientations and full turns. A residual above 10 mgon, or the limit of --residual, is a
+fault.
 
 Each row is NAME,DIRECTION. Targets come in the order of their first readings. Directions are in
 gon, from 0 up to 400; the first is 0. They are rounded to K decimals, and the middle of two goes
@@ -165,12 +169,13 @@ Prints the protocol of a station's sets, complete or not, as text of fixed colum
 an office: by set and target what was read in both faces, the mean, 2c and 2i; the adjusted
 directions; the residuals, targets as rows and sets as columns; the greatest of them; and the
 standard deviation of one two-face direction with its degrees of freedom. They are those of the
-least-squares directions, orientations and full turns. A residual above 10 mgon is a fault.
+least-squares directions, orientations and full turns. A residual above 10 mgon, or the limit of
+--residual, is a fault.
 
 With --table each direction of a table stands there too, in gon also if --degrees reads degrees,
-with its difference from the adjusted one as 'differences' prints it, the limit, and whether the
-table agrees, as 'compare' says it. If their directions are apart the report is printed whole, and
-the status is 1.
+with its difference from the adjusted one and from the median, as 'differences' prints them, the
+limit, and whether the table agrees, as 'compare' says it. If their directions are apart the report
+is printed whole, and the status is 1.
 
 With --csv the observations are printed as rows for other programs: titles, and for each its
 station, set and target, the readings, the two-face direction, 2c, 2i, the adjusted direction and
@@ -180,8 +185,8 @@ directions.
 Directions are in gon. Face differences are in mgon with 2 decimals, residuals and the standard
 deviation in mgon with 3, each rounded from the exact fraction; the middle of two goes up. A mean is
 counted from that of the first row of its set. A dash stands where a set has no direction of a
-target. No line is wider than 100 bytes, but for a longer path. A path stands as sha256sum prints
-it: a line feed as '\\n'.
+target. No line is wider than 100 bytes, but for the line of an agreement or of a longer path. A
+path stands as sha256sum prints it, a line feed as '\\n', but other control bytes as '\\x1b'.
 
 STATION is a name of the field file, byte for byte, without the zeros on its left. Write '--' before
 a name that begins with '-'.";
@@ -244,6 +249,9 @@ Exit status:
 Example:
   station_check means field.gsi S1 > sheet.csv";
 
+pub const MARK_ABOUT: &str = "\
+Prints a copy of a job without codes, in which codes begin and end the sets";
+
 pub const MARK_LONG_ABOUT: &str = "\
 Prints a copy of a field file that was recorded without codes, and puts lines with three codes in:
 10 begins a station, 20 begins a set, 30 ends a set. Nothing else is changed. The other commands
@@ -253,27 +261,50 @@ A station begins at each set-up line, as instruments record one: a block that be
 number and has the word 84, 85, 86 or 88, and no direction, no vertical angle and no distance. A
 file without set-up lines is one station, which --station names. A set begins at the 1st, 3rd, 5th
 .. reading of its first target, which is read once in each face. Readings before the first set and
-after the last stay outside of the sets. What could be read in two ways is refused at a block, and
-then nothing is printed.
+after the last stay outside of the sets. What could be read in two ways is refused at a block.
 
-What was found is told on standard error, a line a station: compare it with the field book.";
+Each station is judged by itself. If one isn't recognized, nothing is printed, and each station is
+told with its fault; with --others the readings of these stations stay outside of the sets, and the
+others are marked.
+
+Sets that were read target by target, both faces of each before the next, don't show where they
+begin: state with --sets how many were read to the end, and of a single set with --targets how many
+targets it has. Count them in the field book; another number is refused.
+
+What was found of each station is told on standard error: compare it with the field book.";
 
 pub const MARK_EXAMPLE: &str = "\
 Exit status:
   0  the whole copy was written
-  1  refused: the first fault is named on standard error, and nothing was written, unless a write
-     failed
-  2  a mistake on the command line, or GSI cannot be opened
+  1  refused: the stations are told and the first fault is named on standard error, and nothing was
+     written, unless a write failed
+  2  a mistake on the command line, or GSI cannot be opened, or COPY is there already
 
 Example:
-  station_check mark job.gsi > marked.gsi
+  station_check mark job.gsi marked.gsi
 
-  note: station P7: 4 sets, 6 targets; 1 reading before them and 2 after stay outside
+  note: station P7: 4 sets, 6 targets, from A to F; 1 reading before them and 2 after stay outside
   note: compare this with the field book";
+
+pub const COPY_LONG_HELP: &str = "\
+The file that the copy goes to, in the place of standard output. It is made only where
+nothing has its name yet, and only where there is a copy: after a refusal there is none";
 
 pub const STATION_LONG_HELP: &str = "\
 The name of the station, of a file without set-up lines: 1 to 16 characters of
 ASCII, from the blank to '~'. Zeros on the left are no part of it";
+
+pub const SETS_LONG_HELP: &str = "\
+How many sets were read to the end at each station that has sets: 1 to 40. Sets that were
+read target by target are taken only so. A set that was broken off doesn't count";
+
+pub const TARGETS_LONG_HELP: &str = "\
+How many targets these sets have: 1 to 100. A single set that was read target by target is
+taken only so";
+
+pub const OTHERS_LONG_HELP: &str = "\
+Leave the readings of stations that are not recognized outside of the sets, and mark the
+others. A name that comes again is refused all the same";
 
 pub const ROWS_ALONE: &str = "\
 '--csv' prints rows alone: not with '--table', '--degrees', '--within' or '--sha256'";
@@ -365,11 +396,12 @@ The limit of 2i, as 0.3mgon: to 10000mgon, by 0.01; or in units of 0.01 mgon: 0 
 1000000. The face difference 2i of a target is
 both its zenith angles together, less 400 gon";
 
-pub const RESIDUAL_HELP: &str = "The limit of residuals, as 0.3mgon [default: none]";
+pub const RESIDUAL_HELP: &str = "\
+The limit of residuals, as 0.3mgon [default: 10mgon, of 'check' none]";
 
 pub const RESIDUAL_LONG_HELP: &str = "\
 The limit of residuals, as 0.3mgon: to 10mgon, by 0.005; or in half units of 0.005 mgon:
-0 to 2000 [default: none]";
+0 to 2000. If none is stated it is 10mgon, but 'check' then has none";
 
 pub const WITHIN_HELP: &str = "\
 How near the directions must be, as 0.05mgon [default: by the decimals]";

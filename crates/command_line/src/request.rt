@@ -2,7 +2,7 @@
 
 use adjust_kernel::{Name, ResidualLimit};
 use direction_table::{AngleUnit, Decimals};
-use station_book::Limits;
+use station_book::{Limits, ResultLimits};
 use station_explain::Explanation;
 
 /// Whether the digests of the files that were read are printed.
@@ -26,10 +26,10 @@ pub enum ListForm {
     Rows,
 }
 
-/// What the program is asked to do with files of type `F`: their paths, or the files once they are
-/// open.
+/// What the program is asked to do with files of type `F`, which are read, and of type `N`, which are
+/// new: their paths, or the files once they are open.
 #[derive(Drop)]
-pub enum Request<'a, F> {
+pub enum Request<'a, F, N> {
     /// Checks a sheet against a field file.
     Check {
         gsi: F,
@@ -50,7 +50,7 @@ pub enum Request<'a, F> {
     Directions {
         gsi: F,
         station: &'a str,
-        limits: Limits,
+        limits: ResultLimits,
         decimals: Decimals,
     },
 
@@ -65,7 +65,7 @@ pub enum Request<'a, F> {
     Report {
         gsi: F,
         station: &'a str,
-        limits: Limits,
+        limits: ResultLimits,
         digests: Digests,
     },
 
@@ -73,7 +73,7 @@ pub enum Request<'a, F> {
     ReportRows {
         gsi: F,
         station: &'a str,
-        limits: Limits,
+        limits: ResultLimits,
     },
 
     /// Prints the report of a station of a field file with a table beside its directions: they
@@ -83,7 +83,7 @@ pub enum Request<'a, F> {
         station: &'a str,
         table: F,
         unit: AngleUnit,
-        limits: Limits,
+        limits: ResultLimits,
         within: Option<u32>,
         digests: Digests,
     },
@@ -95,7 +95,7 @@ pub enum Request<'a, F> {
         station: &'a str,
         table: F,
         unit: AngleUnit,
-        limits: Limits,
+        limits: ResultLimits,
         within: Option<u32>,
         digests: Digests,
     },
@@ -106,14 +106,21 @@ pub enum Request<'a, F> {
         station: &'a str,
         table: F,
         unit: AngleUnit,
-        limits: Limits,
+        limits: ResultLimits,
     },
 
-    /// Prints a copy of a field file with codes put in. The name is that of the file's one station,
-    /// where its lines set none up.
+    /// Prints a copy of a field file with codes put in, or writes it to a new file of the path that is
+    /// named. The name is that of the file's one station,
+    /// where its lines set none up; the numbers are how many sets were read to the end at each
+    /// station, and how many targets they have; `others` is whether stations with a fault stay
+    /// outside.
     Mark {
         gsi: F,
+        copy: Option<N>,
         station: Option<Name>,
+        sets: Option<u32>,
+        targets: Option<u32>,
+        others: bool,
     },
 
     /// Lists the stations of a field file.

@@ -2,25 +2,30 @@
 
 ghost use Rattle.std.specs.Prelude.{◌≡◌, IfSome, IfNone, codes};
 ghost use Rattle.clap.specs.Words.{found_of};
-ghost use Rattle.command_line.specs.CommandLine.{AsksFor, AsksOfStation, Lacks};
-ghost use Rattle.command_line.specs.CommandLine.{LacksForDifferences};
+ghost use Rattle.command_line.specs.CommandLine.{AsksFor, AsksForResult, AsksOfStation, Lacks};
+ghost use Rattle.command_line.specs.CommandLine.{LacksForDifferences, LacksResult};
 ghost use Rattle.command_line.specs.CommandLine.{LacksForDirections, LacksForList, LacksStation};
 ghost use Rattle.command_line.specs.CommandLine.{LacksToCheck, LacksToCompare, LacksToMark};
 ghost use Rattle.command_line.specs.CommandLine.{LacksToReport};
 ghost use Rattle.command_line.specs.Stated.{IsMissing};
 
-use crate::arguments::{GSI, SHEET, STATED_TABLE, STATION, TABLE};
+use crate::arguments::{COPY, GSI, SETS, SHEET, STATED_TABLE, STATION, TABLE, TARGETS};
 use crate::found::{
-    decimals_of, digests_of, form_of, limits_of, residual_of, stated_name_of, unit_of, within_of,
+    count_of, decimals_of, digests_of, form_of, limits_of, others_of, residual_of, stated_name_of,
+    unit_of, within_of,
 };
 use crate::request::{Digests, ListForm, Request};
+use adjust_kernel::{MOST_SETS, MOST_TARGETS};
 use clap::ArgMatches;
 use direction_table::AngleUnit;
-use station_book::Limits;
+use station_book::{Limits, ResultLimits};
 
 /// What a subcommand of this name asks for, by what is found of the words after it; none where an
 /// argument that it needs is missing, or is no limit, number or name that it takes.
-pub(crate) fn request_after<'a>(name: &str, found: &ArgMatches<'a>) -> Option<Request<'a, &'a str>>
+pub(crate) fn request_after<'a>(
+    name: &str,
+    found: &ArgMatches<'a>,
+) -> Option<Request<'a, &'a str, &'a str>>
     ensures asked { IfSome result (AsksFor name.now (found_of found.now)) }
     ensures none { IfNone result (Lacks name.now (found_of found.now)) }
 {
@@ -51,11 +56,28 @@ fn station_of<'a>(found: &ArgMatches<'a>) -> Option<(&'a str, &'a str, Limits)>
     Some((gsi, station, limits_of(found)?))
 }
 
-fn compare_request<'a>(found: &ArgMatches<'a>) -> Option<Request<'a, &'a str>>
+/// The result of a station that is asked for: the path of the field file, the station's name, and
+/// the limits of the result. That of residuals is the largest where none is stated.
+fn result_of<'a>(found: &ArgMatches<'a>) -> Option<(&'a str, &'a str, ResultLimits)>
+    ensures asked { IfSome result (λ asked.
+        AsksForResult (found_of found.now) asked.0.now asked.1.now asked.2) }
+    ensures none { IfNone result (LacksResult (found_of found.now)) }
+{
+    let Some((gsi, station, faces)) = station_of(found) else {
+        return None;
+    };
+    let usual = ResultLimits::of_faces(faces);
+    match residual_of(found)? {
+        Some(residual) => Some((gsi, station, ResultLimits { residual, ..usual })),
+        None => Some((gsi, station, usual)),
+    }
+}
+
+fn compare_request<'a>(found: &ArgMatches<'a>) -> Option<Request<'a, &'a str, &'a str>>
     ensures asked { IfSome result (AsksFor (codes "compare") (found_of found.now)) }
     ensures none { IfNone result (LacksToCompare (found_of found.now)) }
 {
-    let Some((gsi, station, limits)) = station_of(found) else {
+    let Some((gsi, station, limits)) = result_of(found) else {
         return None;
     };
     Some(Request::Compare {
@@ -69,11 +91,11 @@ fn compare_request<'a>(found: &ArgMatches<'a>) -> Option<Request<'a, &'a str>>
     })
 }
 
-fn differences_request<'a>(found: &ArgMatches<'a>) -> Option<Request<'a, &'a str>>
+fn differences_request<'a>(found: &ArgMatches<'a>) -> Option<Request<'a, &'a str, &'a str>>
     ensures asked { IfSome result (AsksFor (codes "differences") (found_of found.now)) }
     ensures none { IfNone result (LacksForDifferences (found_of found.now)) }
 {
-    let Some((gsi, station, limits)) = station_of(found) else {
+    let Some((gsi, station, limits)) = result_of(found) else {
         return None;
     };
     Some(Request::Differences {
@@ -85,11 +107,11 @@ fn differences_request<'a>(found: &ArgMatches<'a>) -> Option<Request<'a, &'a str
     })
 }
 
-fn directions_request<'a>(found: &ArgMatches<'a>) -> Option<Request<'a, &'a str>>
+fn directions_request<'a>(found: &ArgMatches<'a>) -> Option<Request<'a, &'a str, &'a str>>
     ensures asked { IfSome result (AsksFor (codes "directions") (found_of found.now)) }
     ensures none { IfNone result (LacksForDirections (found_of found.now)) }
 {
-    let Some((gsi, station, limits)) = station_of(found) else {
+    let Some((gsi, station, limits)) = result_of(found) else {
         return None;
     };
     Some(Request::Directions {
@@ -100,7 +122,7 @@ fn directions_request<'a>(found: &ArgMatches<'a>) -> Option<Request<'a, &'a str>
     })
 }
 
-fn residuals_request<'a>(found: &ArgMatches<'a>) -> Option<Request<'a, &'a str>>
+fn residuals_request<'a>(found: &ArgMatches<'a>) -> Option<Request<'a, &'a str, &'a str>>
     ensures asked { IfSome result (AsksFor (codes "residuals") (found_of found.now)) }
     ensures none { IfNone result (LacksStation (found_of found.now)) }
 {
@@ -114,11 +136,11 @@ fn residuals_request<'a>(found: &ArgMatches<'a>) -> Option<Request<'a, &'a str>>
     })
 }
 
-fn report_request<'a>(found: &ArgMatches<'a>) -> Option<Request<'a, &'a str>>
+fn report_request<'a>(found: &ArgMatches<'a>) -> Option<Request<'a, &'a str, &'a str>>
     ensures asked { IfSome result (AsksFor (codes "report") (found_of found.now)) }
     ensures none { IfNone result (LacksToReport (found_of found.now)) }
 {
-    let Some((gsi, station, limits)) = station_of(found) else {
+    let Some((gsi, station, limits)) = result_of(found) else {
         return None;
     };
     let within = within_of(found)?;
@@ -158,7 +180,7 @@ fn report_request<'a>(found: &ArgMatches<'a>) -> Option<Request<'a, &'a str>>
     }
 }
 
-fn check_request<'a>(found: &ArgMatches<'a>) -> Option<Request<'a, &'a str>>
+fn check_request<'a>(found: &ArgMatches<'a>) -> Option<Request<'a, &'a str, &'a str>>
     ensures asked { IfSome result (AsksFor (codes "check") (found_of found.now)) }
     ensures none { IfNone result (LacksToCheck (found_of found.now)) }
 {
@@ -171,7 +193,7 @@ fn check_request<'a>(found: &ArgMatches<'a>) -> Option<Request<'a, &'a str>>
     })
 }
 
-fn means_request<'a>(found: &ArgMatches<'a>) -> Option<Request<'a, &'a str>>
+fn means_request<'a>(found: &ArgMatches<'a>) -> Option<Request<'a, &'a str, &'a str>>
     ensures asked { IfSome result (AsksFor (codes "means") (found_of found.now)) }
     ensures none { IfNone result (LacksStation (found_of found.now)) }
 {
@@ -185,17 +207,21 @@ fn means_request<'a>(found: &ArgMatches<'a>) -> Option<Request<'a, &'a str>>
     })
 }
 
-fn mark_request<'a>(found: &ArgMatches<'a>) -> Option<Request<'a, &'a str>>
+fn mark_request<'a>(found: &ArgMatches<'a>) -> Option<Request<'a, &'a str, &'a str>>
     ensures asked { IfSome result (AsksFor (codes "mark") (found_of found.now)) }
     ensures none { IfNone result (LacksToMark (found_of found.now)) }
 {
     Some(Request::Mark {
         gsi: found.get_str(GSI)?,
+        copy: found.get_str(COPY),
         station: stated_name_of(found)?,
+        sets: count_of(found, SETS, MOST_SETS)?,
+        targets: count_of(found, TARGETS, MOST_TARGETS)?,
+        others: others_of(found),
     })
 }
 
-fn list_request<'a>(found: &ArgMatches<'a>) -> Option<Request<'a, &'a str>>
+fn list_request<'a>(found: &ArgMatches<'a>) -> Option<Request<'a, &'a str, &'a str>>
     ensures asked { IfSome result (AsksFor (codes "list") (found_of found.now)) }
     ensures none { IfNone result (LacksForList (found_of found.now)) }
 {
@@ -206,7 +232,7 @@ fn list_request<'a>(found: &ArgMatches<'a>) -> Option<Request<'a, &'a str>>
     })
 }
 
-fn words_request<'a>(found: &ArgMatches<'a>) -> Option<Request<'a, &'a str>>
+fn words_request<'a>(found: &ArgMatches<'a>) -> Option<Request<'a, &'a str, &'a str>>
     ensures asked { IfSome result (AsksFor (codes "words") (found_of found.now)) }
     ensures none { IfNone result (IsMissing (found_of found.now) (codes "GSI")) }
 {

@@ -2,5 +2,6 @@
 -- needs them.
 pub mod Hosts
 pub mod Unopened
+pub mod NewFiles
 pub mod Explaining
 pub mod Answering

@@ -1,22 +1,26 @@
 //! How a request is answered: its files are opened, and its run is made over them.
 
-ghost use Rattle.std.specs.Prelude.{◌≡◌, ◌≤◌, IfOk, IfErr, OnErr, true, false};
+ghost use Rattle.std.specs.Prelude.{◌≡◌, ◌≤◌, IfOk, IfErr, OnErr, option_map, true, false};
 ghost use Rattle.byte_ends.specs.Writers.{writer_change};
 ghost use Rattle.command_run.specs.Answering.{IsAnswered, IsFirstOfTwo, IsOpened, IsRun};
 ghost use Rattle.command_run.specs.Answering.{ChecksFiles, ComparesFiles, ReportsFile};
-ghost use Rattle.command_run.specs.Answering.{NamesFirst, ReportsFiles};
+ghost use Rattle.command_run.specs.Answering.{IsNewFile, IsPathFault, MarksFile, NamesFirst};
+ghost use Rattle.command_run.specs.Answering.{ReportsFiles};
+ghost use Rattle.command_run.specs.Answering as spec;
 ghost use Rattle.command_run.specs.Hosts.{IsUnread, known_of, readers};
 
 use crate::explaining::run_explain;
 use crate::host::Host;
-use crate::unopened::Unopened;
-use adjust_kernel::ResidualLimit;
+use crate::new_file::NewFile;
+use crate::unopened::{PathFault, Unopened};
+use adjust_kernel::{Name, ResidualLimit};
 use byte_ends::{Failed, Sink, Source};
 use command_line::{Digests, ListForm, Request};
 use direction_table::AngleUnit;
 use list_rows::run_list_rows;
 use report_rows::run_report_rows;
-use station_book::Limits;
+use set_marks::Stated;
+use station_book::{Limits, ResultLimits};
 use station_check::{run_check, run_list, run_means, run_words};
 use station_compare::{run_compare, run_directions};
 use station_differences::run_differences;
@@ -31,42 +35,63 @@ use station_residuals::run_residuals;
 use std::alloc::Global;
 use table_report::{Asked, run_table_report};
 
-/// The exit status of a request. All its files are opened before any is read, the field file first.
+/// The exit status of a request. All its files are opened before any is read, the field file first. A
+/// new file is made at the first byte that is written to it, where none is there.
 pub(crate) fn answer<'a, H: Host, W: Sink, E: Sink>(
     alloc: Global,
-    host: &H,
+    host: &'a H,
     input: H::Input,
     faults: &[&'static [Explanation]],
-    request: &Request<'a, &'a str>,
+    request: &Request<'a, &'a str, &'a str>,
     out: &mut W,
     err: &mut E,
-) -> Result<u8, Unopened<'a>>
+) -> Result<u8, PathFault<'a>>
     ensures status { IfOk result (λ status. status ≤ 1) }
     ensures run { IfOk result (IsAnswered
         (known_of (H.known_words host.now) (H.may_lack host.now)
         (readers H.File.told H.File.failed H.File.gave)
         (H.known_file host.now) (H.may_not_open host.now)
+        ⟦<NewFile<'a, H, H::New> as Sink>⟧ (H.known_new host.now)
         (readers H.Input.told H.Input.failed H.Input.gave) input) faults.now
         (writer_change W.Sink out.old out.new)
         (writer_change E.Sink err.old err.new) request.now) }
-    ensures unopened { IfErr result (λ unopened.
-        NamesFirst (readers H.File.told H.File.failed H.File.gave) (H.known_file host.now)
-        request.now unopened.path.now) }
-    ensures fails { IfErr result (λ unopened. H.may_not_open host.now unopened.path.now ≡ true) }
+    ensures refused { IfErr result (IsPathFault
+        (known_of (H.known_words host.now) (H.may_lack host.now)
+        (readers H.File.told H.File.failed H.File.gave)
+        (H.known_file host.now) (H.may_not_open host.now)
+        ⟦<NewFile<'a, H, H::New> as Sink>⟧ (H.known_new host.now)
+        (readers H.Input.told H.Input.failed H.Input.gave) input) request.now) }
     ensures unchanged { OnErr result ((out.new ≡ out.old) × (err.new ≡ err.old)) }
 {
-    let opened = open_files(host, request)?;
-    Ok(run_request(alloc, input, faults, opened, out, err))
+    if let Some(path) = new_path(request) {
+        if let Ok(_there) = open(host, path) {
+            return Err(PathFault::IsThere(path));
+        }
+    }
+    match open_files(host, request) {
+        Ok(opened) => Ok(run_request(alloc, input, faults, opened, out, err)),
+        Err(unopened) => Err(PathFault::Unopened(unopened)),
+    }
+}
+
+/// The path of the new file that a request asks for.
+fn new_path<'a>(request: &Request<'a, &'a str, &'a str>) -> Option<&'a str>
+    ensures { option_map (λ path. path.now) result ≡ spec.new_path request.now }
+{
+    match *request {
+        Request::Mark { copy, .. } => copy,
+        _ => None,
+    }
 }
 
 /// The request with its files open.
 fn open_files<'a, H: Host>(
-    host: &H,
-    request: &Request<'a, &'a str>,
-) -> Result<Request<'a, NamedReader<'a, H::File>>, Unopened<'a>>
+    host: &'a H,
+    request: &Request<'a, &'a str, &'a str>,
+) -> Result<Request<'a, NamedReader<'a, H::File>, NewFile<'a, H, H::New>>, Unopened<'a>>
     ensures opened { IfOk result
         (IsOpened (readers H.File.told H.File.failed H.File.gave) (H.known_file host.now)
-        request.now) }
+        ⟦<NewFile<'a, H, H::New> as Sink>⟧ (H.known_new host.now) request.now) }
     ensures unopened { IfErr result (λ unopened.
         NamesFirst (readers H.File.told H.File.failed H.File.gave) (H.known_file host.now)
         request.now unopened.path.now) }
@@ -194,9 +219,20 @@ fn open_files<'a, H: Host>(
                 limits,
             }
         }
-        Request::Mark { gsi, station } => Request::Mark {
-            gsi: open(host, gsi)?,
+        Request::Mark {
+            gsi,
+            copy,
             station,
+            sets,
+            targets,
+            others,
+        } => Request::Mark {
+            gsi: open(host, gsi)?,
+            copy: new_file(host, copy),
+            station,
+            sets,
+            targets,
+            others,
         },
         Request::List { gsi, limits, form } => Request::List {
             gsi: open(host, gsi)?,
@@ -212,6 +248,13 @@ fn open_files<'a, H: Host>(
         }
         Request::Explain { fault } => Request::Explain { fault },
     })
+}
+
+/// The new file of a path, where one is stated.
+fn new_file<'a, H: Host>(host: &'a H, path: Option<&'a str>) -> Option<NewFile<'a, H, H::New>>
+    ensures { IsNewFile ⟦<NewFile<'a, H, H::New> as Sink>⟧ (H.known_new host.now) path.entry result }
+{
+    Some(NewFile::new(host, path?))
 }
 
 /// The files of two paths, of which the first is opened first.
@@ -253,16 +296,17 @@ fn open<'a, H: Host>(host: &H, path: &'a str) -> Result<NamedReader<'a, H::File>
 
 /// Makes the run of a request whose files are open, and answers its exit status. Standard input is
 /// read where the request names no file of words.
-fn run_request<F: Source, I: Source, W: Sink, E: Sink>(
+fn run_request<'a, H: Host, W: Sink, E: Sink>(
     alloc: Global,
-    input: I,
+    input: H::Input,
     faults: &[&'static [Explanation]],
-    request: Request<'_, NamedReader<'_, F>>,
+    request: Request<'a, NamedReader<'a, H::File>, NewFile<'a, H, H::New>>,
     out: &mut W,
     err: &mut E,
 ) -> u8
     ensures status { result ≤ 1 }
-    ensures run { IsRun (readers F.told F.failed F.gave) (readers I.told I.failed I.gave)
+    ensures run { IsRun (readers H.File.told H.File.failed H.File.gave)
+        ⟦<NewFile<'a, H, H::New> as Sink>⟧ (readers H.Input.told H.Input.failed H.Input.gave)
         input faults.now
         (writer_change W.Sink out.old out.new)
         (writer_change E.Sink err.old err.new) request.entry result }
@@ -348,7 +392,26 @@ fn run_request<F: Source, I: Source, W: Sink, E: Sink>(
             out,
             err,
         ),
-        Request::Mark { gsi, station } => run_mark(alloc, gsi.reader, station, out, err),
+        Request::Mark {
+            gsi,
+            copy,
+            station,
+            sets,
+            targets,
+            others,
+        } => mark_file(
+            alloc,
+            gsi,
+            copy,
+            station,
+            Stated {
+                sets,
+                targets,
+                others,
+            },
+            out,
+            err,
+        ),
         Request::List {
             gsi,
             limits,
@@ -362,6 +425,29 @@ fn run_request<F: Source, I: Source, W: Sink, E: Sink>(
         Request::Words { gsi } => run_words(alloc, gsi.reader, out, err),
         Request::WordsOfInput => run_words(alloc, input, out, err),
         Request::Explain { fault } => run_explain(alloc, faults, fault, out, err),
+    }
+}
+
+/// Makes a copy of a field file with codes put in, and answers the exit status. The copy goes to a new
+/// file, where there is one.
+fn mark_file<F: Source, N: Sink + Drop, W: Sink, E: Sink>(
+    alloc: Global,
+    gsi: NamedReader<'_, F>,
+    copy: Option<N>,
+    station: Option<Name>,
+    stated: Stated,
+    out: &mut W,
+    err: &mut E,
+) -> u8
+    ensures status { result ≤ 1 }
+    ensures run { MarksFile (readers F.told F.failed F.gave) N.Sink
+        (writer_change W.Sink out.old out.new)
+        (writer_change E.Sink err.old err.new)
+        gsi.entry copy station stated result }
+{
+    match copy {
+        None => run_mark(alloc, gsi.reader, station, stated, out, err),
+        Some(mut copy) => run_mark(alloc, gsi.reader, station, stated, &mut copy, err),
     }
 }
 
@@ -405,7 +491,7 @@ fn compare_files<F: Source, W: Sink, E: Sink>(
     mut table: NamedReader<'_, F>,
     unit: AngleUnit,
     station: &str,
-    limits: Limits,
+    limits: ResultLimits,
     within: Option<u32>,
     digests: Digests,
     out: &mut W,
@@ -442,7 +528,7 @@ fn report_file<F: Source, W: Sink, E: Sink>(
     alloc: Global,
     gsi: NamedReader<'_, F>,
     station: &str,
-    limits: Limits,
+    limits: ResultLimits,
     digests: Digests,
     out: &mut W,
     err: &mut E,
@@ -468,7 +554,7 @@ fn report_files<F: Source, W: Sink, E: Sink>(
     station: &str,
     mut table: NamedReader<'_, F>,
     unit: AngleUnit,
-    limits: Limits,
+    limits: ResultLimits,
     within: Option<u32>,
     digests: Digests,
     out: &mut W,

@@ -6,7 +6,7 @@ ghost use Rattle.byte_ends.specs.Source.{Told};
 ghost use Rattle.command_run.specs.Hosts.{IsAsKnown};
 ghost use Rattle.command_run.specs.declared.host.NoWords.{NoWords as WhyNoWords};
 
-use byte_ends::{Failed, OfRead, Source};
+use byte_ends::{Failed, OfRead, OfWrite, Sink, Source};
 use std::fs::File;
 use std::io::IsTerminal;
 use std::{fs, io};
@@ -33,6 +33,9 @@ pub trait Host {
     /// What its standard input is.
     type Input: Source;
 
+    /// What its new files are.
+    type New: Sink + Drop;
+
     // The words of the command line, where they are known.
     ghost known_words: { Self → Option (List (List ℕ)) };
 
@@ -44,6 +47,9 @@ pub trait Host {
 
     // Whether the file of a path may be one that can't be opened.
     ghost may_not_open: { Self → List ℕ → Bool };
+
+    // What a new file of a path holds, where that is known.
+    ghost known_new: { Self → List ℕ → Option (List ℕ) };
 
     /// The words of the command line, of which the first is the program's name.
     fn words(&self) -> Result<Vec<String>, NoWords>
@@ -57,6 +63,11 @@ pub trait Host {
         ensures unfailed { IfOk result (λ file. Self.File.failed file ≡ false) }
         ensures fails { OnErr result (may_not_open self.now path.now ≡ true) };
 
+    /// Makes a file of a path, where nothing stands yet.
+    fn create(&self, path: &str) -> Result<Self::New, Failed>
+        ensures known { IfOk result (λ file. Self.New.holds file ≡ known_new self.now path.now) }
+        ensures flushed { IfOk result (λ file. Self.New.flushed file ≡ true) };
+
     /// Tells a user that standard input is read, where it is a terminal.
     fn note_input(&self);
 }
@@ -68,6 +79,8 @@ impl Host for HostRuntime {
 
     type Input = OfRead<io::Stdin>;
 
+    type New = OfWrite<File>;
+
     ghost known_words = { λ _. None };
 
     ghost may_lack = { λ _ _. true };
@@ -75,6 +88,8 @@ impl Host for HostRuntime {
     ghost known_file = { λ _ _. None };
 
     ghost may_not_open = { λ _ _. true };
+
+    ghost known_new = { λ _ _. None };
 
     fn words(&self) -> Result<Vec<String>, NoWords> {
         match std::env::args(self) {
@@ -90,6 +105,13 @@ impl Host for HostRuntime {
         let file = fs::open(self, path).map_err(|_| Failed)?;
         note_terminal(self, &file);
         Ok(OfRead::new(file))
+    }
+
+    fn create(&self, path: &str) -> Result<OfWrite<File>, Failed> {
+        match File::create_new(self, path) {
+            Ok(file) => Ok(OfWrite::new(file)),
+            Err(_) => Err(Failed),
+        }
     }
 
     fn note_input(&self) {

@@ -5,6 +5,7 @@
 //! |---|---|
 //! | `status` | `run`: the exit status of the run that the words of a host ask for |
 //! | `host` | what gives the words and the files of paths, and the runtime as such a host |
+//! | `new_file` | a file that is made at its first write |
 //! | `answering` | a request with its files open, and the call that answers it |
 //! | `explaining` | the run that explains a fault |
 //! | `unopened` | the line that names a file which can't be opened |
@@ -13,6 +14,7 @@
 mod answering;
 mod explaining;
 mod host;
+mod new_file;
 mod status;
 mod unopened;
 

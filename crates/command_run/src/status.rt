@@ -5,12 +5,13 @@ ghost use Rattle.byte_ends.specs.Writers.{writer_change};
 ghost use Rattle.command_line.specs.CommandLine.{IsMistakeIn};
 ghost use Rattle.station_check.specs.RunEndings.{WritesOrFails};
 ghost use Rattle.command_run.specs.Answering.{IsStatusOfWords, IsStatusOfRun, IsMistakenRun};
-ghost use Rattle.command_run.specs.Answering.{NamesUnopened, LacksWords};
+ghost use Rattle.command_run.specs.Answering.{NamesThere, NamesUnopened, LacksWords};
 ghost use Rattle.command_run.specs.Hosts.{known_of, readers};
 
 use crate::answering::answer;
 use crate::host::{Host, NoWords};
-use crate::unopened::{Unopened, unopened_line};
+use crate::new_file::NewFile;
+use crate::unopened::{PathFault, Unopened, there_line, unopened_line};
 use byte_ends::Sink;
 use clap::Error;
 use command_line::asked_for;
@@ -37,9 +38,9 @@ For more information, try '--help'.
 ///
 /// What the parse of the words answers in the place of a run: help, the version, or a mistake. Then
 /// nothing was asked of the two sinks.
-pub fn run<H: Host, W: Sink, E: Sink>(
+pub fn run<'a, H: Host, W: Sink, E: Sink>(
     alloc: Global,
-    host: &H,
+    host: &'a H,
     input: H::Input,
     faults: &[&'static [Explanation]],
     out: &mut W,
@@ -50,6 +51,7 @@ pub fn run<H: Host, W: Sink, E: Sink>(
         (known_of (H.known_words host.now) (H.may_lack host.now)
         (readers H.File.told H.File.failed H.File.gave)
         (H.known_file host.now) (H.may_not_open host.now)
+        ⟦<NewFile<'a, H, H::New> as Sink>⟧ (H.known_new host.now)
         (readers H.Input.told H.Input.failed H.Input.gave) input) faults.now
         (writer_change W.Sink out.old out.new)
         (writer_change E.Sink err.old err.new)) }
@@ -57,6 +59,7 @@ pub fn run<H: Host, W: Sink, E: Sink>(
         (known_of (H.known_words host.now) (H.may_lack host.now)
         (readers H.File.told H.File.failed H.File.gave)
         (H.known_file host.now) (H.may_not_open host.now)
+        ⟦<NewFile<'a, H, H::New> as Sink>⟧ (H.known_new host.now)
         (readers H.Input.told H.Input.failed H.Input.gave) input) faults.now) }
     ensures unchanged { OnErr result ((out.new ≡ out.old) × (err.new ≡ err.old)) }
 {
@@ -67,9 +70,9 @@ pub fn run<H: Host, W: Sink, E: Sink>(
 }
 
 /// The exit status of the run that these words ask for.
-fn status_of_words<H: Host, W: Sink, E: Sink>(
+fn status_of_words<'a, H: Host, W: Sink, E: Sink>(
     alloc: Global,
-    host: &H,
+    host: &'a H,
     input: H::Input,
     faults: &[&'static [Explanation]],
     words: &[String],
@@ -81,6 +84,7 @@ fn status_of_words<H: Host, W: Sink, E: Sink>(
         (known_of (H.known_words host.now) (H.may_lack host.now)
         (readers H.File.told H.File.failed H.File.gave)
         (H.known_file host.now) (H.may_not_open host.now)
+        ⟦<NewFile<'a, H, H::New> as Sink>⟧ (H.known_new host.now)
         (readers H.Input.told H.Input.failed H.Input.gave) input) faults.now
         (writer_change W.Sink out.old out.new)
         (writer_change E.Sink err.old err.new) (map string_bytes words.now)) }
@@ -90,7 +94,8 @@ fn status_of_words<H: Host, W: Sink, E: Sink>(
     let request = asked_for(alloc, VERSION, faults, words)?;
     match answer(alloc, host, input, faults, &request, out, err) {
         Ok(status) => Ok(status),
-        Err(unopened) => Ok(report_unopened(alloc, &unopened, err)),
+        Err(PathFault::Unopened(unopened)) => Ok(report_unopened(alloc, &unopened, err)),
+        Err(PathFault::IsThere(path)) => Ok(report_there(alloc, path, err)),
     }
 }
 
@@ -102,6 +107,17 @@ fn report_unopened<E: Sink>(alloc: Global, unopened: &Unopened<'_>, err: &mut E)
 {
     match unopened_line(alloc, unopened.path) {
         Ok(line) => report(line.as_str(), err),
+        Err(_) => refuse(Fault::Memory, err),
+    }
+}
+
+/// Names a file that is there already on `err`, and answers the exit status.
+fn report_there<E: Sink>(alloc: Global, path: &str, err: &mut E) -> u8
+    ensures bound { result ≤ 2 }
+    ensures named { NamesThere path.now result (writer_change E.Sink err.old err.new) }
+{
+    match there_line(alloc, path) {
+        Ok(there) => report(there.as_str(), err),
         Err(_) => refuse(Fault::Memory, err),
     }
 }

@@ -1,4 +1,4 @@
-//! A file that can't be opened, and the line that names it.
+//! A path that is refused, and the line that names it.
 
 ghost use Rattle.std.specs.Prelude.{◌≡◌, IfOk, string_bytes};
 ghost use Rattle.command_run.specs.Unopened as spec;
@@ -11,13 +11,37 @@ pub(crate) struct Unopened<'a> {
     pub path: &'a str,
 }
 
-/// The line that names the path of a file that can't be opened, with a `?` in the place of each
-/// control character, so that a terminal shows it on one line.
-#[tactic(auto, using(crate::proofs::UnopenedLaws::as_shown))]
+/// Why a path that a request names is refused.
+#[derive(Debug, Drop)]
+pub(crate) enum PathFault<'a> {
+    /// Its file can't be opened.
+    Unopened(Unopened<'a>),
+
+    /// A new file is to have it, and one is there already.
+    IsThere(&'a str),
+}
+
+/// The line that names the path of a file that can't be opened.
 pub(crate) fn unopened_line(alloc: Global, path: &str) -> Result<String, AllocError>
     ensures { IfOk result (λ line. string_bytes line ≡ spec.unopened_line path.now) }
 {
-    let mut line = String::from_str(alloc, "cannot open ")?;
+    path_line(alloc, "cannot open ", path)
+}
+
+/// The line that names the path of a file that is there already.
+pub(crate) fn there_line(alloc: Global, path: &str) -> Result<String, AllocError>
+    ensures { IfOk result (λ line. string_bytes line ≡ spec.there_line path.now) }
+{
+    path_line(alloc, "already there: ", path)
+}
+
+/// The line of a path after these words, with a `?` in the place of each control character, so that a
+/// terminal shows it on one line.
+#[tactic(auto, using(crate::proofs::UnopenedLaws::as_shown))]
+fn path_line(alloc: Global, words: &str, path: &str) -> Result<String, AllocError>
+    ensures { IfOk result (λ line. string_bytes line ≡ spec.path_line words.now path.now) }
+{
+    let mut line = String::from_str(alloc, words)?;
     for character in path.chars() {
         line.push(shown(character))?;
     }

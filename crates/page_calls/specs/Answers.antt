@@ -9,9 +9,10 @@ use Rattle.direction_table.specs.declared.unit.AngleUnit.TheVariants.{Gon}
 use Rattle.gsi_file.specs.FileAnswers.{file_answers}
 use Rattle.adjust_kernel.specs.declared.accepted.Accepted.{Accepted}
 use Rattle.station_book.specs.Limits.{FaceLimits}
+use Rattle.station_book.specs.ResultLimits.{of_faces}
 use Rattle.set_marks.specs.Markings.{AnswersMark}
-use Rattle.set_marks.specs.declared.fault.MarkFault.{MarkFault}
 use Rattle.set_marks.specs.declared.marked.Marked.{Marked}
+use Rattle.set_marks.specs.declared.refused.Refused.{Refused}
 use Rattle.station_check.specs.Came.{source_of}
 use Rattle.station_check.specs.Answerable.{IsOfCheck}
 use Rattle.sha2.specs.Sha256.{sha256}
@@ -36,7 +37,7 @@ use Rattle.page_calls.specs.Explained.{AnswersLine, explanation_or_refusal}
 use Rattle.page_calls.specs.HandedOut.{HandsOut, verdict_line, text_or_refusal, refusal_text}
 use Rattle.page_calls.specs.HandedOut.{comparison_line, table_or_refusal, copy_text}
 use Rattle.page_calls.specs.HandedOut.{notes_or_refusal}
-use Rattle.page_calls.specs.Limits.{States, stated_limit, stated_name}
+use Rattle.page_calls.specs.Limits.{States, stated_limit, stated_file, stated_name}
 use Rattle.page_calls.specs.declared.explain.Unexplained.{Unexplained}
 
 -- The status and the line are those of the verdict on these bytes, of which the whole promise is
@@ -91,13 +92,13 @@ pub record IsWordsOf (gsi : List ℕ) (refusal_room : ℕ) (refusal : List ℕ) 
   pub hands_line_out : HandsOut status (refusal_text answer) refusal_room answered refusal
 
 -- The status and the table are those of the least-squares directions of the station of this name in
--- these bytes, with so many decimals.
+-- these bytes, with so many decimals, by the largest limit of residuals.
 pub record IsDirectionsOf (two_c two_i : ℕ) (gsi name : List ℕ) (decimals room answered : ℕ)
     (shown : List ℕ) : Type 0 where
   pub limits : FaceLimits
   pub states : States two_c two_i limits
   pub answer : Result (List ℕ) CompareFault
-  pub tells : TellsDirections limits (file_answers (source_of gsi)) name decimals answer
+  pub tells : TellsDirections (of_faces limits) (file_answers (source_of gsi)) name decimals answer
   pub hands_out : HandsOut (status_of answer) (table_or_refusal answer) room answered shown
 
 -- The status and the text are those of the residuals of the station of this name in these bytes,
@@ -110,46 +111,48 @@ pub record IsResidualsOf (two_c two_i : ℕ) (gsi name : List ℕ) (room answere
   pub tells : TellsResiduals limits (file_answers (source_of gsi)) name answer
   pub hands_out : HandsOut (status_of answer) (table_or_refusal answer) room answered shown
 
--- The status and the text are those of the report of the station of this name in these bytes, which
--- names the field file by these bytes of a path.
+-- The status and the text are those of the report of the station of this name in these bytes, by
+-- the largest limit of residuals; it names the field file by these bytes of a path.
 pub record IsReportOf (two_c two_i : ℕ) (gsi path name : List ℕ) (room answered : ℕ)
     (shown : List ℕ) : Type 0 where
   pub limits : FaceLimits
   pub states : States two_c two_i limits
   pub answer : Result (List ℕ) CompareFault
-  pub tells : TellsReport path limits (file_answers (source_of gsi)) name answer
+  pub tells : TellsReport path (of_faces limits) (file_answers (source_of gsi)) name answer
   pub hands_out : HandsOut (status_of answer) (table_or_refusal answer) room answered shown
 
 -- The status and the line are those of the comparison of these bytes of a table with the station of
--- this name in these bytes of a field file, of which the whole promise is kept; with room for the
--- longest line of a verdict it is answered.
+-- this name in these bytes of a field file, by the largest limit of residuals, of which the whole
+-- promise is kept; with room for the longest line of a verdict it is answered.
 pub record IsComparisonOf (two_c two_i : ℕ) (is_stated : Bool) (within : ℕ)
     (gsi table name : List ℕ) (room answered : ℕ) (shown : List ℕ) : Type 0 where
   pub limits : FaceLimits
   pub states : States two_c two_i limits
   pub answer : Result Agreement CompareFault
-  pub compares : Compares Gon limits (file_answers (source_of gsi)) (source_of table) name
-      (stated_limit is_stated within) answer
+  pub compares : Compares Gon (of_faces limits) (file_answers (source_of gsi)) (source_of table)
+      name (stated_limit is_stated within) answer
   pub hands_out : HandsOut (status_of answer) (comparison_line answer) room answered shown
   pub answers : LONGEST_VERDICT_LINE ≤ room → answered < 2
 
 -- The status and the text are those of the differences of these bytes of a table from the station
--- of this name in these bytes of a field file, target by target.
+-- of this name in these bytes of a field file, target by target, by the largest limit of residuals.
 pub record IsDifferencesOf (two_c two_i : ℕ) (gsi table name : List ℕ) (room answered : ℕ)
     (shown : List ℕ) : Type 0 where
   pub limits : FaceLimits
   pub states : States two_c two_i limits
   pub answer : Result (List ℕ) CompareFault
-  pub tells : TellsDifferences Gon limits (file_answers (source_of gsi))
+  pub tells : TellsDifferences Gon (of_faces limits) (file_answers (source_of gsi))
       (source_of table) name answer
   pub hands_out : HandsOut (status_of answer) (table_or_refusal answer) room answered shown
 
--- The status, the copy and what is told of it, or the line of the refusal, are those of putting
--- codes into these bytes, by the name that is stated.
-pub record IsMarkOf (gsi name : List ℕ) (notes_room : ℕ) (notes : List ℕ) (room answered : ℕ)
-    (shown : List ℕ) : Type 0 where
-  pub answer : Result Marked MarkFault
-  pub marks : AnswersMark (stated_name name) gsi (file_answers (source_of gsi)) answer
+-- The status, the copy and what is told of it, or the text of the refusal, are those of putting
+-- codes into these bytes, by the name and the numbers of sets and targets that are stated, and
+-- whether stations with a fault stay outside.
+pub record IsMarkOf (gsi name : List ℕ) (sets targets : ℕ) (others : Bool) (notes_room : ℕ)
+    (notes : List ℕ) (room answered : ℕ) (shown : List ℕ) : Type 0 where
+  pub answer : Result Marked Refused
+  pub marks : AnswersMark (stated_name name) (stated_file sets targets others) gsi
+      (file_answers (source_of gsi)) answer
   pub status : ℕ
   pub hands_copy_out : HandsOut (status_of answer) (copy_text gsi answer) room status shown
   pub hands_notes_out : HandsOut status (notes_or_refusal answer) notes_room answered notes

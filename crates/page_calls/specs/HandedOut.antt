@@ -3,16 +3,16 @@ use Rattle.std.specs.Prelude.{◌≡◌, ◌<◌, ◌≤◌, ℕ, List, [], leng
 use Rattle.adjust_kernel.specs.declared.accepted.Accepted.{Accepted}
 use Rattle.station_check.specs.declared.fault.Fault.{Fault}
 use Rattle.station_check.specs.VerdictLines.{accepted_line, refusal_line}
-use Rattle.station_compare.specs.FaultTexts.{agreement_line}
+use Rattle.station_compare.specs.AgreementTexts.{agreement_line}
 use Rattle.station_compare.specs.FaultTexts as compare
 use Rattle.station_compare.specs.declared.agreement.Agreement.{Agreement}
 use Rattle.station_compare.specs.declared.fault.CompareFault.{CompareFault}
 use Rattle.set_marks.specs.Markings.{copy_of}
-use Rattle.set_marks.specs.declared.fault.MarkFault.{MarkFault}
 use Rattle.set_marks.specs.declared.marked.Marked.{Marked}
-use Rattle.station_mark.specs.FaultTexts as mark
+use Rattle.set_marks.specs.declared.refused.Refused.{Refused}
+use Rattle.station_mark.specs.FaultTexts.{unmarked}
+use Rattle.station_mark.specs.FaultTexts.{refusal_text as refusal_text_of_mark}
 use Rattle.station_mark.specs.Notes.{notes_of}
-use Rattle.station_mark.specs.declared.fault.PrintFault.TheVariants.{Mark}
 use Rattle.page_calls.specs.declared.hand_out.TheConstants.{OUT_OF_RANGE, TOO_LITTLE_ROOM}
 
 -- The text is handed out whole, with this status, exactly where there is room for it; else nothing
@@ -68,11 +68,11 @@ table_or_refusal (Ok table) = table
 table_or_refusal (Err fault) = compare.refusal_line fault
 
 -- the copy of these bytes, with codes; at a refusal nothing
-abbrev pub copy_text : List ℕ → Result Marked MarkFault → List ℕ
+abbrev pub copy_text : List ℕ → Result Marked Refused → List ℕ
 copy_text gsi (Ok m) = copy_of gsi m
-copy_text gsi (Err fault) = []
+copy_text gsi (Err refused) = []
 
--- what is told of it, or the line of the refusal
-abbrev pub notes_or_refusal : Result Marked MarkFault → List ℕ
+-- what is told of it, or the text of the refusal
+abbrev pub notes_or_refusal : Result Marked Refused → List ℕ
 notes_or_refusal (Ok m) = notes_of m
-notes_or_refusal (Err fault) = mark.refusal_line (Mark fault)
+notes_or_refusal (Err refused) = refusal_text_of_mark (unmarked refused)

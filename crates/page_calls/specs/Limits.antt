@@ -1,8 +1,10 @@
--- The limits that a page states by numbers (profile).
-use Rattle.std.specs.Prelude.{◌≡◌, ◌≤◌, ℕ, Bool, true, false, List, [], ◌∷◌, Option, Some, None, ⊤}
+-- What a page states by numbers (profile).
+use Rattle.std.specs.Prelude.{◌≡◌, ◌≤◌, ◌==◌, ℕ, Bool, true, false, List, [], ◌∷◌, Option, Some}
+use Rattle.std.specs.Prelude.{None, ⊤, if◌then◌else◌}
 use Rattle.adjust_kernel.specs.declared.bounds.TheConstants.{LARGEST_RESIDUAL_LIMIT}
 use Rattle.adjust_kernel.specs.Names.{IsName}
 use Rattle.direction_table.specs.declared.limit.TheConstants.{LARGEST_WITHIN}
+use Rattle.set_marks.specs.declared.stated.Stated.{Stated}
 use Rattle.station_book.specs.Limits.{FaceLimits}
 use Rattle.station_book.specs.declared.limits.TheConstants.{LARGEST_LIMIT}
 
@@ -40,3 +42,16 @@ MayBeStated (byte ∷ bytes) = IsName (byte ∷ bytes)
 abbrev pub stated_name : List ℕ → Option (List ℕ)
 stated_name [] = None
 stated_name (byte ∷ bytes) = Some (byte ∷ bytes)
+
+-- the number that is stated, where 0 says that none is
+abbrev pub stated_number : ℕ → Option ℕ
+stated_number number = if number == 0 then None else Some number
+
+-- what is stated of a file, by two such numbers, how many sets there are and of how many targets,
+-- and whether stations with a fault stay outside
+abbrev pub stated_file : ℕ → ℕ → Bool → Stated
+stated_file sets targets others = record {
+  sets = stated_number sets;
+  targets = stated_number targets;
+  others = others;
+}

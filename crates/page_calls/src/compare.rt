@@ -3,6 +3,7 @@
 ghost use Rattle.std.specs.Prelude.{◌≡◌, ◌<◌, ◌≤◌, length, IfOk, IfErr};
 ghost use Rattle.direction_table.specs.declared.unit.AngleUnit.TheVariants.{Gon};
 ghost use Rattle.gsi_file.specs.FileAnswers.{file_answers};
+ghost use Rattle.station_book.specs.ResultLimits.{of_faces};
 ghost use Rattle.station_check.specs.Came.{source_of};
 ghost use Rattle.station_check.specs.RunEndings.{status_of};
 ghost use Rattle.station_check.specs.declared.verdict_line.TheConstants.{LONGEST_VERDICT_LINE};
@@ -14,7 +15,7 @@ ghost use Rattle.page_calls.specs.Limits.{AreFaceLimits, IsWithin, stated_limit}
 use crate::check::BeyondLimits;
 use crate::hand_out::{OUT_OF_RANGE, hand_out};
 use direction_table::{AngleUnit, LARGEST_WITHIN};
-use station_book::Limits;
+use station_book::{Limits, ResultLimits};
 use station_check::{ACCEPTED, REFUSED, source_of};
 use station_compare::{Agreement, CompareFault, agreement_line, compare_bytes, refusal_line};
 use std::alloc::Global;
@@ -79,9 +80,10 @@ fn compare_slices(
     limits: Limits,
     within: Option<u32>,
 ) -> Result<Agreement, CompareFault>
-    ensures { Compares Gon limits (file_answers (source_of gsi.now)) (source_of table.now) name.now
-        within result }
+    ensures { Compares Gon (of_faces limits) (file_answers (source_of gsi.now))
+        (source_of table.now) name.now within result }
 {
+    let limits = ResultLimits::of_faces(limits);
     compare_bytes(
         alloc,
         source_of(gsi),

@@ -3,6 +3,7 @@
 ghost use Rattle.std.specs.Prelude.{MatchResult};
 ghost use Rattle.direction_table.specs.declared.unit.AngleUnit.TheVariants.{Gon};
 ghost use Rattle.gsi_file.specs.FileAnswers.{file_answers};
+ghost use Rattle.station_book.specs.ResultLimits.{of_faces};
 ghost use Rattle.station_check.specs.Came.{source_of};
 ghost use Rattle.station_differences.specs.Answers.{HasNoDifferences};
 ghost use Rattle.station_differences.specs.Stating.{StatesDifferences};
@@ -12,7 +13,7 @@ ghost use Rattle.page_calls.specs.Limits.{AreFaceLimits};
 
 use crate::hand_out::{OUT_OF_RANGE, hand_out};
 use direction_table::AngleUnit;
-use station_book::Limits;
+use station_book::{Limits, ResultLimits};
 use station_check::{ACCEPTED, REFUSED, source_of};
 use station_compare::{CompareFault, refusal_line};
 use station_differences::differences_text;
@@ -37,7 +38,8 @@ pub fn page_differences(
     written: &mut usize,
 ) -> u8
     ensures { ShowsInRange (AreFaceLimits two_c two_i)
-        (IsDifferencesOf two_c two_i gsi.now table.now name.now) out.old out.new written.new result }
+        (IsDifferencesOf two_c two_i gsi.now table.now name.now) out.old out.new written.new
+        result }
 {
     *written = 0;
     let Some(limits) = Limits::new(two_c, two_i) else {
@@ -58,11 +60,12 @@ fn differences_of(
     limits: Limits,
 ) -> Result<Vec<u8>, CompareFault>
     ensures { MatchResult result
-        (λ text. StatesDifferences Gon limits (file_answers (source_of gsi.now))
+        (λ text. StatesDifferences Gon (of_faces limits) (file_answers (source_of gsi.now))
         (source_of table.now) name.now text.items)
-        (HasNoDifferences Gon limits (file_answers (source_of gsi.now)) (source_of table.now)
-        name.now) }
+        (HasNoDifferences Gon (of_faces limits) (file_answers (source_of gsi.now))
+        (source_of table.now) name.now) }
 {
+    let limits = ResultLimits::of_faces(limits);
     differences_text(
         alloc,
         source_of(gsi),

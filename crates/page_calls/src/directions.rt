@@ -3,6 +3,7 @@
 ghost use Rattle.std.specs.Prelude.{MatchResult};
 ghost use Rattle.direction_table.specs.Texts.{AreDecimals};
 ghost use Rattle.gsi_file.specs.FileAnswers.{file_answers};
+ghost use Rattle.station_book.specs.ResultLimits.{of_faces};
 ghost use Rattle.station_check.specs.Came.{source_of};
 ghost use Rattle.station_compare.specs.Directions.{StatesDirections, HasNoDirections};
 ghost use Rattle.page_calls.specs.Answers.{IsDirectionsOf};
@@ -11,7 +12,7 @@ ghost use Rattle.page_calls.specs.Limits.{AreFaceLimits};
 
 use crate::hand_out::{OUT_OF_RANGE, hand_out};
 use direction_table::Decimals;
-use station_book::Limits;
+use station_book::{Limits, ResultLimits};
 use station_check::{ACCEPTED, REFUSED, source_of};
 use station_compare::{CompareFault, directions_text, refusal_line};
 use std::alloc::Global;
@@ -57,9 +58,10 @@ fn table_of(
     decimals: Decimals,
 ) -> Result<Vec<u8>, CompareFault>
     ensures { MatchResult result
-        (λ table. StatesDirections limits (file_answers (source_of gsi.now)) name.now decimals
-        table.items)
-        (HasNoDirections limits (file_answers (source_of gsi.now)) name.now) }
+        (λ table. StatesDirections (of_faces limits) (file_answers (source_of gsi.now)) name.now
+        decimals table.items)
+        (HasNoDirections (of_faces limits) (file_answers (source_of gsi.now)) name.now) }
 {
+    let limits = ResultLimits::of_faces(limits);
     directions_text(alloc, source_of(gsi), name, limits, decimals)
 }

@@ -2,6 +2,7 @@
 
 ghost use Rattle.std.specs.Prelude.{MatchResult};
 ghost use Rattle.gsi_file.specs.FileAnswers.{file_answers};
+ghost use Rattle.station_book.specs.ResultLimits.{of_faces};
 ghost use Rattle.station_check.specs.Came.{source_of};
 ghost use Rattle.station_compare.specs.Directions.{HasNoDirections};
 ghost use Rattle.page_calls.specs.Answers.{IsReportOf};
@@ -10,7 +11,7 @@ ghost use Rattle.page_calls.specs.Limits.{AreFaceLimits};
 ghost use Rattle.station_report.specs.Stating.{StatesReport};
 
 use crate::hand_out::{OUT_OF_RANGE, hand_out};
-use station_book::Limits;
+use station_book::{Limits, ResultLimits};
 use station_check::{ACCEPTED, REFUSED, source_of};
 use station_compare::{CompareFault, refusal_line};
 use station_report::report_text;
@@ -55,9 +56,10 @@ fn report_of(
     limits: Limits,
 ) -> Result<Vec<u8>, CompareFault>
     ensures { MatchResult result
-        (λ text. StatesReport path.now limits (file_answers (source_of gsi.now)) name.now
+        (λ text. StatesReport path.now (of_faces limits) (file_answers (source_of gsi.now)) name.now
         text.items)
-        (HasNoDirections limits (file_answers (source_of gsi.now)) name.now) }
+        (HasNoDirections (of_faces limits) (file_answers (source_of gsi.now)) name.now) }
 {
+    let limits = ResultLimits::of_faces(limits);
     report_text(alloc, source_of(gsi), path, name, limits)
 }

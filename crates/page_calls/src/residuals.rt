@@ -2,6 +2,7 @@
 
 ghost use Rattle.std.specs.Prelude.{MatchResult};
 ghost use Rattle.gsi_file.specs.FileAnswers.{file_answers};
+ghost use Rattle.station_book.specs.ResultLimits.{of_faces};
 ghost use Rattle.station_check.specs.Came.{source_of};
 ghost use Rattle.station_compare.specs.Directions.{HasNoDirections};
 ghost use Rattle.page_calls.specs.Answers.{IsResidualsOf};
@@ -54,7 +55,7 @@ fn residuals_of(
 ) -> Result<Vec<u8>, CompareFault>
     ensures { MatchResult result
         (λ text. StatesResiduals limits (file_answers (source_of gsi.now)) name.now text.items)
-        (HasNoDirections limits (file_answers (source_of gsi.now)) name.now) }
+        (HasNoDirections (of_faces limits) (file_answers (source_of gsi.now)) name.now) }
 {
     residuals_text(alloc, source_of(gsi), name, limits)
 }

@@ -125,14 +125,14 @@ pub fn explanation_meant<'a>(groups: &[&'a [Explanation]], name: &str) -> Option
 
 /// The explanations of all faults that the line of a refusal can name, in groups, about in the
 /// order in which they are looked for.
-pub fn all_explanations() -> [&'static [Explanation]; 13]
+pub fn all_explanations() -> [&'static [Explanation]; 14]
     ensures { IsTheTable result }
 {
     EXPLANATIONS
 }
 
 /// The table that `all_explanations` hands out.
-const EXPLANATIONS: [&[Explanation]; 13] = [
+const EXPLANATIONS: [&[Explanation]; 14] = [
     FILE_FAULTS,
     STATION_FAULTS,
     NUMBER_FAULTS,
@@ -140,6 +140,7 @@ const EXPLANATIONS: [&[Explanation]; 13] = [
     FACE_FAULTS,
     BLOCK_MARK_FAULTS,
     SET_MARK_FAULTS,
+    STATED_MARK_FAULTS,
     ROW_FAULTS,
     VALUE_FAULTS,
     MATCH_FAULTS,
@@ -308,7 +309,7 @@ const NUMBER_FAULTS: &[Explanation] = &[
         when: "\
 The station that is open has the name of an earlier one with sets, which another code 10 opened. A
 file has one occupation of a station. As 'mark: StationTwice', a set-up line has the name of an
-earlier one after which sets were read.",
+earlier one, and both stations have sets, or readings that aren't recognized as sets.",
         example: "refused: block 14: StationTwice",
         remedy: "\
 If the instrument was not moved, check a copy without the later codes 10 or set-up lines
@@ -452,7 +453,7 @@ has this fault, set the instrument to zenith angles.",
         meaning: "a station has more than 100 targets",
         when: "\
 The reading is of a target that its station has not had, and the station has 100. As 'mark:
-TooManyTargets', more than 200 readings would be one set.",
+TooManyTargets', more than 200 readings would be one set, or it is so of the sets of the station.",
         example: "refused: block 103: TooManyTargets",
         remedy: "\
 Copy some of the sets into a file of their own, to be adjusted by themselves. To 'mark',
@@ -553,8 +554,8 @@ State a shorter name with --station; or rename the set-up line in a copy.",
         names: &["NoSets"],
         meaning: "no station of the file has sets",
         when: "\
-All readings of each station are in one face, or the file has no readings. The number is that after
-the last block.",
+No reading is in face II, or a station begins with a sight back in both faces and reads detail alone
+beside it; or the file has no readings. The number is that after the last block.",
         example: "refused: block 4: mark: NoSets",
         remedy: "\
 See 'station_check words GSI'. A detail survey, a traverse in one face or a levelling
@@ -571,18 +572,17 @@ const SET_MARK_FAULTS: &[Explanation] = &[
         when: "\
 Sets begin at the 1st, 3rd, 5th .. reading of the first target, or of that after up to three
 readings outside. This reading repeats a target of its set in the same face: a repeated pointing, a
-closing sight, a name with other letters in face II, small ones too, detail points before the sets,
-another station whose set-up line is missing, or a set that begins with another target than the
-first set.",
+closing sight, a name with other letters in face II, small ones too, another station whose set-up
+line is missing, or a set that begins with another target than the first set.",
         example: "refused: block 7: mark: ReadTwice",
         remedy: "\
 Leave out of a copy what belongs to no set, and mark that. Of the examples, prepare.py
 does, with a log: --closing for closing sights; --blocks for a pointing that the field book calls
-bad, a set that was given up, check sights between sets, or detail points and orientation sights
-before the first. If a target has two names, --rename BLOCK NAME gives blocks the right one, and
---capitals writes all names in capitals. If the sets begin with different targets, put the codes in
-with 'prepare.py --codes STATION BLOCKS LAST' of the examples: BLOCKS are the first ones of the
-sets, as 2,14,26, and LAST ends them.",
+bad, a set that was given up, check sights between sets, or orientation sights before the first. If
+a target has two names, --rename BLOCK NAME gives blocks the right one, and --capitals writes all
+names in capitals. If the sets begin with different targets, put the codes in with 'prepare.py
+--codes STATION BLOCKS LAST' of the examples: BLOCKS are the first ones of the sets, as 2,14,26, and
+LAST ends them.",
     },
     Said {
         names: &["FaceMissing"],
@@ -590,15 +590,15 @@ sets, as 2,14,26, and LAST ends them.",
         when: "\
 Sets begin at the 1st, 3rd, 5th .. reading of the first target, or of that after up to three
 readings outside. In the set of this reading its target has none in the other face: a reading is
-missing, a name is spelled in two ways, the set was broken off, this is a check sight or a detail
-point after the sets, or the sets begin elsewhere: an orientation sight or detail points stand
-beside a single set.",
+missing, a name is spelled in two ways, the set was broken off, this is a check sight after the
+sets, a detail point stands between the first reading of the sets and the last, or the sets begin
+elsewhere: an orientation sight or detail points stand before a single set.",
         example: "refused: block 10: mark: FaceMissing",
         remedy: "\
 Compare the set with the field book by 'station_check words GSI', and let prepare.py of
-the examples make a copy. If the station has one set, leave out with --blocks what stands before and
-after it, as an orientation sight or detail points. Else --broken-off leaves out a last set that was
-broken off, --blocks a lone reading or a check sight at the end, and --rename BLOCK NAME corrects a
+the examples make a copy. If the station has one set, leave out with --blocks what stands before it,
+as an orientation sight or detail points. Else --broken-off leaves out a last set that was broken
+off, --blocks a lone reading or a check sight at the end, and --rename BLOCK NAME corrects a
 misspelled name. Mark that copy.",
     },
     Said {
@@ -642,14 +642,16 @@ the examples, and mark that. If only the last target is missing, put the codes i
     },
     Said {
         names: &["OneSet"],
-        meaning: "one set after other readings could begin elsewhere",
+        meaning: "before the only set stands what is no sight to its targets",
         when: "\
-Some readings would stand outside before the sets, and only one set would follow, which begins at
-this reading. A second one shows that sets begin there; nothing else does.",
+There is one set, which begins at this reading. Before it may stand up to three sights to its own
+targets, all in face I or all to one target; where it has two targets, only to the one that opens
+it. After other readings, detail points too, it could begin elsewhere: a second set shows that sets
+begin there, and nothing else does.",
         example: "refused: block 4: mark: OneSet",
         remedy: "\
-Leave the orientation or check sights before the set out of a copy, with 'prepare.py
---blocks' of the examples, and mark that.",
+Leave the orientation sights, check sights and detail points before the set out
+of a copy, with 'prepare.py --blocks' of the examples, and mark that.",
     },
     Said {
         names: &["FirstFace"],
@@ -671,8 +673,9 @@ target with --blocks. Mark that copy. If the sets were begun in face II, put the
         meaning: "readings before the first set may belong to the sets",
         when: "\
 The readings fit as sets only if the first set begins with this reading, after up to three others.
-One of these is in face II without its reading in face I, or is of the target that ends the sets:
-then each set may be shifted by some readings, for example if a check sight comes at the end.",
+One of these is in face II without its reading in face I; or the sets are read target by target and
+it is of the target that ends them. Then each set may be shifted by some readings, for example if a
+check sight comes at the end.",
         example: "refused: block 3: mark: MayBeShifted",
         remedy: "\
 See in the field book where the sets begin. If all readings of the station before this
@@ -682,19 +685,18 @@ many at the end, a check sight with --blocks, a last set that was broken off wit
 that copy.",
     },
     Said {
-        names: &["OneSetByTargets"],
-        meaning: "a single set is read target by target",
+        names: &["PairAfter"],
+        meaning: "a target in both faces follows sets that were read target by target",
         when: "\
-The readings of the station would be one set, in which both faces of each target follow each other.
-Nothing shows that all its pairs are of one set-up: an orientation before a set, or two short
-occupations, are read just so.",
-        example: "refused: block 1: mark: OneSetByTargets",
+The sets of the station end before this reading. It and the next one are of one target, one in each
+face, as a set that is read target by target goes on: so the sets may begin with another target. A
+set was given up and begun again, one begins further on than the others, or lacks its last target.",
+        example: "refused: block 11: mark: PairAfter",
         remedy: "\
-See in the field book what it is. If it is one set, put the codes in with 'prepare.py
---codes STATION BLOCKS LAST' of the examples: BLOCKS are the first ones of the sets, as 2,14,26, and
-LAST ends them. If the instrument was set up twice, divide a copy there, and put the codes into each
-part. If a set-up line was recorded before each set, leave out all but the first: several sets of
-these targets are marked, and so is a set that is read by faces.",
+See in the field book where the sets begin. If these readings belong to none of them,
+leave them out of a copy, with 'prepare.py --blocks' of the examples, and mark that. If the sets
+begin with different targets, put the codes in with 'prepare.py --codes STATION BLOCKS LAST': BLOCKS
+are the first ones of the sets, as 2,14,26, and LAST ends them.",
     },
     Said {
         names: &["OtherTargets"],
@@ -709,6 +711,69 @@ NAME: with 'prepare.py --blocks' of the examples leave out all from this block o
 before it in the other. If it is one station, put the codes in with
 'prepare.py --codes STATION BLOCKS LAST' of the examples: BLOCKS are the first ones of the sets,
 as 2,14,26, and LAST ends them.",
+    },
+];
+
+/// Faults of a station's name among its targets, and of what is stated of sets.
+const STATED_MARK_FAULTS: &[Explanation] = &[
+    Said {
+        names: &["SightsItself"],
+        meaning: "a station reads a target of its own name in face II",
+        when: "\
+The station has sets, and this is its first reading of a target that has its own name and is read in
+face II. So it is in a traverse where the set-up line of the next station is missing: its backsight
+is this station. Or the name of a target was entered at the set-up, or that of the station at a
+target. Detail that is read in face I alone may have such a name.",
+        example: "refused: block 10: mark: SightsItself",
+        remedy: "\
+See in the field book where the instrument was set up. If it was moved before this
+reading, mark two copies, each with its own --station NAME: with 'prepare.py --blocks' of the
+examples leave out all from there on in one, and all before it in the other. If a name is wrong,
+'prepare.py --rename BLOCK NAME' gives it in a copy.",
+    },
+    Said {
+        names: &["ByTargets"],
+        meaning: "sets are read target by target, and no number of them is stated",
+        when: "\
+The sets of the station begin with this reading, and both faces of each target follow each other.
+Such readings don't show where a set begins: an orientation in both faces, and sets that begin one
+target later, look just so. So the number of sets has to be stated, and of a single set that of its
+targets too.",
+        example: "refused: block 1: mark: ByTargets",
+        remedy: "\
+Count in the field book the sets that were read to the end, and state them with --sets;
+of a single set state how many targets it has with --targets. A set that was broken off doesn't
+count. The numbers are those of each station of the file that has sets: if they differ, mark a copy
+of each station alone, which 'prepare.py --blocks' of the examples makes.",
+    },
+    Said {
+        names: &["SetCount"],
+        meaning: "a station has another number of sets than is stated",
+        when: "\
+The sets of the station begin with this reading, and are more or fewer than --sets states. A set
+that was broken off was counted, or one that was read once more was not; an orientation in both
+faces looks like a part of a set; a set-up line is missing, so that two occupations are one station;
+or the file has the same readings twice.",
+        example: "refused: block 1: mark: SetCount",
+        remedy: "\
+See in the field book how many sets of this station were read to the end. If that is the
+number that you stated, leave out of a copy what belongs to none of them, with 'prepare.py --blocks'
+of the examples, and mark that; or put the codes in with 'prepare.py --codes STATION BLOCKS LAST':
+BLOCKS are the first ones of the sets, as 2,14,26, and LAST ends them.",
+    },
+    Said {
+        names: &["TargetCount"],
+        meaning: "the sets of a station have another number of targets than is stated",
+        when: "\
+The sets of the station begin with this reading, and have more or fewer targets in all than
+--targets states. A target has two names in the file, small letters too; a target was left out of
+all sets; or a set-up line is missing, so that two occupations are one station.",
+        example: "refused: block 1: mark: TargetCount",
+        remedy: "\
+Compare the names with the field book by 'station_check words GSI'. 'prepare.py --rename
+BLOCK NAME' of the examples gives blocks the right name in a copy, and --capitals writes all names
+in capitals. If another station stands among these readings, leave its blocks out of a copy with
+--blocks, and mark that.",
     },
 ];
 
@@ -955,18 +1020,19 @@ its own.",
         meaning: "a residual is above its limit",
         when: "\
 As 'kernel: Residual', the residual of the obs row of this number, from 1, is above the limit that
-'--residual' stated. As 'adjust: Residual', some least-squares residual is above 10 mgon in the
-adjustment of 'compare', 'differences', 'directions', 'report' or 'residuals', and that of the
-observation of this number, from 1, is the greatest. The observations of a station are counted in
-the order in which 'station_check list GSI' has them.",
+'--residual' stated. As 'adjust: Residual', some least-squares residual is above what '--residual'
+stated for 'compare', 'differences', 'directions' or 'report', or above 10 mgon where none is
+stated, as always for 'residuals'; and that of the observation of this number, from 1, is the
+greatest. The observations of a station are counted in the order in which 'station_check list GSI'
+has them.",
         example: "refused: kernel: Residual 1",
         remedy: "\
-Look at that observation: 'station_check list --csv GSI' has them in their order. One
-that stands out has a wrong target or a wrong name in both faces. If many do, the instrument was
-moved: or two set-ups stand in one station, or sets are shifted, if 'mark' put in the codes: compare
-its notes with the field book. In a sheet, look at the full turns of its row too: a wrong turn is
-400 gon. For 'check' a wider limit may be stated, up to 10mgon: 'station_check report' then has the
-least-squares residuals of all sets beside each other, if none is above that.",
+Look at that observation: 'station_check residuals GSI STATION' has the residuals in
+their order, if none is above 10 mgon, and 'station_check list --csv GSI' the directions. One that
+stands out has a wrong target or a wrong name in both faces. If many do, the instrument was moved:
+or two set-ups stand in one station, or sets are shifted, if 'mark' put in the codes: compare its
+notes with the field book. In a sheet, look at the full turns of its row too: a wrong turn is 400
+gon. If no better readings are to be had, a wider limit may be stated, up to 10mgon.",
     },
 ];
 
@@ -1035,7 +1101,7 @@ mgon: the least limit with which the table agrees. The second is the limit that 
         remedy: "\
 Print the difference of each target by 'station_check differences': in its last column
 a direction that is wrong stands out alone, by its whole error. The protocol of the sets has the
-differences too, by 'station_check report --table'. The best rotation halves the error of a single
+same columns, by 'station_check report --table'. The best rotation halves the error of a single
 target, since all others take the other half: 1 mgon shows as 0.500 mgon, and in the differences as
 0.500 beside -0.500. If one row stands out, see what the program did: plain means of incomplete
 sets, weights and observations that it left out give other directions. If all rows differ by no more
@@ -1061,11 +1127,23 @@ letters differ, and a path without '/' before it is looked for in the folder tha
 a path like any other: name /dev/stdin for standard input.",
     },
     Said {
+        names: &["already there"],
+        meaning: "a new file was asked for, and something has its name already",
+        when: "\
+'mark' makes a copy in a file of its own only where nothing has its name: it writes over nothing.
+Nothing was read, and the exit status is 2.",
+        example: "already there: marked.gsi",
+        remedy: "\
+Name another file for the copy, or put the old one out of the way,
+if it isn't the job itself.",
+    },
+    Said {
         names: &["write failed"],
         meaning: "what was to be printed could not be written whole",
         when: "\
 A write to standard output failed: its disk is full, it is closed, or the program that read it has
-left. Some of the first bytes may have been written.",
+left. Or the new file that was asked for could not be made or filled: its folder is missing, or
+closed to you, or its disk is full. Some of the first bytes may have been written.",
         example: "refused: write failed",
         remedy: "\
 See that the output has room and is read to its end, and run it again. What was written

@@ -190,18 +190,32 @@ pub extern "C" fn station_page_mark(
     alloc: Global,
     gsi: &[u8],
     name: &[u8],
+    sets: u32,
+    targets: u32,
+    others: bool,
     out: &mut [u8],
     written: &mut usize,
     notes: &mut [u8],
     notes_written: &mut usize,
 ) -> u8
     ensures copy { ShowsInRange (MayBeStated name.now)
-        (IsMarkOf gsi.now name.now (length notes.old) (take notes_written.new notes.new)) out.old
-        out.new written.new result }
+        (IsMarkOf gsi.now name.now sets targets others (length notes.old)
+        (take notes_written.new notes.new)) out.old out.new written.new result }
     ensures notes { Leaves notes.old notes.new notes_written.new }
     ensures beyond { ¬ MayBeStated name.now → notes_written.new ≡ 0 }
 {
-    page_mark(alloc, gsi, name, out, written, notes, notes_written)
+    page_mark(
+        alloc,
+        gsi,
+        name,
+        sets,
+        targets,
+        others,
+        out,
+        written,
+        notes,
+        notes_written,
+    )
 }
 
 /// [`page_digest`], exported.

@@ -25,13 +25,16 @@ complete -c station_check -n '__fish_seen_subcommand_from compare differences di
 complete -c station_check -n '__fish_seen_subcommand_from compare differences report' -l degrees -d "Read the directions of the table in degrees, and not in gon: with minutes and seconds, as 59-04-09.18, or with decimals, as 59.069217"
 complete -c station_check -n '__fish_seen_subcommand_from compare differences directions residuals report check means list' -l two-c -x -d "The limit of 2c, as 0.3mgon: to 10000mgon, by 0.01; or in units of 0.01 mgon: 0 to 1000000"
 complete -c station_check -n '__fish_seen_subcommand_from compare differences directions residuals report check means list' -l two-i -x -d "The limit of 2i, as 0.3mgon: to 10000mgon, by 0.01; or in units of 0.01 mgon: 0 to 1000000"
+complete -c station_check -n '__fish_seen_subcommand_from compare differences directions report check' -l residual -x -d "The limit of residuals, as 0.3mgon: to 10mgon, by 0.005; or in half units of 0.005 mgon: 0 to 2000"
 complete -c station_check -n '__fish_seen_subcommand_from compare report' -l within -x -d "How near the directions must be, as 0.05mgon: to 1000mgon, by 0.001; or in units of 0.001 mgon: 0 to 1000000"
 complete -c station_check -n '__fish_seen_subcommand_from compare report check' -l sha256 -d "Print the SHA-256 digest of each file after the answer"
 complete -c station_check -n '__fish_seen_subcommand_from directions' -l decimals -x -d "How many decimals of a gon a direction is written with: 1 to 8"
 complete -c station_check -n '__fish_seen_subcommand_from report' -l table -r -F -d "A table of directions, as 'compare' reads it, which stands beside the adjusted ones with the differences and whether it agrees"
 complete -c station_check -n '__fish_seen_subcommand_from report list' -l csv -d "Print rows for other programs, as CSV with a row of titles: directions in gon with 6 decimals, face differences in mgon with 2, residuals in mgon with 3"
-complete -c station_check -n '__fish_seen_subcommand_from check' -l residual -x -d "The limit of residuals, as 0.3mgon: to 10mgon, by 0.005; or in half units of 0.005 mgon: 0 to 2000"
 complete -c station_check -n '__fish_seen_subcommand_from mark' -l station -x -d "The name of the station, of a file without set-up lines: 1 to 16 characters of ASCII, from the blank to '~'"
+complete -c station_check -n '__fish_seen_subcommand_from mark' -l sets -x -d "How many sets were read to the end at each station that has sets: 1 to 40"
+complete -c station_check -n '__fish_seen_subcommand_from mark' -l targets -x -d "How many targets these sets have: 1 to 100"
+complete -c station_check -n '__fish_seen_subcommand_from mark' -l others -d "Leave the readings of stations that are not recognized outside of the sets, and mark the others"
 complete -c station_check -n '__fish_seen_subcommand_from help' -a 'compare differences directions residuals report check means mark list words explain'
 # The end of the commands.
 

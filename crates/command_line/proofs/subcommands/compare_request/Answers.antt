@@ -1,14 +1,24 @@
-use Rattle.std.proofs.Common.{refl, rules}
+use Rattle.std.proofs.Common.{inl, inr, refl, rules}
 use Rattle.command_line.proofs.subcommands.compare_request.Goals as goal
 
 pub returns-clause-asked : goal.returns-clause-asked
 returns-clause-asked c = (
   refl,
   record {
-    station_of = search rules;
+    result_of = search rules;
     of_table = search rules;
     of_unit = search rules;
     of_within = search rules;
     of_digests = search rules;
   },
 )
+
+pub returns-in_default-clause-none : goal.returns-in_default-clause-none
+returns-in_default-clause-none c = inl c.in_default.ensures.none
+
+pub returns-in_err-get_str-clause-none : goal.returns-in_err-get_str-clause-none
+returns-in_err-get_str-clause-none c = rw c.from_residual.ensures (inr (inl (search rules)))
+
+pub returns-in_err-within_of-clause-none : goal.returns-in_err-within_of-clause-none
+returns-in_err-within_of-clause-none c =
+    rw c.from_residual-in_err-within_of.ensures (inr (inr c.in_err-within_of.ensures.none))

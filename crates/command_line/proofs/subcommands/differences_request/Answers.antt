@@ -1,5 +1,11 @@
-use Rattle.std.proofs.Common.{refl, rules}
+use Rattle.std.proofs.Common.{inl, inr, refl, rules}
 use Rattle.command_line.proofs.subcommands.differences_request.Goals as goal
 
 pub returns-clause-asked : goal.returns-clause-asked
 returns-clause-asked c = (refl, search rules, search rules, search rules)
+
+pub returns-in_default-clause-none : goal.returns-in_default-clause-none
+returns-in_default-clause-none c = inl c.in_default.ensures.none
+
+pub returns-in_err-get_str-clause-none : goal.returns-in_err-get_str-clause-none
+returns-in_err-get_str-clause-none c = rw c.from_residual.ensures (inr (search rules))

@@ -1,5 +1,12 @@
-use Rattle.std.proofs.Common.{refl, rules}
+use Rattle.std.proofs.Common.{inl, inr, refl, rules}
 use Rattle.command_line.proofs.subcommands.directions_request.Goals as goal
 
 pub returns-clause-asked : goal.returns-clause-asked
 returns-clause-asked c = (refl, search rules, search rules)
+
+pub returns-in_default-clause-none : goal.returns-in_default-clause-none
+returns-in_default-clause-none c = inl c.in_default.ensures.none
+
+pub returns-in_err-decimals_of-clause-none : goal.returns-in_err-decimals_of-clause-none
+returns-in_err-decimals_of-clause-none c =
+    rw c.from_residual.ensures (inr c.in_err-decimals_of.ensures.none)

@@ -27,21 +27,24 @@ returns-in-compare-clause-none c =
     where_none _ _ _ (of_compare c.in-compare.is) c.compare_request.ensures.none
 
 pub returns-in-differences-clause-asked : goal.returns-in-differences-clause-asked
-returns-in-differences-clause-asked c = by_name _ _ _ _ c.in-differences.is c.differences_request.ensures.asked
+returns-in-differences-clause-asked c =
+    by_name _ _ _ _ c.in-differences.is c.differences_request.ensures.asked
 
 pub returns-in-differences-clause-none : goal.returns-in-differences-clause-none
 returns-in-differences-clause-none c =
     where_none _ _ _ (of_differences c.in-differences.is) c.differences_request.ensures.none
 
 pub returns-in-directions-clause-asked : goal.returns-in-directions-clause-asked
-returns-in-directions-clause-asked c = by_name _ _ _ _ c.in-directions.is c.directions_request.ensures.asked
+returns-in-directions-clause-asked c =
+    by_name _ _ _ _ c.in-directions.is c.directions_request.ensures.asked
 
 pub returns-in-directions-clause-none : goal.returns-in-directions-clause-none
 returns-in-directions-clause-none c =
     where_none _ _ _ (of_directions c.in-directions.is) c.directions_request.ensures.none
 
 pub returns-in-residuals-clause-asked : goal.returns-in-residuals-clause-asked
-returns-in-residuals-clause-asked c = by_name _ _ _ _ c.in-residuals.is c.residuals_request.ensures.asked
+returns-in-residuals-clause-asked c =
+    by_name _ _ _ _ c.in-residuals.is c.residuals_request.ensures.asked
 
 pub returns-in-residuals-clause-none : goal.returns-in-residuals-clause-none
 returns-in-residuals-clause-none c =

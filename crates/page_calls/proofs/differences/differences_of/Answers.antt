@@ -21,5 +21,6 @@ both_as_told gsi table r So a file stated e f =
 
 pub returns : goal.returns
 returns c =
-    both_as_told _ _ c.differences_text.result _ c.differences_text.ensures.1 _ _
-    (ap Some c.source_of.ensures) (ap Some c.source_of-2.ensures)
+    let told = both_as_told _ _ c.differences_text.result _ c.differences_text.ensures.1 _ _
+    (ap Some c.source_of.ensures) (ap Some c.source_of-2.ensures) in
+    rw c.of_faces-limits.ensures at told

@@ -1,5 +1,6 @@
 use Rattle.std.proofs.Common.{ℕ, Ok, Err, rules, subst}
 use Rattle.gsi_file.specs.FileAnswers.{file_answers}
+use Rattle.station_book.specs.ResultLimits.{of_faces}
 use Rattle.station_check.specs.Came.{source_of}
 use Rattle.station_compare.specs.Directions.{StatesDirections}
 use Rattle.page_calls.proofs.directions.page_directions.Goals as goal
@@ -12,7 +13,7 @@ returns-in-Ok c = record {
     answer = Ok c.in-Ok.table.items;
     tells = subst
         (λ (count : ℕ).
-        StatesDirections c.in-Some.limits
+        StatesDirections (of_faces c.in-Some.limits)
         (file_answers (source_of c.args.gsi.now)) c.args.name.now count c.in-Ok.table.items)
         c.in-Some-new.ensures.some c.in-Ok.ensures;
     hands_out = search rules;

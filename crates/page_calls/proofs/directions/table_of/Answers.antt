@@ -5,5 +5,5 @@ use Rattle.page_calls.proofs.directions.table_of.Goals as goal
 
 pub returns : goal.returns
 returns c =
-    came_as_told _ _ c.directions_text.ensures.1.came (source_of c.args.gsi.now)
-    (ap Some c.source_of.ensures)
+    let told = came_as_told _ _ c.directions_text.ensures.1.came (source_of c.args.gsi.now)
+    (ap Some c.source_of.ensures) in rw c.of_faces-limits.ensures at told

@@ -1,60 +1,74 @@
-use Rattle.std.proofs.Common.{ℕ, List, Option, Result, Ok, Err, subst, rules}
+use Rattle.std.proofs.Common.{ℕ, Bool, List, Option, Result, Ok, Err, subst, rules}
 use Rattle.gsi_file.specs.FileAnswers.{file_answers}
 use Rattle.set_marks.specs.Markings.{AnswersMark}
-use Rattle.set_marks.specs.declared.fault.MarkFault.{MarkFault}
+use Rattle.set_marks.specs.declared.fault.MarkFault.TheVariants.{Memory}
 use Rattle.set_marks.specs.declared.marked.Marked.{Marked}
+use Rattle.set_marks.specs.declared.refused.Refused.{Refused}
+use Rattle.set_marks.specs.declared.refused.Refused.TheVariants.{File}
+use Rattle.set_marks.specs.declared.stated.Stated.{Stated}
 use Rattle.station_check.specs.Came.{source_of}
-use Rattle.station_check.specs.RunEndings.{status_of}
-use Rattle.station_mark.specs.FaultTexts.{refusal_line}
-use Rattle.station_mark.specs.declared.fault.PrintFault.TheVariants.{Mark}
 use Rattle.page_calls.specs.Answers.{IsMarkOf}
 use Rattle.page_calls.specs.HandedOut.{HandsOut}
-use Rattle.page_calls.specs.Limits.{stated_name}
-use Rattle.page_calls.specs.Noted.{IsNoted, Notes, copy_in, notes_in}
+use Rattle.page_calls.specs.Limits.{stated_name, stated_file}
+use Rattle.page_calls.specs.Noted.{IsNoted, Notes, copy_in, notes_in, status_in}
 use Rattle.page_calls.specs.declared.mark.Noted.{Noted}
+use Rattle.page_calls.specs.declared.mark.Noted.TheVariants as noted
 use Rattle.page_calls.proofs.mark.page_mark.Goals as goal
 
 -- An answer, handed out.
-of_answer : (gsi name : List ℕ) (room notes_room status answered : ℕ) (shown notes : List ℕ)
-    (r : Result Noted MarkFault) (marking : Result Marked MarkFault)
-    → AnswersMark (stated_name name) gsi (file_answers (source_of gsi)) marking
-    → Notes gsi marking r → HandsOut (status_of r) (copy_in r) room status shown
-    → HandsOut status (notes_in r) notes_room answered notes
-    → IsMarkOf gsi name notes_room notes room answered shown
-of_answer gsi name room notes_room status answered shown notes (Ok n) (Ok m) marks same copy told =
-    record {
+of_answer : (gsi name : List ℕ) (sets targets : ℕ) (others : Bool)
+    (room notes_room status answered : ℕ) (shown notes : List ℕ) (n : Noted)
+    (marking : Result Marked Refused)
+    → AnswersMark (stated_name name) (stated_file sets targets others) gsi
+    (file_answers (source_of gsi)) marking
+    → Notes gsi marking n → HandsOut (status_in n) (copy_in n) room status shown
+    → HandsOut status (notes_in n) notes_room answered notes
+    → IsMarkOf gsi name sets targets others notes_room notes room answered shown
+of_answer gsi name sets targets others room notes_room status answered shown notes
+    (noted.Marked text told) (Ok m) marks same copy handed = record {
       answer = Ok m;
       marks = marks;
       status = status;
       hands_copy_out = subst (λ (t : List ℕ). HandsOut 0 t room status shown) same.0 copy;
       hands_notes_out =
-          subst (λ (t : List ℕ). HandsOut status t notes_room answered notes) same.1 told;
+          subst (λ (t : List ℕ). HandsOut status t notes_room answered notes) same.1 handed;
     }
-of_answer gsi name room notes_room status answered shown notes (Ok n) (Err fault) marks same copy
-    told = absurd same
-of_answer gsi name room notes_room status answered shown notes (Err fault) (Ok m) marks same copy
-    told = absurd same
-of_answer gsi name room notes_room status answered shown notes (Err fault) (Err given) marks same
-    copy told = record {
-      answer = Err given;
+of_answer gsi name sets targets others room notes_room status answered shown notes
+    (noted.Marked text told) (Err refused) marks same copy handed = absurd same
+of_answer gsi name sets targets others room notes_room status answered shown notes
+    (noted.Unmarked text) (Ok m) marks same copy handed = absurd same
+of_answer gsi name sets targets others room notes_room status answered shown notes
+    (noted.Unmarked text) (Err refused) marks same copy handed = record {
+      answer = Err refused;
       marks = marks;
       status = status;
       hands_copy_out = copy;
       hands_notes_out =
-          subst
-          (λ (f : MarkFault).
-          HandsOut status (refusal_line (Mark f)) notes_room answered notes)
-          same told;
+          subst (λ (t : List ℕ). HandsOut status t notes_room answered notes) same handed;
+    }
+of_answer gsi name sets targets others room notes_room status answered shown notes
+    noted.OutOfMemory (Ok m) marks same copy handed = absurd same
+of_answer gsi name sets targets others room notes_room status answered shown notes
+    noted.OutOfMemory (Err refused) marks same copy handed = record {
+      answer = Err (File Memory);
+      marks = tt;
+      status = status;
+      hands_copy_out = copy;
+      hands_notes_out = handed;
     }
 
 pub returns-clause-copy : goal.returns-clause-copy
 returns-clause-copy c = record {
   shows = λ may.
       let its =
-      subst (λ (s : Option (List ℕ)). IsNoted s c.args.gsi.now c.with_notes-answer.result)
-      c.in-Ok.ensures.ok c.with_notes-answer.ensures in
-      of_answer c.args.gsi.now c.args.name.now _ _ c.hand_out-status.result _ _ _
-      c.with_notes-answer.result its.marking its.marks its.notes (search rules) (search rules);
+      subst (λ (s : Option (List ℕ)). IsNoted s
+      (stated_file c.args.sets c.args.targets c.args.others) c.args.gsi.now
+      c.with_notes-noted.result) c.in-Ok.ensures.ok
+      (subst (λ (s : Stated). IsNoted c.in-Ok.station s c.args.gsi.now c.with_notes-noted.result)
+      c.stated_file-stated.ensures c.with_notes-noted.ensures) in
+      of_answer c.args.gsi.now c.args.name.now c.args.sets c.args.targets c.args.others _ _
+      c.hand_out-status.result _ _ _
+      c.with_notes-noted.result its.marking its.marks its.notes (search rules) (search rules);
   beyond = search rules;
   leaves = search rules;
 }
