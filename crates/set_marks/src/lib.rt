@@ -2,6 +2,7 @@
 //! and the copy of the file that has them.
 #![tactic(auto)]
 
+mod beginnings;
 pub mod book_laws;
 mod bounds;
 mod copy;
@@ -35,6 +36,7 @@ mod stated;
 pub mod stated_laws;
 mod walk;
 
+pub use beginnings::Beginnings;
 pub use bounds::MOST_READINGS;
 pub use copy::marked_copy;
 pub use division::{Divided, divide};
@@ -44,8 +46,9 @@ pub use line_end::LineEnd;
 pub use mark::{BlockMark, Code, CodeLine, LONGEST_CODE_LINE, Mark, code_line};
 pub use marked::{Marked, mark_file};
 pub use names::Names;
+pub use reading::bare_name;
 pub use recognized::Recognized;
 pub use refused::Refused;
 pub use remarks::Remarks;
 pub use sight::Sight;
-pub use stated::Stated;
+pub use stated::{NamedNumber, Stated, StatedNumber};

@@ -128,7 +128,7 @@ fn bare_of(bytes: &[u8]) -> Name
 }
 
 /// A name without the zeros before it, as it is read in a field file.
-fn bare(name: &Name) -> Name
+pub fn bare_name(name: &Name) -> Name
     ensures { result ≡ name_of name.now }
 {
     bare_of(name.bytes())
@@ -141,7 +141,7 @@ pub(crate) fn no_readings(alloc: Global, station: Option<Name>, stated: Stated) 
     ensures room { All IsRoomy result.marking.marks.items }
 {
     match station {
-        Some(name) => Readings::new(alloc, Some(bare(&name)), stated),
+        Some(name) => Readings::new(alloc, Some(bare_name(&name)), stated),
         None => Readings::new(alloc, None, stated),
     }
 }
