@@ -1,6 +1,7 @@
 """The cases of conformance/ over the program, and over the model."""
 
 import os
+import re
 import subprocess
 import sys
 import unittest
@@ -46,6 +47,19 @@ def limit(text, unit, largest):
     return stated
 
 
+def numbers(texts, most):
+    """The number that is stated of each station, or none, and those of single ones by name."""
+    found = {}
+    for text in texts:
+        name, equals, number = text.rpartition("=")
+        of = model.name_of(name.encode()) if equals else None
+        is_number = re.fullmatch("[0-9]+", number) and 1 <= int(number) <= most
+        if of in found or not is_number or (equals and not model.is_name(name.encode())):
+            raise Mistake(text)
+        found[of] = int(number)
+    return found.pop(None, None), found
+
+
 def command_line():
     parser = Parser(allow_abbrev=False)
     of_faces = partial(limit, unit=model.FACE_UNIT, largest=model.LARGEST_LIMIT)
@@ -61,9 +75,11 @@ def command_line():
     parser.add_argument("--degrees", action="store_true")
     parser.add_argument("--table")
     parser.add_argument("--sha256", action="store_true")
-    parser.add_argument("--sets", type=int)
-    parser.add_argument("--targets", type=int)
+    parser.add_argument("--sets", action="append", default=[])
+    parser.add_argument("--targets", action="append", default=[])
     parser.add_argument("--others", action="store_true")
+    parser.add_argument("--same-set-up", action="store_true")
+    parser.add_argument("--station-code", type=str.encode)
     parser.add_argument("command", nargs="?")
     parser.add_argument("operands", nargs="*")
     return parser
@@ -81,6 +97,8 @@ def model_answer(case):
     mistake on the command line."""
     try:
         asked = command_line().parse_intermixed_args(case.args)
+        sets, own_sets = numbers(asked.sets, model.MOST_SETS)
+        targets, own_targets = numbers(asked.targets, model.MOST_TARGETS)
     except Mistake:
         return (2, b"", b"")
     if asked.residual is not None and asked.command not in HELD:
@@ -108,7 +126,11 @@ def model_answer(case):
     if asked.command == "check":
         return model.check(*files, limits, fails=fails, **held)
     if asked.command == "mark":
-        stated = model.StatedSets(asked.sets, asked.targets, asked.others)
+        code = asked.station_code and model.name_of(asked.station_code)
+        if code in (b"10", b"20", b"30") or not (code is None or model.is_name(code)):
+            return (2, b"", b"")
+        others, same = asked.others, asked.same_set_up
+        stated = model.StatedSets(sets, targets, others, own_sets, own_targets, same, code)
         return model.marked(files[0], asked.station, fails[0], stated)
     station = asked.operands[1].encode()
     if asked.command == "means":

@@ -81,10 +81,8 @@ class Case(NamedTuple):
         if self.degrees:
             options.append("--degrees")
         if self.command == "mark":
-            sets, targets, others = self.stated
-            said = {"station": self.station, "sets": sets, "targets": targets}
-            of_sets = [f"--{name}={value}" for name, value in said.items() if value is not None]
-            return ["mark", *of_sets, *["--others"] * others, gsi]
+            named = [] if self.station is None else [f"--station={self.station}"]
+            return ["mark", *named, *self.stated.options(), gsi]
         return {
             "words": ["words", gsi],
             "list": ["list", *options, gsi],

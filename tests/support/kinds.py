@@ -24,7 +24,8 @@ TABLE_ROW_FAULTS = ["Fields", "Name", "Number", "Range", "Unknown", "Twice"]
 
 # Of blocks and of sets of a file into which codes are to be put.
 MARK_FAULTS = [
-    *["TwoLines", "HasCodes", "HasSetUp", "NoSetUp", "NameTooLong", "NoSets", "ReadTwice"],
+    *["TwoLines", "HasCodes", "HasSetUp", "NoSetUp", "NameTooLong", "Empty", "NoSets", "NoSuchStation"],
+    *["ReadTwice"],
     *["FaceMissing", "OneTarget", "Order", "EndsElsewhere", "OneSet", "FirstFace", "MayBeShifted"],
     *["PairAfter", "OtherTargets", "SightsItself", "StationTwice", "ByTargets", "SetCount", "TargetCount"],
 ]

@@ -4,7 +4,7 @@ use Rattle.std.specs.Prelude.{None, ⊤, if◌then◌else◌}
 use Rattle.adjust_kernel.specs.declared.bounds.TheConstants.{LARGEST_RESIDUAL_LIMIT}
 use Rattle.adjust_kernel.specs.Names.{IsName}
 use Rattle.direction_table.specs.declared.limit.TheConstants.{LARGEST_WITHIN}
-use Rattle.set_marks.specs.declared.stated.Stated.{Stated}
+use Rattle.set_marks.specs.Numbers.{Said}
 use Rattle.station_book.specs.Limits.{FaceLimits}
 use Rattle.station_book.specs.declared.limits.TheConstants.{LARGEST_LIMIT}
 
@@ -47,11 +47,11 @@ stated_name (byte ∷ bytes) = Some (byte ∷ bytes)
 abbrev pub stated_number : ℕ → Option ℕ
 stated_number number = if number == 0 then None else Some number
 
--- what is stated of a file, by two such numbers, how many sets there are and of how many targets,
--- and whether stations with a fault stay outside
-abbrev pub stated_file : ℕ → ℕ → Bool → Stated
+-- what is stated of a file, by two such numbers, how many sets each station has and of how many
+-- targets, and whether stations with a fault stay outside
+abbrev pub stated_file : ℕ → ℕ → Bool → Said
 stated_file sets targets others = record {
-  sets = stated_number sets;
-  targets = stated_number targets;
+  sets = record { of_each = stated_number sets; of_one = [] };
+  targets = record { of_each = stated_number targets; of_one = [] };
   others = others;
 }

@@ -6,7 +6,7 @@ use Rattle.set_marks.specs.declared.fault.MarkFault.TheVariants.{Memory}
 use Rattle.set_marks.specs.declared.marked.Marked.{Marked}
 use Rattle.set_marks.specs.declared.refused.Refused.{Refused}
 use Rattle.set_marks.specs.declared.refused.Refused.TheVariants.{File}
-use Rattle.set_marks.specs.declared.stated.Stated.{Stated}
+use Rattle.set_marks.specs.Numbers.{Said}
 use Rattle.station_check.specs.Came.{source_of}
 use Rattle.station_mark.specs.FaultTexts.{refusal_line, refusal_text, unmarked}
 use Rattle.station_mark.specs.Notes.{notes_of}
@@ -24,7 +24,7 @@ Notes gsi (Err refused) noted.OutOfMemory = refused ≡ File Memory
 Notes gsi marking n = ⊥
 
 -- It is so of the marking of these bytes.
-pub record IsNoted (station : Option (List ℕ)) (stated : Stated) (gsi : List ℕ) (n : Noted)
+pub record IsNoted (station : Option (List ℕ)) (stated : Said) (gsi : List ℕ) (n : Noted)
     : Type 0 where
   pub marking : Result Marked Refused
   pub marks : AnswersMark station stated gsi (file_answers (source_of gsi)) marking

@@ -1,6 +1,7 @@
 //! The copy of a field file with codes put in, for a page.
 
 ghost use Rattle.std.specs.Prelude.{◌≡◌, IfOk, IfErr, length, take};
+ghost use Rattle.set_marks.specs.Numbers.{said_in};
 ghost use Rattle.page_calls.specs.Answers.{IsMarkOf};
 ghost use Rattle.page_calls.specs.Limits.{MayBeStated, stated_file, stated_name, stated_number};
 ghost use Rattle.page_calls.specs.HandedOut.{HandsOut, Leaves, Shows, ShowsInRange};
@@ -8,7 +9,7 @@ ghost use Rattle.page_calls.specs.Noted.{IsNoted, copy_in, notes_in, status_in};
 
 use crate::hand_out::{OUT_OF_RANGE, hand_out};
 use adjust_kernel::Name;
-use set_marks::{MarkFault, Stated, mark_file, marked_copy};
+use set_marks::{MarkFault, Stated, StatedNumber, mark_file, marked_copy};
 use station_check::{ACCEPTED, REFUSED};
 use station_mark::{PrintFault, notes_text, refusal_line, refusal_text};
 use std::alloc::{AllocError, Global};
@@ -45,7 +46,7 @@ pub fn page_mark(
     let Ok(station) = stated_name(name) else {
         return OUT_OF_RANGE;
     };
-    let stated = stated_file(sets, targets, others);
+    let stated = stated_file(alloc, sets, targets, others);
     let noted = with_notes(alloc, gsi, station, stated);
     let status = hand_out(noted.status(), noted.copy(), out, written);
     hand_out_notes(&noted, status, notes, notes_written)
@@ -126,19 +127,19 @@ fn stated_number(number: u32) -> Option<u32>
 }
 
 /// What is stated of a file, each number 0 for none.
-fn stated_file(sets: u32, targets: u32, others: bool) -> Stated
-    ensures { result ≡ stated_file sets targets others }
+fn stated_file(alloc: Global, sets: u32, targets: u32, others: bool) -> Stated
+    ensures { said_in result ≡ stated_file sets targets others }
 {
     Stated {
-        sets: stated_number(sets),
-        targets: stated_number(targets),
+        sets: StatedNumber::of_each(alloc, stated_number(sets)),
+        targets: StatedNumber::of_each(alloc, stated_number(targets)),
         others,
     }
 }
 
 /// The copy of a field file with codes put in, and its notes; or the text of the refusal.
 fn with_notes(alloc: Global, gsi: &[u8], station: Option<Name>, stated: Stated) -> Noted
-    ensures { IsNoted station stated gsi.now result }
+    ensures { IsNoted station (said_in stated) gsi.now result }
 {
     match try_notes(alloc, gsi, station, stated) {
         Ok(noted) => noted,
@@ -153,7 +154,7 @@ fn try_notes(
     station: Option<Name>,
     stated: Stated,
 ) -> Result<Noted, AllocError>
-    ensures { IfOk result (IsNoted station stated gsi.now) }
+    ensures { IfOk result (IsNoted station (said_in stated) gsi.now) }
 {
     match mark_file(alloc, gsi, false, station, stated) {
         Ok(marked) => {

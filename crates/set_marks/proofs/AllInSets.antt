@@ -14,7 +14,7 @@ use Rattle.station_book.specs.Faults.{first_of}
 use Rattle.set_marks.specs.declared.flaw.Flaw.{Flaw}
 use Rattle.set_marks.specs.declared.fault.MarkKind.TheVariants as kinds
 use Rattle.set_marks.specs.declared.sight.Sight.{Sight}
-use Rattle.set_marks.specs.declared.stated.Stated.{Stated}
+use Rattle.set_marks.specs.declared.stated.Numbers.{Numbers}
 use Rattle.set_marks.specs.Divisions.{is_of, seconds_of, rest_of, place_of, unknown_in, starts_of}
 use Rattle.set_marks.specs.Divisions.{starts_from, sets_flaw, first_cut, cut_end, cut_flaw}
 use Rattle.set_marks.specs.Divisions.{flaw_of, flaw_at, flaw_when, flaw_found, leading_of, parts_at}
@@ -111,7 +111,7 @@ flaw_with rs leading rest =
     (starts_of (drop leading rest)) (drop leading rest)
 
 -- So the station is what it is without leading readings and details.
-pub divided_whole : (stated : Stated) (rs : List Sight) → 1 ≤ length rs
+pub divided_whole : (stated : Numbers) (rs : List Sight) → 1 ≤ length rs
     → sets_flaw (first_cut (starts_of rs) rs) 0 (cut_end (starts_of rs) rs) (starts_of rs) rs ≡ None
     → cut_end (starts_of rs) rs ≡ length rs
     → divided_by stated rs (leading_of rs) ≡ divided_unless (doubt_after stated [] rs) 0
@@ -152,7 +152,7 @@ none_is (Some f) e = cc
 pub whole_by_few : (starts : List ℕ) (rs rest : List Sight) (r : Sight) (end : ℕ)
     → rs ≡ rest ++ r ∷ [] → starts ≡ take (MOST_SETS + 1) (starts_of rs)
     → is_none (sets_flaw (first_cut starts rs) 0 (cut_end starts rs) starts rs) ≡ true
-    → end ≡ cut_end starts rs → (end == length rs) ≡ true → (stated : Stated)
+    → end ≡ cut_end starts rs → (end == length rs) ≡ true → (stated : Numbers)
     → divided_by stated rs (leading_of rs) ≡ divided_unless (doubt_after stated [] rs) 0
 whole_by_few starts rs rest r end last are sets is whole stated =
     let none = none_is (sets_flaw (first_cut starts rs) 0 (cut_end starts rs) starts rs) sets in

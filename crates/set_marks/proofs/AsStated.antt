@@ -17,8 +17,7 @@ use Rattle.set_marks.specs.declared.division.Divided.TheVariants.{NoSets, Sets, 
 use Rattle.set_marks.specs.declared.recognized.Recognized.{Recognized}
 use Rattle.set_marks.specs.declared.marked.Marked.{Marked}
 use Rattle.set_marks.specs.declared.sight.Sight.{Sight}
-use Rattle.set_marks.specs.declared.stated.Stated.{Stated}
-use Rattle.set_marks.specs.Numbers.{is_other, is_asked}
+use Rattle.set_marks.specs.Numbers.{Said, is_asked, is_other, number_of, numbers_of}
 use Rattle.set_marks.specs.Stations.{Occupation, stations_of}
 use Rattle.set_marks.specs.Divisions.{sets_of, starts_of, end_in, first_set, parts_at, targets_of}
 use Rattle.set_marks.specs.Divisions.{part, next_of, set_flaw, readings_flaw, order_flaw, sets_flaw}
@@ -29,7 +28,7 @@ use Rattle.set_marks.specs.SetsInWords.{ReadsEachOnce, one_after_another}
 use Rattle.set_marks.specs.Judging.{Before, none_before, judged, judged_from, judged_of}
 use Rattle.set_marks.specs.Judging.{names_after}
 use Rattle.set_marks.specs.Marking.{recognized, recognized_from, first_fault}
-use Rattle.set_marks.specs.Marking.{no_sets_fault}
+use Rattle.set_marks.specs.Marking.{no_sets_fault, unfound_fault}
 use Rattle.set_marks.specs.Markings.{IsMarking}
 use Rattle.set_marks.specs.Stated.{IsAsStated, AreAsStated, IsByFaces}
 use Rattle.set_marks.proofs.BeginsAndEnds.{first_start}
@@ -96,56 +95,59 @@ same_targets all rs has = ap targets_of (whole (end_in all) all ∙ has.read
     ∙ sym (whole (cut_end (starts_of rs) rs) rs))
 
 -- Sets that are not read by targets where no number of them is stated.
-not_by_targets : (stated : Stated) (before : Before) (s : Occupation) (leading : ℕ)
-    → judged stated before s ≡ Sets leading → stated.sets ≡ None
+not_by_targets : (stated : Said) (before : Before) (s : Occupation) (leading : ℕ)
+    → judged stated before s ≡ Sets leading → number_of stated.sets s.name ≡ None
     → are_by_targets (drop leading s.sights) ≡ false
 not_by_targets stated before s leading is none =
-    let found = divided_sets stated s.sights leading
+    let numbers = numbers_of stated s.name in
+    let found = divided_sets numbers s.sights leading
     (has_no_fault stated before s leading is).divides in
-    let sure = all_none (doubts stated found.before found.rest) found.sure in
+    let sure = all_none (doubts numbers found.before found.rest) found.sure in
     let by = are_by_targets found.rest in
     same_way (drop leading s.sights) found.rest found.sets
-    ∙ unasked by stated.sets (no_flaw (is_asked by stated.sets) kinds.ByTargets
+    ∙ unasked by numbers.sets (no_flaw (is_asked by numbers.sets) kinds.ByTargets
     (slice_get found.rest 0) sure.1.1.0) none
 
 -- What is told of a station with sets is what is stated.
-one_as_stated : (stated : Stated) (before : Before) (s : Occupation) (leading : ℕ)
-    → judged stated before s ≡ Sets leading → IsAsStated stated (recognized s (Sets leading))
+one_as_stated : (stated : Said) (before : Before) (s : Occupation) (leading : ℕ)
+    → judged stated before s ≡ Sets leading
+    → IsAsStated (numbers_of stated s.name) (recognized s (Sets leading))
 one_as_stated stated before s leading is =
+    let numbers = numbers_of stated s.name in
     let all = drop leading s.sights in
-    let found = divided_sets stated s.sights leading
+    let found = divided_sets numbers s.sights leading
     (has_no_fault stated before s leading is).divides in
     let rs = found.rest in
     let count = length (starts_of rs) in
     let targets = length (targets_of (part 0 (cut_end (starts_of rs) rs) rs)) in
     let first = slice_get rs 0 in
     let single = are_by_targets rs && (count == 1) in
-    let sure = all_none (doubts stated found.before rs) found.sure in
-    let none = none_of_three (flaw_when (is_other stated.sets count) kinds.SetCount first)
-    (flaw_when (is_asked single stated.targets) kinds.ByTargets first)
-    (flaw_when (is_other stated.targets targets) kinds.TargetCount first) sure.1.1.1.1.0 in
+    let sure = all_none (doubts numbers found.before rs) found.sure in
+    let none = none_of_three (flaw_when (is_other numbers.sets count) kinds.SetCount first)
+    (flaw_when (is_asked single numbers.targets) kinds.ByTargets first)
+    (flaw_when (is_other numbers.targets targets) kinds.TargetCount first) sure.1.1.1.1.0 in
     let same_count : length (starts_of all) ≡ count = ap length found.sets.alike.starts in
     let same_number : length (targets_of (part 0 (end_in all) all)) ≡ targets =
     ap length (same_targets all rs found.sets) in
     record {
-      sets = is_this stated.sets (length (starts_of all))
-          (ap (λ (n : ℕ). is_other stated.sets n) same_count
-          ∙ no_flaw (is_other stated.sets count) kinds.SetCount first none.0);
-      targets = is_this stated.targets (length (targets_of (part 0 (end_in all) all)))
-          (ap (λ (n : ℕ). is_other stated.targets n) same_number
-          ∙ no_flaw (is_other stated.targets targets) kinds.TargetCount first none.2);
+      sets = is_this numbers.sets (length (starts_of all))
+          (ap (λ (n : ℕ). is_other numbers.sets n) same_count
+          ∙ no_flaw (is_other numbers.sets count) kinds.SetCount first none.0);
+      targets = is_this numbers.targets (length (targets_of (part 0 (end_in all) all)))
+          (ap (λ (n : ℕ). is_other numbers.targets n) same_number
+          ∙ no_flaw (is_other numbers.targets targets) kinds.TargetCount first none.2);
       by_faces = not_by_targets stated before s leading is;
-      single = λ by one. asked single stated.targets
-          (no_flaw (is_asked single stated.targets) kinds.ByTargets first none.1)
+      single = λ by one. asked single numbers.targets
+          (no_flaw (is_asked single numbers.targets) kinds.ByTargets first none.1)
           (both_hold (are_by_targets rs) count (sym (same_way all rs found.sets) ∙ by)
           (sym same_count ∙ one));
     }
 
 -- What is told of a station, if it has sets, is what is stated.
-abbrev AsStated : Stated → Recognized → Type 0
-AsStated stated r = (r.sets == 0) ≡ false → IsAsStated stated r
+abbrev AsStated : Said → Recognized → Type 0
+AsStated stated r = (r.sets == 0) ≡ false → IsAsStated (numbers_of stated r.name) r
 
-station_as_stated : (stated : Stated) (before : Before) (s : Occupation) (d : Divided)
+station_as_stated : (stated : Said) (before : Before) (s : Occupation) (d : Divided)
     → judged stated before s ≡ d → AsStated stated (recognized s d)
 station_as_stated stated before s NoSets is some = cc
 station_as_stated stated before s (Flawed f) is some = cc
@@ -153,7 +155,7 @@ station_as_stated stated before s (Sets leading) is some =
     one_as_stated stated before s leading is
 
 -- So it is of all stations.
-all_as_stated : (stated : Stated) (before : Before) (ss : List Occupation)
+all_as_stated : (stated : Said) (before : Before) (ss : List Occupation)
     → AreAsStated stated (recognized_from (judged_from stated before ss))
 all_as_stated stated before [] = All-nil (AsStated stated)
 all_as_stated stated before (s ∷ ss) =
@@ -232,14 +234,15 @@ all_by_faces first (set ∷ sets) is alike =
     (all_by_faces first sets is
     (All-tail (λ (s : List Sight). are_read_alike first s ≡ true) set sets alike))
 
--- Where no number is stated, a station with sets is read by faces.
-station_by_faces : (stated : Stated) (before : Before) (s : Occupation) → stated.sets ≡ None
-    → IsByFaces (record { station = s; division = judged stated before s })
+-- A station with sets of which no number is stated is read by faces.
+station_by_faces : (stated : Said) (before : Before) (s : Occupation)
+    → IsByFaces stated (record { station = s; division = judged stated before s })
 station_by_faces stated before s none leading is =
     let beyond = drop leading s.sights in
     let divides = (has_no_fault stated before s leading is).divides in
-    let are = sets_in_words stated s.sights leading divides in
-    let found = divided_sets stated s.sights leading divides in
+    let numbers = numbers_of stated s.name in
+    let are = sets_in_words numbers s.sights leading divides in
+    let found = divided_sets numbers s.sights leading divides in
     let rest = found.rest in
     let alike = all_alike (first_cut (starts_of rest) rest) 0 (cut_end (starts_of rest) rest)
     (starts_of rest) rest found.wrong in
@@ -251,14 +254,15 @@ station_by_faces stated before s none leading is =
     (sym found.sets.first) alike))
 
 -- So are all stations.
-stations_by_faces : (stated : Stated) (before : Before) (ss : List Occupation)
-    → stated.sets ≡ None → All IsByFaces (judged_from stated before ss)
-stations_by_faces stated before [] none = All-nil IsByFaces
-stations_by_faces stated before (s ∷ ss) none =
+stations_by_faces : (stated : Said) (before : Before) (ss : List Occupation)
+    → All (IsByFaces stated) (judged_from stated before ss)
+stations_by_faces stated before [] = All-nil (IsByFaces stated)
+stations_by_faces stated before (s ∷ ss) =
     let d = judged stated before s in
     let after = names_after before s d in
-    All-cons IsByFaces (record { station = s; division = d }) (judged_from stated after ss)
-    (station_by_faces stated before s none) (stations_by_faces stated after ss none)
+    All-cons (IsByFaces stated) (record { station = s; division = d })
+    (judged_from stated after ss)
+    (station_by_faces stated before s) (stations_by_faces stated after ss)
 
 -- Where none of these stations is the first with a fault, none has one.
 all_faultless : (rs : List Recognized) → first_fault rs ≡ None → All (λ r. r.fault ≡ None) rs
@@ -268,33 +272,34 @@ all_faultless (r ∷ rs) e =
     All-cons (λ (s : Recognized). s.fault ≡ None) r rs none.0 (all_faultless rs none.1)
 
 -- Of a marked file.
-pub marked_as_stated : (station : Option (List ℕ)) (stated : Stated) (bytes : List ℕ)
+pub marked_as_stated : (station : Option (List ℕ)) (stated : Said) (bytes : List ℕ)
     (answers : FileAnswers) (m : Marked) → IsMarking station stated bytes answers m
     → AreAsStated stated m.stations.items
 marked_as_stated station stated bytes answers m marking =
     subst (λ (rs : List Recognized). AreAsStated stated rs) (sym marking.told)
     (all_as_stated stated none_before (stations_of station marking.blocks))
 
-pub marked_by_faces : (station : Option (List ℕ)) (stated : Stated) (bytes : List ℕ)
+pub marked_by_faces : (station : Option (List ℕ)) (stated : Said) (bytes : List ℕ)
     (answers : FileAnswers) (m : Marked)
-    → (marking : IsMarking station stated bytes answers m) → stated.sets ≡ None
-    → All IsByFaces (judged_of station stated marking.blocks)
-marked_by_faces station stated bytes answers m marking none =
-    stations_by_faces stated none_before (stations_of station marking.blocks) none
+    → (marking : IsMarking station stated bytes answers m)
+    → All (IsByFaces stated) (judged_of station stated marking.blocks)
+marked_by_faces station stated bytes answers m marking =
+    stations_by_faces stated none_before (stations_of station marking.blocks)
 
-pub marked_few_targets : (station : Option (List ℕ)) (stated : Stated) (bytes : List ℕ)
+pub marked_few_targets : (station : Option (List ℕ)) (stated : Said) (bytes : List ℕ)
     (answers : FileAnswers) (m : Marked) → IsMarking station stated bytes answers m
     → All (λ r. r.targets ≤ MOST_TARGETS) m.stations.items
 marked_few_targets station stated bytes answers m marking =
     subst (λ (rs : List Recognized). All (λ r. r.targets ≤ MOST_TARGETS) rs) (sym marking.told)
     (all_few stated none_before (stations_of station marking.blocks))
 
-pub marked_faultless : (station : Option (List ℕ)) (stated : Stated) (bytes : List ℕ)
+pub marked_faultless : (station : Option (List ℕ)) (stated : Said) (bytes : List ℕ)
     (answers : FileAnswers) (m : Marked) → IsMarking station stated bytes answers m
     → stated.others ≡ false → All (λ r. r.fault ≡ None) m.stations.items
 marked_faultless station stated bytes answers m marking whole =
     let rs = m.stations.items in
     let end = length marking.blocks + 1 in
-    let e : first_of (first_fault rs ∷ no_sets_fault end rs ∷ []) ≡ None =
-    rw whole at marking.unrefused in
-    all_faultless rs (none_of_two (first_fault rs) (no_sets_fault end rs) e).0
+    let e : first_of (first_fault rs ∷ no_sets_fault end rs ∷ unfound_fault stated end rs ∷ [])
+    ≡ None = rw whole at marking.unrefused in
+    all_faultless rs (none_of_three (first_fault rs) (no_sets_fault end rs)
+    (unfound_fault stated end rs) e).0

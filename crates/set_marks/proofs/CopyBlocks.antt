@@ -7,7 +7,7 @@ use Rattle.gsi_word.specs.Blocks.{IsBlock}
 use Rattle.gsi_file.specs.Parts.{numbered_lines}
 use Rattle.adjust_kernel.specs.Names.{IsName}
 use Rattle.station_book.specs.Places.{History}
-use Rattle.set_marks.specs.declared.stated.Stated.{Stated}
+use Rattle.set_marks.specs.Numbers.{Said}
 use Rattle.set_marks.specs.Stations.{stations_of, fault_of_blocks}
 use Rattle.set_marks.specs.Judging.{none_before, judged_of}
 use Rattle.set_marks.specs.Marking.{marks_of}
@@ -21,7 +21,7 @@ use Rattle.set_marks.proofs.Judged.{all_sound}
 use Rattle.set_marks.proofs.MarkedFile.{copy_marked}
 
 -- What the code lines of the file say has room.
-pub all_roomy : (station : Option (List ℕ)) (stated : Stated) (bytes : List ℕ) (h : History)
+pub all_roomy : (station : Option (List ℕ)) (stated : Said) (bytes : List ℕ) (h : History)
     → AllZip IsBlock (numbered_lines bytes) (reverse h) → IfSome station IsName
     → AreRoomy (marks_of station stated h)
 all_roomy station stated bytes h zip is =
@@ -29,7 +29,7 @@ all_roomy station stated bytes h zip is =
     (stations_of station h) (bare_names station (numbered_lines bytes) h zip is))
 
 -- Each line of the copy is its block.
-pub copy_is_blocks : (station : Option (List ℕ)) (stated : Stated) (bytes : List ℕ) (h : History)
+pub copy_is_blocks : (station : Option (List ℕ)) (stated : Said) (bytes : List ℕ) (h : History)
     → AllZip IsBlock (numbered_lines bytes) (reverse h) → IfSome station IsName
     → fault_of_blocks station h ≡ None
     → AllZip IsBlock (numbered_lines (woven 0 bytes (placed bytes (marks_of station stated h))))

@@ -14,7 +14,7 @@ use Rattle.gsi_file.specs.declared.bounds.TheConstants.{LONGEST_FILE}
 use Rattle.adjust_kernel.specs.Names.{IsName}
 use Rattle.station_book.specs.Places.{History}
 use Rattle.set_marks.specs.declared.marked.Marked.{Marked}
-use Rattle.set_marks.specs.declared.stated.Stated.{Stated}
+use Rattle.set_marks.specs.Numbers.{Said}
 use Rattle.set_marks.specs.Marking.{marks_of}
 use Rattle.set_marks.specs.Markings.{IsMarking, copy_of}
 use Rattle.set_marks.specs.Placing.{placed}
@@ -67,7 +67,7 @@ all_lines bytes fails e = by (first_break LONGEST_FILE bytes) fails e where
   by None true e = cc
   by None false e = refl
 
-module _ (station : Option (List ℕ)) (stated : Stated) (bytes : List ℕ) (fails : Bool)
+module _ (station : Option (List ℕ)) (stated : Said) (bytes : List ℕ) (fails : Bool)
     (m : Marked)
     (is : IfSome station IsName)
     (marking : IsMarking station stated bytes

@@ -17,7 +17,7 @@ use Rattle.set_marks.specs.declared.mark.BlockMark.{BlockMark}
 use Rattle.set_marks.specs.declared.recognized.Recognized.{Recognized}
 use Rattle.set_marks.specs.declared.readings.Readings.{Readings}
 use Rattle.set_marks.specs.declared.sight.Sight.{Sight}
-use Rattle.set_marks.specs.declared.stated.Stated.{Stated}
+use Rattle.set_marks.specs.Numbers.{Said, said_in}
 use Rattle.set_marks.specs.Stations.{SetUp, Occupation, sets_up, sight_in, sights_of, set_up_in}
 use Rattle.set_marks.specs.Stations.{set_ups_of, occupations, begun, is_stated, stations_of}
 use Rattle.set_marks.specs.Stations.{tells_set_up}
@@ -30,7 +30,7 @@ use Rattle.set_marks.specs.Keeping.{open_one, open_in, begun_in, BeginsStation, 
 use Rattle.set_marks.specs.Keeping.{Keeps}
 
 -- Nothing is marked before the first station.
-pub none_marked : (m : Marking) (stated : Stated) → m.stated ≡ stated → m.marks.items ≡ []
+pub none_marked : (m : Marking) (stated : Said) → said_in m.stated ≡ stated → m.marks.items ≡ []
     → m.stations.items ≡ [] → before_in m.names ≡ none_before → m.in_set ≡ false
     → AreMarkedFirst stated [] m
 none_marked m stated said marks stations names in_set = record {
@@ -42,17 +42,17 @@ none_marked m stated said marks stations names in_set = record {
 }
 
 -- A station more is judged, marked and told.
-pub one_marked : (stated : Stated) (ended : List Occupation) (s : Occupation) (old new : Marking)
+pub one_marked : (stated : Said) (ended : List Occupation) (s : Occupation) (old new : Marking)
     → AreMarkedFirst stated ended old
-    → TakesStation s (judged old.stated (before_in old.names) s) old new
+    → TakesStation s (judged (said_in old.stated) (before_in old.names) s) old new
     → AreMarkedFirst stated (ended ++ s ∷ []) new
 one_marked stated ended s old new are took =
     let before = before_in old.names in
     let d = judged stated before s in
     let takes : TakesStation s d old new =
-    subst (λ (st : Stated). TakesStation s (judged st before s) old new) are.same took in
+    subst (λ (st : Said). TakesStation s (judged st before s) old new) are.same took in
     record {
-      same = takes.stated ∙ are.same;
+      same = ap said_in takes.stated ∙ are.same;
       marks = λ later.
           let rest = judged_from stated (names_after before s d) later in
           ap (λ (ss : List Occupation). marks_from false (judged_from stated none_before ss))
@@ -80,9 +80,9 @@ one_marked stated ended s old new are took =
 pub open_ended : (old : Readings) (m : Marking) (name : List ℕ) (sights : List Sight)
     → old.station ≡ Some name → sights ≡ old.sights.items
     → TakesStation (record { name = name; sights = sights })
-    (judged old.marking.stated (before_in old.marking.names)
+    (judged (said_in old.marking.stated) (before_in old.marking.names)
     (record { name = name; sights = sights })) old.marking m
-    → (stated : Stated) (ended : List Occupation) → AreMarkedFirst stated ended old.marking
+    → (stated : Said) (ended : List Occupation) → AreMarkedFirst stated ended old.marking
     → AreMarkedFirst stated (ended ++ open_in old) m
 open_ended old m name sights is all takes = λ stated ended are.
     let s : Occupation = record { name = name; sights = sights } in
@@ -222,7 +222,7 @@ one_at_least [] x = refl
 one_at_least (y ∷ xs) x = refl
 
 -- What is kept before the first block.
-pub none_kept : (station : Option (List ℕ)) (stated : Stated) (r : Readings)
+pub none_kept : (station : Option (List ℕ)) (stated : Said) (r : Readings)
     → AreMarkedFirst stated [] r.marking → r.sights.items ≡ []
     → r.station ≡ option_map name_of station → r.blocks ≡ 0 → Keeps station stated [] r
 none_kept None stated r marked sights is blocks = record {
@@ -241,7 +241,7 @@ none_kept (Some name) stated r marked sights is blocks = record {
 }
 
 -- What is kept with a block more, which begins no station.
-pub reads_more : (station : Option (List ℕ)) (stated : Stated) (h : History) (b : GsiBlock)
+pub reads_more : (station : Option (List ℕ)) (stated : Said) (h : History) (b : GsiBlock)
     (r r' : Readings) → begun station (b ∷ h) ≡ begun station h → Keeps station stated h r
     → AddsReading b (length h + 1) r r' → r'.blocks ≡ length h + 1
     → Keeps station stated (b ∷ h) r'
@@ -266,7 +266,7 @@ reads_more station stated h b r r' same kept adds blocks =
     }
 
 -- What is kept with a block more, which begins a station.
-pub begins_next : (stated : Stated) (h : History) (b : GsiBlock) (r r' : Readings)
+pub begins_next : (stated : Said) (h : History) (b : GsiBlock) (r r' : Readings)
     → sets_up b ≡ true → Keeps None stated h r → BeginsStation b r r'
     → r'.blocks ≡ length h + 1 → Keeps None stated (b ∷ h) r'
 begins_next stated h b r r' sets kept adds blocks =
@@ -295,7 +295,7 @@ begins_next stated h b r r' sets kept adds blocks =
     }
 
 -- What is kept with a block more.
-pub keeps_next : (station : Option (List ℕ)) (stated : Stated) (h : History) (b : GsiBlock)
+pub keeps_next : (station : Option (List ℕ)) (stated : Said) (h : History) (b : GsiBlock)
     (r r' : Readings) → Keeps station stated h r
     → Adds (is_stated station) b (length h + 1) r r' → Keeps station stated (b ∷ h) r'
 keeps_next (Some name) stated h b r r' kept adds =
@@ -310,16 +310,17 @@ keeps_next None stated h b r r' kept adds = elim (cases_Bool (sets_up b)) [
 ]
 
 -- All stations are marked, once the last has ended.
-pub all_marked : (station : Option (List ℕ)) (stated : Stated) (h : History) (old new : Readings)
+pub all_marked : (station : Option (List ℕ)) (stated : Said) (h : History) (old new : Readings)
     → Keeps station stated h old → Ends old new
     → AreMarkedFirst stated (stations_of station h) new.marking
 all_marked station stated h old new kept ends =
     subst (λ (ss : List Occupation). AreMarkedFirst stated ss new.marking) (sym kept.stations)
     (ends stated kept.ended kept.are_ended)
 
-pub are_marked : (stated : Stated) (stations : List Occupation) (m : Marking)
+pub are_marked : (stated : Said) (stations : List Occupation) (m : Marking)
     → AreMarkedFirst stated stations m → AreMarked stated stations m
 are_marked stated stations m are = record {
+  same = are.same;
   marks = sym (ap (λ (ss : List Occupation). marks_from false (judged_from stated none_before ss))
       (sym (append-nil stations)) ∙ are.marks [] ∙ append-nil m.marks.items);
   told = sym (ap (λ (ss : List Occupation). recognized_from (judged_from stated none_before ss))

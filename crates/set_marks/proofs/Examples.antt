@@ -20,7 +20,8 @@ use Rattle.set_marks.specs.Marking.{marks_of, recognized, recognized_from, refus
 use Rattle.set_marks.specs.declared.division.Divided.{Divided}
 use Rattle.set_marks.specs.declared.flaw.Flaw.{Flaw}
 use Rattle.set_marks.specs.declared.recognized.Recognized.{Recognized}
-use Rattle.set_marks.specs.declared.stated.Stated.{Stated}
+use Rattle.set_marks.specs.declared.stated.Numbers.{Numbers}
+use Rattle.set_marks.specs.Numbers.{Said, SaidNumber}
 use Rattle.set_marks.specs.Found.{Found, found_in}
 use Rattle.set_marks.specs.MarkedFile.{copy_history, in_file}
 
@@ -65,15 +66,27 @@ by_targets = sight 1 (codes "A") false ∷ sight 2 (codes "A") true
     ∷ sight 7 (codes "D") false ∷ sight 8 (codes "D") true ∷ []
 
 -- A number of sets, and one of targets, are stated.
-abbrev numbers : Option ℕ → Option ℕ → Stated
-numbers sets targets = record { sets = sets; targets = targets; others = false }
+abbrev numbers : Option ℕ → Option ℕ → Numbers
+numbers sets targets = record { sets = sets; targets = targets }
+
+-- A number is stated of each station, or none.
+abbrev of_each : Option ℕ → SaidNumber
+of_each number = record { of_each = number; of_one = [] }
 
 -- Nothing is stated; and that stations with a fault stay outside.
-abbrev nothing : Stated
-nothing = numbers None None
+abbrev nothing : Said
+nothing = record { sets = of_each None; targets = of_each None; others = false }
 
-abbrev others : Stated
-others = record { sets = None; targets = None; others = true }
+abbrev others : Said
+others = record { sets = of_each None; targets = of_each None; others = true }
+
+-- A number of sets is stated of P1 by itself, and 5 of each other station.
+abbrev of_p1 : ℕ → Said
+of_p1 n = record {
+  sets = record { of_each = Some 5; of_one = record { name = codes "P1"; number = n } ∷ [] };
+  targets = of_each None;
+  others = false;
+}
 
 -- What these readings are, where these numbers are stated.
 abbrev read_as : List Sight → Option ℕ → Option ℕ → Divided
@@ -97,8 +110,8 @@ again = sight 6 (codes "A") false ∷ sight 7 (codes "B") false
     ∷ sight 8 (codes "B") false ∷ sight 9 (codes "A") true ∷ []
 
 -- What is told of the stations P1, of one set, and P2, where A and B are read as above.
-abbrev told : List Recognized
-told = recognized_from (judged_from nothing none_before
+abbrev told : Said → List Recognized
+told stated = recognized_from (judged_from stated none_before
     (station (codes "P1") one_set ∷ station (codes "P2") again ∷ []))
 
 -- What is wrong with P2: with more leading readings the rest goes further.
@@ -137,7 +150,7 @@ remarked rs = (recognized (record { name = codes "P1"; sights = rs }) (Sets 0)).
 record AreExamples : Type 0 where
   starts : starts_of (sights_of file) ≡ 0 ∷ 4 ∷ []
   end : end_in (sights_of file) ≡ 8
-  divides : divided nothing (sights_of file) ≡ Sets 0
+  divides : divided (numbers None None) (sights_of file) ≡ Sets 0
   marks : marks_of None nothing file
       ≡ record { block = 2; wide = false; code = Station (codes "P1") }
       ∷ record { block = 2; wide = false; code = Set 1 }
@@ -175,17 +188,23 @@ record AreExamples : Type 0 where
     missing = 0;
     others = 0;
   })
-  strangers : divided nothing other_targets
+  strangers : divided (numbers None None) other_targets
       ≡ Flawed (record { block = 5; kind = kinds.OtherTargets })
   sights_itself : judged nothing none_before (station (codes "B") one_set)
       ≡ Flawed (record { block = 2; kind = kinds.SightsItself })
   twice : judged nothing (record { marked = []; faulty = codes "P1" ∷ [] })
       (station (codes "P1") one_set) ≡ at_first kinds.StationTwice
-  both_told : told
+  both_told : told nothing
       ≡ recognized (station (codes "P1") one_set) (Sets 0)
       ∷ recognized (station (codes "P2") again) (Flawed alone) ∷ []
-  refused : refusal nothing 10 told ≡ Some alone
-  left_outside : refusal others 10 told ≡ None
+  refused : refusal nothing 10 (told nothing) ≡ Some alone
+  left_outside : refusal others 10 (told others) ≡ None
+  no_blocks : refusal nothing 1 [] ≡ Some (record { block = 1; kind = kinds.Empty })
+  its_own : judged (of_p1 1) none_before (station (codes "P1") one_set) ≡ Sets 0
+  that_of_each : judged (of_p1 1) none_before (station (codes "P2") one_set)
+      ≡ at_first kinds.SetCount
+  not_there : refusal (of_p1 1) 10 (recognized (station (codes "P2") one_set) (Sets 0) ∷ [])
+      ≡ Some (record { block = 10; kind = kinds.NoSuchStation })
 
 examples : AreExamples
 unfolding role_of target named number angles angle_fault is_of_face has_two lacks
@@ -215,4 +234,8 @@ examples = record {
   both_told = refl;
   refused = refl;
   left_outside = refl;
+  no_blocks = refl;
+  its_own = refl;
+  that_of_each = refl;
+  not_there = refl;
 }

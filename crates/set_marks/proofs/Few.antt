@@ -15,7 +15,7 @@ use Rattle.set_marks.specs.declared.sight.Sight.{Sight}
 use Rattle.set_marks.specs.Divisions.{order_flaw, are_read_alike, last_target, set_flaw, part}
 use Rattle.set_marks.specs.Divisions.{next_of, sets_flaw, divided, starts_of, end_in, flaw_at}
 use Rattle.set_marks.specs.Divisions.{flaw_when}
-use Rattle.set_marks.specs.declared.stated.Stated.{Stated}
+use Rattle.set_marks.specs.declared.stated.Numbers.{Numbers}
 use Rattle.set_marks.proofs.RowsOfSets.{as_many}
 use Rattle.set_marks.proofs.SetsInWords.{sets_in_words}
 
@@ -61,7 +61,7 @@ no_flaw None e = refl
 no_flaw (Some f) e = cc
 
 -- A station's readings that are sets are at most 40.
-pub few_sets : (stated : Stated) (rs : List Sight) (n : ℕ) → divided stated rs ≡ Sets n
+pub few_sets : (stated : Numbers) (rs : List Sight) (n : ℕ) → divided stated rs ≡ Sets n
     → length (starts_of (drop n rs)) ≤ MOST_SETS
 few_sets stated rs n e =
     let few = (sets_in_words stated rs n e).few in

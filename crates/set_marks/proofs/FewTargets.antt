@@ -14,7 +14,7 @@ use Rattle.set_marks.specs.declared.division.Divided.TheVariants.{NoSets, Sets, 
 use Rattle.set_marks.specs.declared.recognized.Recognized.{Recognized}
 use Rattle.set_marks.specs.declared.sight.Sight.{Sight}
 use Rattle.set_marks.specs.Stations.{Occupation}
-use Rattle.set_marks.specs.declared.stated.Stated.{Stated}
+use Rattle.set_marks.specs.Numbers.{Said}
 use Rattle.set_marks.specs.declared.flaw.Flaw.{Flaw}
 use Rattle.set_marks.specs.Divisions.{flaw_found, names_with, targets_of, one_too_many, in_sets_of}
 use Rattle.set_marks.specs.Judging.{Before, judged, judged_from, names_after}
@@ -87,7 +87,7 @@ few_unless n rs (Some f) is e = tt
 abbrev HasFew : Recognized → Type 0
 HasFew r = r.targets ≤ MOST_TARGETS
 
-station_few : (stated : Stated) (before : Before) (s : Occupation) (d : Divided)
+station_few : (stated : Said) (before : Before) (s : Occupation) (d : Divided)
     → judged stated before s ≡ d → HasFew (recognized s d)
 station_few stated before s NoSets is = omega arith
 station_few stated before s (Flawed f) is = omega arith
@@ -97,7 +97,7 @@ station_few stated before s (Sets leading) is =
     (has_no_fault stated before s leading is).targets)
 
 -- What is told of stations that are judged.
-pub all_few : (stated : Stated) (before : Before) (ss : List Occupation)
+pub all_few : (stated : Said) (before : Before) (ss : List Occupation)
     → All HasFew (recognized_from (judged_from stated before ss))
 all_few stated before [] = All-nil HasFew
 all_few stated before (s ∷ ss) =

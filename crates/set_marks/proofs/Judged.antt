@@ -9,7 +9,7 @@ use Rattle.set_marks.specs.declared.fault.MarkKind.TheVariants as kinds
 use Rattle.set_marks.specs.declared.flaw.Flaw.{Flaw}
 use Rattle.set_marks.specs.declared.division.Divided.{Divided}
 use Rattle.set_marks.specs.declared.division.Divided.TheVariants.{NoSets, Sets, Flawed}
-use Rattle.set_marks.specs.declared.stated.Stated.{Stated}
+use Rattle.set_marks.specs.Numbers.{Said, numbers_of}
 use Rattle.set_marks.specs.Stations.{Occupation}
 use Rattle.set_marks.specs.Divisions.{divided, flaw_when}
 use Rattle.set_marks.specs.SetsInWords.{AreSets}
@@ -56,17 +56,18 @@ settled_sets None d n e = (refl, e)
 settled_sets (Some f) d n e = cc
 
 -- What is judged of a station that has sets.
-pub record HasNoFault (stated : Stated) (before : Before) (s : Occupation) (n : ℕ) : Type 0 where
-  pub divides : divided stated s.sights ≡ Sets n
+pub record HasNoFault (stated : Said) (before : Before) (s : Occupation) (n : ℕ) : Type 0 where
+  pub divides : divided (numbers_of stated s.name) s.sights ≡ Sets n
   pub new : twice_fault before s ≡ None
   pub sights : itself_fault s ≡ None
   pub named : name_fault before s n ≡ None
   pub targets : targets_fault s n ≡ None
 
-pub has_no_fault : (stated : Stated) (before : Before) (s : Occupation) (n : ℕ)
+pub has_no_fault : (stated : Said) (before : Before) (s : Occupation) (n : ℕ)
     → judged stated before s ≡ Sets n → HasNoFault stated before s n
 has_no_fault stated before s n is =
-    let both = settled_sets (station_fault stated before s) (divided stated s.sights) n is in
+    let both = settled_sets (station_fault stated before s)
+    (divided (numbers_of stated s.name) s.sights) n is in
     let faultless : division_fault before s (Sets n) ≡ None =
     ap (λ (d : Divided). division_fault before s d) (sym both.1) ∙ both.0 in
     let two = none_of_two (sets_fault before s n) (targets_fault s n) faultless in
@@ -98,14 +99,14 @@ is_short before s n none =
     no_flaw (is_too_long s.name (slice_get s.sights n)) kinds.NameTooLong (slice_get s.sights n)
     two.1
 
-sound_as : (stated : Stated) (before : Before) (s : Occupation) (d : Divided) → IsBareName s.name
+sound_as : (stated : Said) (before : Before) (s : Occupation) (d : Divided) → IsBareName s.name
     → judged stated before s ≡ d → IsSoundAs before.marked s d
 sound_as stated before s NoSets bare is = tt
 sound_as stated before s (Flawed f) bare is = tt
 sound_as stated before s (Sets n) bare is =
     let none = has_no_fault stated before s n is in
     record {
-      are = sets_in_words stated s.sights n none.divides;
+      are = sets_in_words (numbers_of stated s.name) s.sights n none.divides;
       bare = bare;
       new = is_new before s none.new;
       short = is_short before s n none.named;
@@ -118,7 +119,7 @@ same_names before s (Flawed f) is = refl
 same_names before s (Sets n) is = rw is.new refl
 
 -- Stations of which each is judged.
-pub all_sound : (stated : Stated) (before : Before) (ss : List Occupation) → HaveBareNames ss
+pub all_sound : (stated : Said) (before : Before) (ss : List Occupation) → HaveBareNames ss
     → AreSound before.marked (judged_from stated before ss)
 all_sound stated before [] bare = tt
 all_sound stated before (s ∷ ss) bare =

@@ -12,7 +12,7 @@ use Rattle.set_marks.specs.declared.mark.Mark.{Mark}
 use Rattle.set_marks.specs.declared.flaw.Flaw.{Flaw}
 use Rattle.set_marks.specs.declared.recognized.Recognized.{Recognized}
 use Rattle.set_marks.specs.declared.refused.Refused.TheVariants as refused
-use Rattle.set_marks.specs.declared.stated.Stated.{Stated}
+use Rattle.set_marks.specs.Numbers.{Said, said_in}
 use Rattle.set_marks.specs.Stations.{stations_of}
 use Rattle.set_marks.specs.Marking.{marks_of, refusal}
 use Rattle.set_marks.specs.Placing.{placed}
@@ -23,19 +23,19 @@ use Rattle.set_marks.proofs.Identity.{made_is_copy}
 
 -- All stations are judged, marked and told, of whatever is kept in these readings.
 abbrev AllMarked : Readings → Marking → Type 0
-AllMarked r m = (station : Option (List ℕ)) (stated : Stated) (h : History)
+AllMarked r m = (station : Option (List ℕ)) (stated : Said) (h : History)
     → Keeps station stated h r → AreMarked stated (stations_of station h) m
 
 -- The number after the last block is that of the blocks that came, and one more.
-last_is : (station : Option (List ℕ)) (stated : Stated) (h : History) (r : Readings) (end : ℕ)
+last_is : (station : Option (List ℕ)) (stated : Said) (h : History) (r : Readings) (end : ℕ)
     → Keeps station stated h r → end ≡ r.blocks + 1 → end ≡ length h + 1
 last_is station stated h r end kept is = is ∙ ap (λ (n : ℕ). n + 1) kept.blocks
 
 -- The copy is made.
-pub is_marking : (station : Option (List ℕ)) (stated : Stated) (bytes : List ℕ)
+pub is_marking : (station : Option (List ℕ)) (stated : Said) (bytes : List ℕ)
     (answers : FileAnswers) (r : Readings) (m : Marking) (found : List Mark) (made : Marked)
     (end : ℕ) → AreReadings station stated answers r → AllMarked r m → end ≡ r.blocks + 1
-    → refusal stated end m.stations.items ≡ None → found ≡ placed bytes m.marks.items
+    → refusal (said_in m.stated) end m.stations.items ≡ None → found ≡ placed bytes m.marks.items
     → AreOrdered 0 (length bytes) found → All (BeginsLine bytes) found
     → made.marks.items ≡ found → made.stations.items ≡ m.stations.items
     → IsMarking station stated bytes answers made
@@ -58,13 +58,14 @@ is_marking station stated bytes answers r m found made end are all last none is 
       told = told ∙ marked.told;
       unrefused = ap (λ (rs : List Recognized). refusal stated (length h + 1) rs) told
           ∙ ap (λ (n : ℕ). refusal stated n m.stations.items)
-          (sym (last_is station stated h r end are.kept last)) ∙ none;
+          (sym (last_is station stated h r end are.kept last))
+          ∙ ap (λ (st : Said). refusal st end m.stations.items) (sym marked.same) ∙ none;
     }
 
 -- The stations are refused.
-pub is_refused : (station : Option (List ℕ)) (stated : Stated) (answers : FileAnswers)
+pub is_refused : (station : Option (List ℕ)) (stated : Said) (answers : FileAnswers)
     (r : Readings) (m : Marking) (flaw : Flaw) (end : ℕ) → AreReadings station stated answers r
-    → AllMarked r m → end ≡ r.blocks + 1 → refusal stated end m.stations.items ≡ Some flaw
+    → AllMarked r m → end ≡ r.blocks + 1 → refusal (said_in m.stated) end m.stations.items ≡ Some flaw
     → IsRefused station stated answers flaw m.stations.items
 is_refused station stated answers r m flaw end are all last is =
     let h = are.blocks in
@@ -75,11 +76,12 @@ is_refused station stated answers r m flaw end are all last is =
       clean = are.clean;
       told_is = marked.told;
       fault_is = ap (λ (n : ℕ). refusal stated n m.stations.items)
-          (sym (last_is station stated h r end are.kept last)) ∙ is;
+          (sym (last_is station stated h r end are.kept last))
+          ∙ ap (λ (st : Said). refusal st end m.stations.items) (sym marked.same) ∙ is;
     }
 
 -- A fault of the lines or of a block.
-pub refused_before : (station : Option (List ℕ)) (stated : Stated) (bytes : List ℕ)
+pub refused_before : (station : Option (List ℕ)) (stated : Said) (bytes : List ℕ)
     (answers : FileAnswers) (e : MarkFault) → AnswersReadings station stated answers (Err e)
     → AnswersMark station stated bytes answers (Err (refused.File e))
 refused_before station stated bytes answers e fault = fault

@@ -8,7 +8,7 @@ use Rattle.adjust_kernel.specs.Names.{IsName}
 use Rattle.station_book.specs.Limits.{FaceLimits}
 use Rattle.station_book.specs.Places.{History}
 use Rattle.station_book.specs.Faults.{fault_at_end}
-use Rattle.set_marks.specs.declared.stated.Stated.{Stated}
+use Rattle.set_marks.specs.Numbers.{Said}
 use Rattle.set_marks.specs.declared.sight.Sight.{Sight}
 use Rattle.set_marks.specs.Stations.{stations_of, fault_of_blocks}
 use Rattle.set_marks.specs.Judging.{none_before, judged_of}
@@ -31,7 +31,7 @@ use Rattle.set_marks.proofs.OwnFaults.{clean_blocks}
 use Rattle.set_marks.proofs.MarkedWalks.{found_as_marked, none_of_codes, none_at_end}
 
 -- The blocks of a copy are marked station by station and set by set, as the division says.
-pub record IsCopyMarked (station : Option (List ℕ)) (stated : Stated) (h : History)
+pub record IsCopyMarked (station : Option (List ℕ)) (stated : Said) (h : History)
     : Type 0 where
   pub before : List GsiBlock
   pub stations : List MarkedStation
@@ -42,7 +42,7 @@ pub record IsCopyMarked (station : Option (List ℕ)) (stated : Stated) (h : His
   pub up : AreUp 1 (marks_of station stated h)
 
 -- The blocks of the copy of a file without a fault of its blocks are.
-pub copy_marked : (station : Option (List ℕ)) (stated : Stated) (lines : List (List ℕ))
+pub copy_marked : (station : Option (List ℕ)) (stated : Said) (lines : List (List ℕ))
     (h : History) → AllZip IsBlock lines (reverse h) → IfSome station IsName
     → fault_of_blocks station h ≡ None → IsCopyMarked station stated h
 copy_marked station stated lines h zip is fault =
@@ -79,7 +79,7 @@ copy_marked station stated lines h zip is fault =
     }
 
 -- Each reading is found where the division puts it.
-pub found_as_divided : (station : Option (List ℕ)) (stated : Stated) (lines : List (List ℕ))
+pub found_as_divided : (station : Option (List ℕ)) (stated : Said) (lines : List (List ℕ))
     (h : History) → AllZip IsBlock lines (reverse h) → IfSome station IsName
     → fault_of_blocks station h ≡ None
     → found_in (copy_history station stated h) ≡ in_file station stated h
@@ -89,7 +89,7 @@ found_as_divided station stated lines h zip is fault =
     ∙ found_as_marked c.before c.stations c.plain c.are ∙ sym c.told
 
 -- No block of the copy has a fault that comes of the code lines.
-pub no_fault_of_codes : (limits : FaceLimits) (station : Option (List ℕ)) (stated : Stated)
+pub no_fault_of_codes : (limits : FaceLimits) (station : Option (List ℕ)) (stated : Said)
     (lines : List (List ℕ)) (h : History) → AllZip IsBlock lines (reverse h)
     → IfSome station IsName → fault_of_blocks station h ≡ None
     → HasNoFaultOfCodes limits (copy_history station stated h)
@@ -99,7 +99,7 @@ no_fault_of_codes limits station stated lines h zip is fault =
     (none_of_codes limits c.before c.stations c.plain c.are)
 
 -- The end of the copy has no fault.
-pub no_fault_at_end : (station : Option (List ℕ)) (stated : Stated) (lines : List (List ℕ))
+pub no_fault_at_end : (station : Option (List ℕ)) (stated : Said) (lines : List (List ℕ))
     (h : History) → AllZip IsBlock lines (reverse h) → IfSome station IsName
     → fault_of_blocks station h ≡ None → fault_at_end (copy_history station stated h) ≡ None
 no_fault_at_end station stated lines h zip is fault =

@@ -18,7 +18,7 @@ use Rattle.set_marks.specs.declared.division.Divided.{Divided}
 use Rattle.set_marks.specs.declared.division.Divided.TheVariants.{NoSets, Sets, Flawed}
 use Rattle.set_marks.specs.declared.sight.Sight.{Sight}
 use Rattle.set_marks.specs.Stations.{Occupation}
-use Rattle.set_marks.specs.declared.stated.Stated.{Stated}
+use Rattle.set_marks.specs.Numbers.{Said}
 use Rattle.set_marks.specs.Divisions.{starts_of, end_in, sets_of}
 use Rattle.set_marks.specs.Judging.{Before, Judged, judged, judged_from, names_after}
 use Rattle.set_marks.specs.Marks.{code_block}
@@ -121,7 +121,7 @@ all_sights ss = flat_map (λ s. s.sights) ss
 abbrev pub sights_in : List Judged → List Sight
 sights_in js = flat_map (λ j. j.station.sights) js
 
-pub same_sights : (stated : Stated) (before : Before) (ss : List Occupation)
+pub same_sights : (stated : Said) (before : Before) (ss : List Occupation)
     → sights_in (judged_from stated before ss) ≡ all_sights ss
 same_sights stated before [] = refl
 same_sights stated before (s ∷ ss) = ap (λ (rs : List Sight). s.sights ++ rs)

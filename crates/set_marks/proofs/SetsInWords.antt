@@ -12,7 +12,7 @@ use Rattle.set_marks.specs.declared.fault.MarkKind.TheVariants as kinds
 use Rattle.set_marks.specs.declared.flaw.Flaw.{Flaw}
 use Rattle.set_marks.specs.declared.division.Divided.TheVariants.{NoSets, Sets}
 use Rattle.set_marks.specs.declared.sight.Sight.{Sight}
-use Rattle.set_marks.specs.declared.stated.Stated.{Stated}
+use Rattle.set_marks.specs.declared.stated.Numbers.{Numbers}
 use Rattle.set_marks.specs.Divisions.{sets_flaw, starts_of, first_set, end_in, flaw_of}
 use Rattle.set_marks.specs.Divisions.{seconds_of, rest_of, place_of, unknown_in, cut_end, cut_of}
 use Rattle.set_marks.specs.Divisions.{first_cut, may_lead, cut_flaw}
@@ -57,13 +57,13 @@ something_wrong rs e f = elim (cases_Bool (is_division rs 0)) [
 ]
 
 -- How many leading readings stand before the sets that are no details, and what is known of them.
-record Found (stated : Stated) (rs : List Sight) (place : ℕ) : Type 0 where
+record Found (stated : Numbers) (rs : List Sight) (place : ℕ) : Type 0 where
   pub leading : ℕ
   pub fewest : leading_of rs ≡ Some leading
   pub place_is : place_of (seconds_of rs) leading rs ≡ place
   pub sure : doubt_flaw stated rs leading ≡ None
 
-by_leading : (stated : Stated) (rs : List Sight) (place : ℕ) (o : Option ℕ) → leading_of rs ≡ o
+by_leading : (stated : Numbers) (rs : List Sight) (place : ℕ) (o : Option ℕ) → leading_of rs ≡ o
     → divided_by stated rs o ≡ Sets place → Found stated rs place
 by_leading stated rs place None none e = by (latest_flaw rs) refl e where
   by : (o : Option Flaw) → latest_flaw rs ≡ o → divided_unless o 0 ≡ Sets place
@@ -91,7 +91,7 @@ all_known first (set ∷ sets) each e = elim (cases_Bool (is_mostly_known first 
   some_reading (r ∷ rs) many f = cc
 
 -- the doubts about readings, one by one
-abbrev pub doubts : Stated → List Sight → List Sight → List (Option Flaw)
+abbrev pub doubts : Numbers → List Sight → List Sight → List (Option Flaw)
 doubts stated leading rs =
     flaw_when (begins_in_two rs) kinds.FirstFace (slice_get rs 0)
     ∷ flaw_when (may_be_shifted leading (first_cut (starts_of rs) rs)) kinds.MayBeShifted
@@ -103,7 +103,7 @@ doubts stated leading rs =
     ∷ []
 
 -- Where there is no doubt about readings, no set has other targets.
-no_strangers : (stated : Stated) (leading rs : List Sight) → doubt_after stated leading rs ≡ None
+no_strangers : (stated : Numbers) (leading rs : List Sight) → doubt_after stated leading rs ≡ None
     → stranger_among (first_cut (starts_of rs) rs) (cut_of rs) ≡ None
 no_strangers stated leading rs e =
     let none = all_none (doubts stated leading rs) e in
@@ -112,7 +112,7 @@ no_strangers stated leading rs e =
 
 -- What is known of a station whose readings are sets from this place on: of those that are no
 -- details (`rest`) after the leading ones (`before`).
-pub record DividedSets (stated : Stated) (rs : List Sight) (place : ℕ) : Type 0 where
+pub record DividedSets (stated : Numbers) (rs : List Sight) (place : ℕ) : Type 0 where
   pub before : List Sight
   pub rest : List Sight
   pub wrong : sets_flaw (first_cut (starts_of rest) rest) 0 (cut_end (starts_of rest) rest)
@@ -140,7 +140,7 @@ cut_right rs leading e = elim (cases_Bool (nat_le (length (rest_of rs)) leading)
       (omega (arith, more, long), rw h at e)
 ]
 
-pub divided_sets : (stated : Stated) (rs : List Sight) (place : ℕ)
+pub divided_sets : (stated : Numbers) (rs : List Sight) (place : ℕ)
     → divided stated rs ≡ Sets place → DividedSets stated rs place
 divided_sets stated rs place e = elim (cases_Bool (has_no_sets rs)) [
   | inl h ↦ let f : NoSets ≡ Sets place = rw h at e in cc
@@ -176,7 +176,7 @@ divided_sets stated rs place e = elim (cases_Bool (has_no_sets rs)) [
 ]
 
 -- Where sets are recognized, they are sets.
-pub sets_in_words : (stated : Stated) (rs : List Sight) (leading : ℕ)
+pub sets_in_words : (stated : Numbers) (rs : List Sight) (leading : ℕ)
     → divided stated rs ≡ Sets leading → AreSets rs leading
 sets_in_words stated rs leading e =
     let r = divided_sets stated rs leading e in

@@ -8,7 +8,7 @@ use Rattle.set_marks.specs.declared.flaw.Flaw.{Flaw}
 use Rattle.set_marks.specs.declared.division.Divided.{Divided}
 use Rattle.set_marks.specs.declared.division.Divided.TheVariants.{NoSets, Sets, Flawed}
 use Rattle.set_marks.specs.declared.marking.Marking.{Marking}
-use Rattle.set_marks.specs.declared.stated.Stated.{Stated}
+use Rattle.set_marks.specs.Numbers.{Said, numbers_of}
 use Rattle.set_marks.specs.Stations.{Occupation}
 use Rattle.set_marks.specs.Divisions.{divided, divided_unless}
 use Rattle.set_marks.specs.Judging.{Before, twice_fault, itself_fault, name_fault, targets_fault}
@@ -62,27 +62,27 @@ pub takes_many : (s : Occupation) (n : ℕ) (f : Flaw) (old new : Marking)
 takes_many s n f old new some takes = rw some takes
 
 -- What a station is judged to be, case by case.
-pub without_sets : (stated : Stated) (before : Before) (s : Occupation)
-    → divided stated s.sights ≡ NoSets → judged stated before s ≡ NoSets
+pub without_sets : (stated : Said) (before : Before) (s : Occupation)
+    → divided (numbers_of stated s.name) s.sights ≡ NoSets → judged stated before s ≡ NoSets
 without_sets stated before s is =
     ap (λ (d : Divided). settled (division_fault before s d) d) is
 
-pub with_flaw : (stated : Stated) (before : Before) (s : Occupation) (f : Flaw)
-    → divided stated s.sights ≡ Flawed f → twice_fault before s ≡ None
+pub with_flaw : (stated : Said) (before : Before) (s : Occupation) (f : Flaw)
+    → divided (numbers_of stated s.name) s.sights ≡ Flawed f → twice_fault before s ≡ None
     → judged stated before s ≡ Flawed f
 with_flaw stated before s f is new =
     ap (λ (d : Divided). settled (division_fault before s d) d) is
     ∙ ap (λ (o : Option Flaw). settled (first_of (o ∷ Some f ∷ [])) (Flawed f)) new
 
-pub flawed_twice : (stated : Stated) (before : Before) (s : Occupation) (f g : Flaw)
-    → divided stated s.sights ≡ Flawed f → twice_fault before s ≡ Some g
+pub flawed_twice : (stated : Said) (before : Before) (s : Occupation) (f g : Flaw)
+    → divided (numbers_of stated s.name) s.sights ≡ Flawed f → twice_fault before s ≡ Some g
     → judged stated before s ≡ Flawed g
 flawed_twice stated before s f g is twice =
     ap (λ (d : Divided). settled (division_fault before s d) d) is
     ∙ ap (λ (o : Option Flaw). settled (first_of (o ∷ Some f ∷ [])) (Flawed f)) twice
 
-pub with_fault : (stated : Stated) (before : Before) (s : Occupation) (n : ℕ) (f : Flaw)
-    → divided stated s.sights ≡ Sets n → sets_fault before s n ≡ Some f
+pub with_fault : (stated : Said) (before : Before) (s : Occupation) (n : ℕ) (f : Flaw)
+    → divided (numbers_of stated s.name) s.sights ≡ Sets n → sets_fault before s n ≡ Some f
     → judged stated before s ≡ Flawed f
 with_fault stated before s n f is fault =
     ap (λ (d : Divided). settled (division_fault before s d) d) is
@@ -93,8 +93,8 @@ unless_more : (o : Option Flaw) (n : ℕ)
 unless_more None n = refl
 unless_more (Some f) n = refl
 
-pub with_sets : (stated : Stated) (before : Before) (s : Occupation) (n : ℕ)
-    → divided stated s.sights ≡ Sets n → sets_fault before s n ≡ None
+pub with_sets : (stated : Said) (before : Before) (s : Occupation) (n : ℕ)
+    → divided (numbers_of stated s.name) s.sights ≡ Sets n → sets_fault before s n ≡ None
     → judged stated before s ≡ divided_unless (targets_fault s n) n
 with_sets stated before s n is none =
     ap (λ (d : Divided). settled (division_fault before s d) d) is

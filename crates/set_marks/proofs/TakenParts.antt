@@ -20,7 +20,7 @@ use Rattle.gsi_file.proofs.Finding.{file_too_long, line_too_long}
 use Rattle.set_marks.specs.declared.fault.MarkFault.{MarkFault}
 use Rattle.set_marks.specs.declared.fault.MarkFault.TheVariants.{File, Reading, At, Memory}
 use Rattle.set_marks.specs.declared.readings.Readings.{Readings}
-use Rattle.set_marks.specs.declared.stated.Stated.{Stated}
+use Rattle.set_marks.specs.Numbers.{Said}
 use Rattle.set_marks.specs.declared.walk.Walk.{Walk}
 use Rattle.set_marks.specs.Stations.{is_stated}
 use Rattle.set_marks.specs.Keeping.{AnswersReadings}
@@ -76,7 +76,7 @@ over_part left n used rest fails first short lt (inr two) inside fits =
     ∙ ap (λ (k : ℕ). answers_within (left - used) (drop k rest) fails) (omega (arith, e)))
 
 -- A part is taken.
-pub part_taken : (b : Bool) (station : Option (List ℕ)) (stated : Stated)
+pub part_taken : (b : Bool) (station : Option (List ℕ)) (stated : Said)
     (first answers next : FileAnswers)
     (at : ℕ) (part : List ℕ) (old new : Walk) → is_line part ≡ b
     → TakesPart b (is_stated station) at part old new → new.number ≤ LONGEST_FILE
@@ -118,7 +118,7 @@ last_part left rest plain short fits = answers_end left rest plain short fits
 at_end : (number : ℕ) → GivesEnd (coming number (only None)) (coming number (only None))
 at_end number = record { here = refl; after = refl }
 
-pub whole_taken : (station : Option (List ℕ)) (stated : Stated) (first : FileAnswers) (number : ℕ)
+pub whole_taken : (station : Option (List ℕ)) (stated : Said) (first : FileAnswers) (number : ℕ)
     (r : Readings)
     → AreTaken station stated first (coming number (only None)) r None
     → AnswersReadings station stated first (Ok r)
@@ -126,7 +126,7 @@ whole_taken station stated first number r taken = all_taken station stated first
     (only None))
     (coming number (only None)) r taken (at_end number)
 
-pub fault_found : (station : Option (List ℕ)) (stated : Stated) (first : FileAnswers) (number : ℕ)
+pub fault_found : (station : Option (List ℕ)) (stated : Said) (first : FileAnswers) (number : ℕ)
     (r : Readings)
     (e : MarkFault) → AreTaken station stated first (coming number (only None)) r (Some e)
     → AnswersReadings station stated first (Err e)
@@ -135,7 +135,7 @@ fault_found station stated first number r e taken = fault_taken station stated f
     (coming number (only None)) r e taken (at_end number)
 
 -- A fault of the file comes.
-pub refused_for : (station : Option (List ℕ)) (stated : Stated) (first answers : FileAnswers)
+pub refused_for : (station : Option (List ℕ)) (stated : Said) (first answers : FileAnswers)
     (number : ℕ)
     (r : Readings) (f : Option MarkFault) (kind : FileKind) → number + 1 ≤ LONGEST_FILE
     → answers ≡ only (Some kind) → AreTaken station stated first (coming number answers) r f
@@ -146,7 +146,7 @@ refused_for station stated first answers number r f kind fits is taken =
     (record { here = inl is; counted = refl; limited = fits; after = refl })
 
 -- The next line has a fault.
-pub refused_at : (station : Option (List ℕ)) (stated : Stated) (first answers next : FileAnswers)
+pub refused_at : (station : Option (List ℕ)) (stated : Said) (first answers next : FileAnswers)
     (number : ℕ)
     (part : List ℕ) (r : Readings) (f : Option MarkFault) (e : MarkFault)
     → number + 1 ≤ LONGEST_FILE → is_line part ≡ true → answers ≡ with_line part next

@@ -24,7 +24,7 @@ use Rattle.set_marks.specs.declared.fault.MarkFault.{MarkFault}
 use Rattle.set_marks.specs.declared.fault.MarkFault.TheVariants.{File, Reading, At, Memory}
 use Rattle.set_marks.specs.declared.fault.MarkKind.TheVariants as kinds
 use Rattle.set_marks.specs.declared.readings.Readings.{Readings}
-use Rattle.set_marks.specs.declared.stated.Stated.{Stated}
+use Rattle.set_marks.specs.Numbers.{Said}
 use Rattle.set_marks.specs.Stations.{SetUp, begun, is_stated, is_two_lines, reading_fault}
 use Rattle.set_marks.specs.Stations.{fault_as, block_fault, own_fault, fault_of_blocks}
 use Rattle.set_marks.specs.Stations.{tells_set_up}
@@ -34,7 +34,7 @@ use Rattle.set_marks.proofs.EndedStations.{keeps_next}
 
 -- The lines of a file up to some place are blocks, and this is kept of them, or is the fault of the
 -- first that has one by itself.
-pub record AreTaken (station : Option (List ℕ)) (stated : Stated) (first : FileAnswers)
+pub record AreTaken (station : Option (List ℕ)) (stated : Said) (first : FileAnswers)
     (t : ToCome) (r : Readings) (fault : Option MarkFault) : Type 0 where
   pub h : History
   pub done : List (List ℕ)
@@ -47,7 +47,7 @@ pub record AreTaken (station : Option (List ℕ)) (stated : Stated) (first : Fil
   pub kept : fault ≡ None → Keeps station stated h r
 
 -- Before the first line.
-pub none_taken : (station : Option (List ℕ)) (stated : Stated) (first : FileAnswers) (t : ToCome)
+pub none_taken : (station : Option (List ℕ)) (stated : Said) (first : FileAnswers) (t : ToCome)
     (r : Readings)
     → t.answers ≡ Some first → t.number ≡ 0 → Keeps station stated [] r
     → AreTaken station stated first t r None
@@ -97,7 +97,7 @@ same_block_fault stated ss ts number b e =
     (same_fault (role_of b) stated ss ts number b e)
 
 -- The fault, whatever was kept where there was one already.
-next_fault : (station : Option (List ℕ)) (stated : Stated) (h : History) (r : Readings)
+next_fault : (station : Option (List ℕ)) (stated : Said) (h : History) (r : Readings)
     (b : GsiBlock) (number : ℕ)
     (f : Option MarkFault) → f ≡ fault_of_blocks station h → (f ≡ None → Keeps station stated h r)
     → number ≡ length h + 1
@@ -129,7 +129,7 @@ one_more R (a ∷ xs) [] x y h r = absurd h
 one_more R (a ∷ xs) (b ∷ ys) x y h r = (h.0, one_more R xs ys x y h.1 r)
 
 -- One line more.
-pub line_taken : (station : Option (List ℕ)) (stated : Stated) (first : FileAnswers) (t t' : ToCome)
+pub line_taken : (station : Option (List ℕ)) (stated : Said) (first : FileAnswers) (t t' : ToCome)
     (r r' : Readings)
     (f f' : Option MarkFault) (number : ℕ) (b : GsiBlock)
     → AreTaken station stated first t r f → GivesLine t t' number b
@@ -162,7 +162,7 @@ line_taken station stated first t t' r r' f f' number b taken gives is adds =
     }
 
 -- At the end of the file.
-are_blocks : (station : Option (List ℕ)) (stated : Stated) (first : FileAnswers) (t t' : ToCome)
+are_blocks : (station : Option (List ℕ)) (stated : Said) (first : FileAnswers) (t t' : ToCome)
     (r : Readings)
     (f : Option MarkFault) (taken : AreTaken station stated first t r f) → GivesEnd t t'
     → AreBlocks first taken.h
@@ -177,7 +177,7 @@ are_blocks station stated first t t' r f taken end =
           taken.each;
     }
 
-pub all_taken : (station : Option (List ℕ)) (stated : Stated) (first : FileAnswers) (t t' : ToCome)
+pub all_taken : (station : Option (List ℕ)) (stated : Said) (first : FileAnswers) (t t' : ToCome)
     (r : Readings)
     → AreTaken station stated first t r None → GivesEnd t t' → AreReadings station stated first r
 all_taken station stated first t t' r taken end = record {
@@ -231,7 +231,7 @@ no_file_fault station (b ∷ h) x e = no_file_fault_first (fault_of_blocks stati
     (own_fault station h b) x (no_file_fault station h x)
     (no_file_fault_of_block (is_stated station) (begun station h) (length h + 1) b x) e
 
-pub fault_taken : (station : Option (List ℕ)) (stated : Stated) (first : FileAnswers)
+pub fault_taken : (station : Option (List ℕ)) (stated : Said) (first : FileAnswers)
     (t t' : ToCome) (r : Readings)
     (e : MarkFault) → AreTaken station stated first t r (Some e) → GivesEnd t t'
     → AnswersReadings station stated first (Err e)
@@ -250,7 +250,7 @@ fault_taken station stated first t t' r (File x) taken end =
 fault_taken station stated first t t' r Memory taken end = tt
 
 -- At a fault of the file.
-pub file_fault : (station : Option (List ℕ)) (stated : Stated) (first : FileAnswers) (t t' : ToCome)
+pub file_fault : (station : Option (List ℕ)) (stated : Said) (first : FileAnswers) (t t' : ToCome)
     (r : Readings)
     (f : Option MarkFault) (number : ℕ) (kind : FileKind)
     → AreTaken station stated first t r f → GivesFault t t' number kind
@@ -267,7 +267,7 @@ file_fault station stated first t t' r f number kind taken gives = record {
 }
 
 -- A fault of the file, as it is answered.
-pub file_refused : (station : Option (List ℕ)) (stated : Stated) (first : FileAnswers)
+pub file_refused : (station : Option (List ℕ)) (stated : Said) (first : FileAnswers)
     (t t' : ToCome) (r : Readings)
     (f : Option MarkFault) (fault : FileFault) → AreTaken station stated first t r f
     → Answers t (Err fault) t' → AnswersReadings station stated first (Err (File fault))

@@ -20,7 +20,7 @@ use Rattle.set_marks.specs.declared.flaw.Flaw.{Flaw}
 use Rattle.set_marks.specs.declared.division.Divided.{Divided}
 use Rattle.set_marks.specs.declared.division.Divided.TheVariants.{NoSets, Sets, Flawed}
 use Rattle.set_marks.specs.declared.sight.Sight.{Sight}
-use Rattle.set_marks.specs.declared.stated.Stated.{Stated}
+use Rattle.set_marks.specs.declared.stated.Numbers.{Numbers}
 use Rattle.set_marks.specs.Numbers.{is_other, is_asked}
 
 -- whether the reading is of this target
@@ -377,7 +377,7 @@ may_go_on rs = are_by_targets rs && begins_with_pair (drop (cut_end (starts_of r
 -- What keeps the sets that these readings are from being those that are stated, the first that
 -- stands: another number of sets is stated; there is one set, read by targets, and no number of
 -- targets is stated; another number of targets is stated.
-abbrev pub numbers_flaw : Stated → List Sight → Option Flaw
+abbrev pub numbers_flaw : Numbers → List Sight → Option Flaw
 numbers_flaw stated rs = first_of (
     flaw_when (is_other stated.sets (length (starts_of rs))) kinds.SetCount (slice_get rs 0)
     ∷ flaw_when (is_asked (are_by_targets rs && (length (starts_of rs) == 1)) stated.targets)
@@ -391,7 +391,7 @@ numbers_flaw stated rs = first_of (
 -- first that stands: the first set begins in face II; the sets may be shifted; they are read by
 -- targets, and no number of sets is stated; they may go on; they aren't those that are stated; or a
 -- set has other targets than the first. None of all these is a detail.
-abbrev pub doubt_after : Stated → List Sight → List Sight → Option Flaw
+abbrev pub doubt_after : Numbers → List Sight → List Sight → Option Flaw
 doubt_after stated leading rs = first_of (
     flaw_when (begins_in_two rs) kinds.FirstFace (slice_get rs 0)
     ∷ flaw_when (may_be_shifted leading (first_cut (starts_of rs) rs)) kinds.MayBeShifted
@@ -403,7 +403,7 @@ doubt_after stated leading rs = first_of (
     ∷ [])
 
 -- The doubt about readings that divide with so many leading ones.
-abbrev pub doubt_flaw : Stated → List Sight → ℕ → Option Flaw
+abbrev pub doubt_flaw : Numbers → List Sight → ℕ → Option Flaw
 doubt_flaw stated rs leading =
     doubt_after stated (take leading (rest_of rs)) (drop leading (rest_of rs))
 
@@ -425,14 +425,14 @@ divided_unless (Some f) leading = Flawed f
 
 -- By the fewest leading readings that are no details, if there are so few. Details stand among them
 -- and before the first set too.
-abbrev pub divided_by : Stated → List Sight → Option ℕ → Divided
+abbrev pub divided_by : Numbers → List Sight → Option ℕ → Divided
 divided_by stated rs (Some leading) =
     divided_unless (doubt_flaw stated rs leading) (place_of (seconds_of rs) leading rs)
 divided_by stated rs None = divided_unless (latest_flaw rs) 0
 
 -- What a station's readings are, of whose sets this is stated: no sets; or sets, after so many
 -- readings that stand before them; or something is wrong.
-abbrev pub divided : Stated → List Sight → Divided
+abbrev pub divided : Numbers → List Sight → Divided
 divided stated rs = if has_no_sets rs then NoSets else divided_by stated rs (leading_of rs)
 
 -- The readings of a station's sets, after so many leading ones: from the first of the first set to

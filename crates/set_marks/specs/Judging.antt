@@ -10,8 +10,8 @@ use Rattle.set_marks.specs.declared.fault.MarkKind.TheVariants as kinds
 use Rattle.set_marks.specs.declared.division.Divided.{Divided}
 use Rattle.set_marks.specs.declared.division.Divided.TheVariants.{NoSets, Sets, Flawed}
 use Rattle.set_marks.specs.declared.sight.Sight.{Sight}
-use Rattle.set_marks.specs.declared.stated.Stated.{Stated}
 use Rattle.set_marks.specs.Marks.{width_of}
+use Rattle.set_marks.specs.Numbers.{Said, numbers_of}
 use Rattle.set_marks.specs.Stations.{Occupation, stations_of}
 use Rattle.set_marks.specs.Divisions.{divided, is_of, flaw_when, flaw_found, in_sets_of}
 use Rattle.set_marks.specs.Divisions.{is_read_in_two, one_too_many}
@@ -84,8 +84,8 @@ division_fault before s (Sets leading) =
     first_of (sets_fault before s leading ∷ targets_fault s leading ∷ [])
 
 -- The fault of a station, after these stations, where this is stated of its sets.
-abbrev pub station_fault : Stated → Before → Occupation → Option Flaw
-station_fault stated before s = division_fault before s (divided stated s.sights)
+abbrev pub station_fault : Said → Before → Occupation → Option Flaw
+station_fault stated before s = division_fault before s (divided (numbers_of stated s.name) s.sights)
 
 -- its fault, if it has one; else what its readings are
 abbrev pub settled : Option Flaw → Divided → Divided
@@ -94,8 +94,9 @@ settled (Some f) d = Flawed f
 
 -- What a station is judged to be: without sets; with sets, after so many leading readings; or to
 -- have a fault.
-abbrev pub judged : Stated → Before → Occupation → Divided
-judged stated before s = settled (station_fault stated before s) (divided stated s.sights)
+abbrev pub judged : Said → Before → Occupation → Divided
+judged stated before s =
+    settled (station_fault stated before s) (divided (numbers_of stated s.name) s.sights)
 
 -- the names, and that of a station that isn't without sets
 abbrev pub names_after : Before → Occupation → Divided → Before
@@ -111,12 +112,12 @@ pub record Judged : Type 0 where
   pub division : Divided
 
 -- These stations, which come after others, and what each is judged to be.
-abbrev pub judged_from : Stated → Before → List Occupation → List Judged
+abbrev pub judged_from : Said → Before → List Occupation → List Judged
 judged_from stated before [] = []
 judged_from stated before (s ∷ ss) =
     record { station = s; division = judged stated before s }
     ∷ judged_from stated (names_after before s (judged stated before s)) ss
 
 -- The stations of a file, in its order, and what each is judged to be.
-abbrev pub judged_of : Option (List ℕ) → Stated → History → List Judged
+abbrev pub judged_of : Option (List ℕ) → Said → History → List Judged
 judged_of station stated h = judged_from stated none_before (stations_of station h)

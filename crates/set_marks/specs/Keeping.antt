@@ -12,7 +12,7 @@ use Rattle.set_marks.specs.declared.judging.StationNames.{StationNames}
 use Rattle.set_marks.specs.declared.marking.Marking.{Marking}
 use Rattle.set_marks.specs.declared.division.Divided.{Divided}
 use Rattle.set_marks.specs.declared.sight.Sight.{Sight}
-use Rattle.set_marks.specs.declared.stated.Stated.{Stated}
+use Rattle.set_marks.specs.Numbers.{Said, said_in}
 use Rattle.set_marks.specs.Stations.{SetUp, Occupation, begun, sets_up, sight_in, fault_of_blocks}
 use Rattle.set_marks.specs.Stations.{stations_of}
 use Rattle.set_marks.specs.Judging.{Before, none_before, names_after, judged_from}
@@ -47,9 +47,9 @@ before_in names = record { marked = names.marked; faulty = names.faulty }
 
 -- These stations, of whose sets this is stated, are judged, marked and told, whichever come after
 -- them.
-pub record AreMarkedFirst (stated : Stated) (ended : List Occupation) (m : Marking)
+pub record AreMarkedFirst (stated : Said) (ended : List Occupation) (m : Marking)
     : Type 0 where
-  pub same : m.stated ≡ stated
+  pub same : said_in m.stated ≡ stated
   pub marks : (later : List Occupation)
       → marks_from false (judged_from stated none_before (ended ++ later))
       ≡ m.marks.items ++ marks_from m.in_set (judged_from stated (before_in m.names) later)
@@ -59,7 +59,7 @@ pub record AreMarkedFirst (stated : Stated) (ended : List Occupation) (m : Marki
 
 -- The station that is open has ended too.
 abbrev pub Ends : Readings → Readings → Type 0
-Ends old new = (stated : Stated) (ended : List Occupation)
+Ends old new = (stated : Said) (ended : List Occupation)
     → AreMarkedFirst stated ended old.marking
     → AreMarkedFirst stated (ended ++ open_in old) new.marking
 
@@ -87,7 +87,7 @@ pub record Adds (stated : Bool) (b : GsiBlock) (number : ℕ) (old new : Reading
 
 -- These blocks are kept: the stations that have ended, of whose sets this is stated, and the one
 -- that is open.
-pub record Keeps (station : Option (List ℕ)) (stated : Stated) (h : History) (r : Readings)
+pub record Keeps (station : Option (List ℕ)) (stated : Said) (h : History) (r : Readings)
     : Type 0 where
   pub ended : List Occupation
   pub stations : stations_of station h ≡ ended ++ open_in r
@@ -96,7 +96,7 @@ pub record Keeps (station : Option (List ℕ)) (stated : Stated) (h : History) (
   pub blocks : r.blocks ≡ length h
 
 -- The blocks of the file are kept, and none has a fault by itself.
-pub record AreReadings (station : Option (List ℕ)) (stated : Stated) (answers : FileAnswers)
+pub record AreReadings (station : Option (List ℕ)) (stated : Said) (answers : FileAnswers)
     (r : Readings) : Type 0 where
   pub blocks : History
   pub are_blocks : AreBlocks answers blocks
@@ -104,7 +104,7 @@ pub record AreReadings (station : Option (List ℕ)) (stated : Stated) (answers 
   pub kept : Keeps station stated blocks r
 
 -- What is answered of the readings of a file.
-abbrev pub AnswersReadings : Option (List ℕ) → Stated → FileAnswers → Result Readings MarkFault
+abbrev pub AnswersReadings : Option (List ℕ) → Said → FileAnswers → Result Readings MarkFault
     → Type 0
 AnswersReadings station stated answers (Ok r) = AreReadings station stated answers r
 AnswersReadings station stated answers (Err fault) = IsFault station answers fault
@@ -117,7 +117,8 @@ pub record TakesStation (s : Occupation) (d : Divided) (old new : Marking) : Typ
   pub names : before_in new.names ≡ names_after (before_in old.names) s d
   pub in_set : new.in_set ≡ is_open_after old.in_set s d
 
--- These stations are judged, marked and told.
-pub record AreMarked (stated : Stated) (stations : List Occupation) (m : Marking) : Type 0 where
+-- These stations, of whose sets this is stated, are judged, marked and told.
+pub record AreMarked (stated : Said) (stations : List Occupation) (m : Marking) : Type 0 where
+  pub same : said_in m.stated ≡ stated
   pub marks : m.marks.items ≡ marks_from false (judged_from stated none_before stations)
   pub told : m.stations.items ≡ recognized_from (judged_from stated none_before stations)

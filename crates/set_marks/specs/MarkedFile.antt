@@ -11,7 +11,7 @@ use Rattle.set_marks.specs.declared.division.Divided.{Divided}
 use Rattle.set_marks.specs.declared.division.Divided.TheVariants.{Sets}
 use Rattle.set_marks.specs.declared.mark.BlockMark.{BlockMark}
 use Rattle.set_marks.specs.declared.sight.Sight.{Sight}
-use Rattle.set_marks.specs.declared.stated.Stated.{Stated}
+use Rattle.set_marks.specs.Numbers.{Said}
 use Rattle.set_marks.specs.Stations.{Occupation}
 use Rattle.set_marks.specs.Divisions.{sets_of, end_in}
 use Rattle.set_marks.specs.Marks.{code_block}
@@ -30,11 +30,11 @@ with_codes marks n [] = []
 with_codes marks n (b ∷ bs) = codes_before marks n ++ (b ∷ with_codes marks (suc n) bs)
 
 -- the blocks of the copy of a file, in their order
-abbrev pub copy_blocks : Option (List ℕ) → Stated → History → List GsiBlock
+abbrev pub copy_blocks : Option (List ℕ) → Said → History → List GsiBlock
 copy_blocks station stated h = with_codes (marks_of station stated h) 1 (reverse h)
 
 -- the history of the copy, whose newest block comes first
-abbrev pub copy_history : Option (List ℕ) → Stated → History → History
+abbrev pub copy_history : Option (List ℕ) → Said → History → History
 copy_history station stated h = grown [] (copy_blocks station stated h)
 
 -- one place for each of these readings
@@ -56,7 +56,7 @@ in_station s (Sets leading) =
 in_station s d = for_each None s.sights
 
 -- where the readings of a file are to be found, in the file's order
-abbrev pub in_file : Option (List ℕ) → Stated → History → List (Option Found)
+abbrev pub in_file : Option (List ℕ) → Said → History → List (Option Found)
 in_file station stated h =
     flat_map (λ j. in_station j.station j.division) (judged_of station stated h)
 
@@ -69,7 +69,7 @@ AreBlocksOf bytes h = AllZip IsBlock (numbered_lines bytes) (reverse h)
 -- of a station with a fault too. No
 -- block, and not the end, has a fault that comes of the code lines: so no set is empty, and each
 -- has its readings in both faces.
-pub record IsFoundAsDivided (station : Option (List ℕ)) (stated : Stated) (h copy : History)
+pub record IsFoundAsDivided (station : Option (List ℕ)) (stated : Said) (h copy : History)
     : Type 0 where
   pub found : found_in copy ≡ in_file station stated h
   pub faults : (limits : FaceLimits) → HasNoFaultOfCodes limits copy

@@ -2,8 +2,9 @@
 -- alone (profile).
 use Rattle.std.specs.Prelude.{ℕ, suc, ◌-◌, ◌==◌, Bool, true, false, ◌&&◌, not, List, [], ◌∷◌, ◌++◌}
 use Rattle.std.specs.Prelude.{length, drop, if◌then◌else◌, Option, Some, None, is_none, nat_lt}
-use Rattle.std.specs.Prelude.{slice_get}
-use Rattle.std.specs.List.{list_any}
+use Rattle.std.specs.Prelude.{slice_get, is_some, ◌||◌}
+use Rattle.std.specs.List.{list_all, list_any}
+use Rattle.std.specs.Str.{bytes_eq}
 use Rattle.station_book.specs.Places.{History, is_empty}
 use Rattle.station_book.specs.Faults.{first_of}
 use Rattle.set_marks.specs.declared.flaw.Flaw.{Flaw}
@@ -16,7 +17,8 @@ use Rattle.set_marks.specs.declared.mark.Code.TheVariants.{Station, Set, Close}
 use Rattle.set_marks.specs.declared.mark.BlockMark.{BlockMark}
 use Rattle.set_marks.specs.declared.recognized.Recognized.{Recognized}
 use Rattle.set_marks.specs.declared.sight.Sight.{Sight}
-use Rattle.set_marks.specs.declared.stated.Stated.{Stated}
+use Rattle.set_marks.specs.declared.stated.NamedNumber.{NamedNumber}
+use Rattle.set_marks.specs.Numbers.{Said}
 use Rattle.set_marks.specs.Stations.{Occupation}
 use Rattle.set_marks.specs.Divisions.{starts_of, end_in, targets_of, in_sets_of, are_by_targets}
 use Rattle.set_marks.specs.Judging.{Judged, judged_of}
@@ -67,7 +69,7 @@ marks_from in_set (j ∷ js) =
 
 -- The code lines of a file, each with the number of the block before which it stands. A station
 -- with a fault has none of its own, as one without sets.
-abbrev pub marks_of : Option (List ℕ) → Stated → History → List BlockMark
+abbrev pub marks_of : Option (List ℕ) → Said → History → List BlockMark
 marks_of station stated h = marks_from false (judged_of station stated h)
 
 -- what is told of a station of which all readings stand outside, with its fault, if it has one
@@ -105,7 +107,7 @@ recognized_from [] = []
 recognized_from (j ∷ js) = recognized j.station j.division ∷ recognized_from js
 
 -- What is told of a file: of each station, in the file's order.
-abbrev pub recognized_of : Option (List ℕ) → Stated → History → List Recognized
+abbrev pub recognized_of : Option (List ℕ) → Said → History → List Recognized
 recognized_of station stated h = recognized_from (judged_of station stated h)
 
 -- the fault of the first of these stations that has one
@@ -117,10 +119,31 @@ first_fault (r ∷ rs) = first_of (r.fault ∷ first_fault rs ∷ [])
 abbrev pub have_sets : List Recognized → Bool
 have_sets rs = list_any (λ r. not (r.sets == 0)) rs
 
+-- no station of a file has sets whose last block has the number before this one: it has no block, or
+-- none that makes a set
+abbrev pub no_sets_kind : ℕ → MarkKind
+no_sets_kind end = if end == 1 then kinds.Empty else kinds.NoSets
+
 -- of the end of the file, with this number, where no station has sets
 abbrev pub no_sets_fault : ℕ → List Recognized → Option Flaw
 no_sets_fault end rs =
-    if have_sets rs then None else Some (record { block = end; kind = kinds.NoSets })
+    if have_sets rs then None else Some (record { block = end; kind = no_sets_kind end })
+
+-- a station of this name has sets, or a fault
+abbrev pub has_station : List Recognized → List ℕ → Bool
+has_station rs name =
+    list_any (λ r. bytes_eq r.name name && (is_some r.fault || not (r.sets == 0))) rs
+
+-- each of these numbers is stated of such a station
+abbrev pub are_of_stations : List Recognized → List NamedNumber → Bool
+are_of_stations rs numbers = list_all (λ n. has_station rs n.name) numbers
+
+-- of the end of the file, with this number, where a number is stated of a station by itself that
+-- isn't there, or has no sets
+abbrev pub unfound_fault : Said → ℕ → List Recognized → Option Flaw
+unfound_fault stated end rs =
+    if are_of_stations rs stated.sets.of_one && are_of_stations rs stated.targets.of_one
+    then None else Some (record { block = end; kind = kinds.NoSuchStation })
 
 -- the fault is that a name comes again: this is a doubt about the file, and not about one station
 abbrev pub is_twice_kind : MarkKind → Bool
@@ -134,13 +157,16 @@ is_twice (Some f) = is_twice_kind f.kind
 
 -- It is stated that stations with a fault stay outside, and they may: a station has sets, and no
 -- name comes again.
-abbrev pub may_stay_outside : Stated → List Recognized → Bool
+abbrev pub may_stay_outside : Said → List Recognized → Bool
 may_stay_outside stated rs =
     stated.others && (have_sets rs && not (list_any (λ r. is_twice r.fault) rs))
 
 -- The fault for which a file is refused whose last block has the number before this one, and of
--- whose stations this is told: that of the first station that has one, or that none has sets.
-abbrev pub refusal : Stated → ℕ → List Recognized → Option Flaw
-refusal stated end rs =
-    if may_stay_outside stated rs then None
-    else first_of (first_fault rs ∷ no_sets_fault end rs ∷ [])
+-- whose stations this is told, the first that stands: that of the first station that has one, unless
+-- these may stay outside; that none has sets; or that a number is stated of one that isn't there.
+abbrev pub refusal : Said → ℕ → List Recognized → Option Flaw
+refusal stated end rs = first_of (
+    (if may_stay_outside stated rs then None else first_fault rs)
+    ∷ no_sets_fault end rs
+    ∷ unfound_fault stated end rs
+    ∷ [])

@@ -16,7 +16,7 @@ use Rattle.set_marks.specs.declared.marked.Marked.{Marked}
 use Rattle.set_marks.specs.declared.recognized.Recognized.{Recognized}
 use Rattle.set_marks.specs.declared.refused.Refused.{Refused}
 use Rattle.set_marks.specs.declared.refused.Refused.TheVariants as refused
-use Rattle.set_marks.specs.declared.stated.Stated.{Stated}
+use Rattle.set_marks.specs.Numbers.{Said}
 use Rattle.set_marks.specs.Stations.{fault_of_blocks}
 use Rattle.set_marks.specs.Placing.{placed}
 use Rattle.set_marks.specs.Copies.{woven, AreOrdered, BeginsLine, IsMarkedCopy}
@@ -44,7 +44,7 @@ copy_of bytes m = woven 0 bytes m.marks.items
 -- The file has no fault of its lines and blocks, these are its code lines, in order, each where a
 -- line begins, so that this is its copy, and this is told of its stations, for which it isn't
 -- refused.
-pub record IsMarking (station : Option (List ℕ)) (stated : Stated) (bytes : List ℕ)
+pub record IsMarking (station : Option (List ℕ)) (stated : Said) (bytes : List ℕ)
     (answers : FileAnswers) (m : Marked) : Type 0 where
   pub blocks : History
   pub are_blocks : AreBlocks answers blocks
@@ -66,7 +66,7 @@ pub record IsBlockFault (station : Option (List ℕ)) (answers : FileAnswers) (f
 
 -- The file has no fault of its lines and blocks, this is told of its stations, of which each is
 -- judged by itself, and for this fault it is refused.
-pub record IsRefused (station : Option (List ℕ)) (stated : Stated) (answers : FileAnswers)
+pub record IsRefused (station : Option (List ℕ)) (stated : Said) (answers : FileAnswers)
     (flaw : Flaw) (told : List Recognized) : Type 0 where
   pub blocks : History
   pub are_blocks : AreBlocks answers blocks
@@ -94,7 +94,7 @@ told_in (refused.Stations flaw told) = told.items
 
 -- What is answered: the marking; or the first fault of a line, else of a block; else what is told
 -- of the stations, and the fault for which they are refused; or that memory ran out.
-abbrev pub AnswersMark : Option (List ℕ) → Stated → List ℕ → FileAnswers → Result Marked Refused
+abbrev pub AnswersMark : Option (List ℕ) → Said → List ℕ → FileAnswers → Result Marked Refused
     → Type 0
 AnswersMark station stated bytes answers (Ok m) = IsMarking station stated bytes answers m
 AnswersMark station stated bytes answers (Err (refused.File fault)) =

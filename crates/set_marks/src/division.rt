@@ -6,7 +6,7 @@ ghost use Rattle.std.specs.Bool.{OnTrue};
 ghost use Rattle.std.specs.List.{list_all, list_any};
 ghost use Rattle.adjust_kernel.specs.declared.bounds.TheConstants.{MOST_SETS};
 ghost use Rattle.set_marks.specs.declared.sight.Sight.{Sight};
-ghost use Rattle.set_marks.specs.declared.stated.Stated.{Stated};
+ghost use Rattle.set_marks.specs.declared.stated.Numbers.{Numbers};
 ghost use Rattle.set_marks.specs.Leading.{IsLeading};
 ghost use Rattle.set_marks.specs.Searching.{KnowsTargetsOf};
 ghost use Rattle.set_marks.specs.Divisions.{part, next_of, end_of, end_by, cut_end, starts_of};
@@ -34,7 +34,7 @@ use crate::set::{
 };
 use crate::sight::Sight;
 use crate::starts::{starts, starts_of};
-use crate::stated::{Stated, is_asked, is_other};
+use crate::stated::{Numbers, is_asked, is_other};
 use adjust_kernel::MOST_SETS;
 use std::alloc::{AllocError, Global};
 
@@ -525,7 +525,7 @@ fn has_other_targets(
 /// that are stated.
 fn numbers_flaw(
     alloc: Global,
-    stated: Stated,
+    stated: Numbers,
     starts: &[usize],
     end: usize,
     sights: &[Sight],
@@ -550,7 +550,7 @@ fn numbers_flaw(
 /// The doubt about readings that are sets after these leading ones, and of which this is stated.
 fn doubt_after(
     alloc: Global,
-    stated: Stated,
+    stated: Numbers,
     leading: &[Sight],
     sights: &[Sight],
 ) -> Result<Option<Flaw>, AllocError>
@@ -580,7 +580,7 @@ fn doubt_after(
 /// The doubt about readings that are no details, where they divide with so many leading ones.
 fn doubt_of(
     alloc: Global,
-    stated: Stated,
+    stated: Numbers,
     rest: &[Sight],
     leading: usize,
 ) -> Result<Option<Flaw>, AllocError>
@@ -601,7 +601,7 @@ fn doubt_of(
 /// face II.
 fn divide_rest(
     alloc: Global,
-    stated: Stated,
+    stated: Numbers,
     known: &mut Known,
     sights: &[Sight],
     rest: &[Sight],
@@ -632,7 +632,7 @@ fn are_sets(alloc: Global, starts: &[usize], sights: &[Sight]) -> Result<bool, A
 /// It is asked only where the last reading is of a target of the first half: else some readings
 /// stand outside, or there is one set.
 fn are_all_in_sets(alloc: Global, sights: &[Sight]) -> Result<bool, AllocError>
-    ensures { IfOk result (λ whole. OnTrue whole ((stated : Stated)
+    ensures { IfOk result (λ whole. OnTrue whole ((stated : Numbers)
         → divided_by stated sights.now (leading_of sights.now)
         ≡ divided_unless (doubt_after stated [] sights.now) 0)) }
 {
@@ -651,7 +651,7 @@ fn are_all_in_sets(alloc: Global, sights: &[Sight]) -> Result<bool, AllocError>
 }
 
 /// What a station's readings are that are all in sets.
-fn divide_whole(alloc: Global, stated: Stated, sights: &[Sight]) -> Result<Divided, AllocError>
+fn divide_whole(alloc: Global, stated: Numbers, sights: &[Sight]) -> Result<Divided, AllocError>
     ensures { IfOk result (λ d. d ≡ divided_unless (doubt_after stated [] sights.now) 0) }
 {
     match doubt_after(alloc, stated, &[], sights)? {
@@ -661,7 +661,7 @@ fn divide_whole(alloc: Global, stated: Stated, sights: &[Sight]) -> Result<Divid
 }
 
 /// What a station's readings are, of whose sets this is stated.
-pub fn divide(alloc: Global, stated: Stated, sights: &[Sight]) -> Result<Divided, AllocError>
+pub fn divide(alloc: Global, stated: Numbers, sights: &[Sight]) -> Result<Divided, AllocError>
     ensures { IfOk result (λ d. d ≡ divided stated sights.now) }
 {
     if has_no_sets(sights) {

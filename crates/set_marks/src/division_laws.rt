@@ -4,7 +4,7 @@ ghost use Rattle.std.specs.Prelude.{◌≡◌, ◌≤◌, ℕ, List, filter, len
 ghost use Rattle.std.specs.List.{list_any};
 ghost use Rattle.set_marks.specs.declared.division.Divided.TheVariants.{Sets};
 ghost use Rattle.set_marks.specs.declared.sight.Sight.{Sight};
-ghost use Rattle.set_marks.specs.declared.stated.Stated.{Stated};
+ghost use Rattle.set_marks.specs.declared.stated.Numbers.{Numbers};
 ghost use Rattle.set_marks.specs.Divisions.{divided, starts_of, is_read_in_two};
 ghost use Rattle.set_marks.specs.BeginsAndEnds.{begins_set, places_from, was_read, EndsLastSet};
 ghost use Rattle.set_marks.specs.SetsInWords.{AreSets};
@@ -12,7 +12,7 @@ ghost use Rattle.set_marks.specs.SetsInWords.{AreSets};
 /// Where sets are recognized, each reads each of its targets once in each face, and one after
 /// another they are the readings between the leading ones and those after the sets.
 pub fn sets_in_words()
-    ensures { (stated : Stated) (rs : List Sight) (leading : ℕ)
+    ensures { (stated : Numbers) (rs : List Sight) (leading : ℕ)
         → divided stated rs ≡ Sets leading → AreSets rs leading }
 {}
 

@@ -6,7 +6,7 @@
 
 ghost use Rattle.std.specs.Prelude.{◌≡◌, [], ℕ, All, IfOk, List, OnOk, Option};
 ghost use Rattle.station_book.specs.Places.{History};
-ghost use Rattle.set_marks.specs.declared.stated.Stated.{Stated};
+ghost use Rattle.set_marks.specs.Numbers.{Said, said_in};
 ghost use Rattle.set_marks.specs.Marks.{IsRoomy};
 ghost use Rattle.set_marks.specs.Stations.{stations_of};
 ghost use Rattle.set_marks.specs.Keeping.{AreMarked, AreMarkedFirst, Ends, Keeps};
@@ -24,7 +24,7 @@ impl Readings {
         ensures station { result.station ≡ station }
         ensures sights { result.sights.items ≡ [] }
         ensures room { All IsRoomy result.marking.marks.items }
-        ensures marked { AreMarkedFirst stated [] result.marking }
+        ensures marked { AreMarkedFirst (said_in stated) [] result.marking }
         ensures blocks { result.blocks ≡ 0 }
     {
         Readings {
@@ -67,7 +67,7 @@ impl Readings {
     pub(crate) fn finish(self, alloc: Global) -> Result<Marking, AllocError>
         requires room { All IsRoomy self.marking.marks.items }
         ensures room { IfOk result (λ m. All IsRoomy m.marks.items) }
-        ensures marked { IfOk result (λ m. (station : Option (List ℕ)) (stated : Stated)
+        ensures marked { IfOk result (λ m. (station : Option (List ℕ)) (stated : Said)
             (h : History) → Keeps station stated h self
             → AreMarked stated (stations_of station h) m) }
     {

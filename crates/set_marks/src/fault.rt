@@ -91,10 +91,17 @@ pub enum MarkKind {
     /// The station's name has more bytes than a line of GSI-8 has room for.
     #[error("the name of the station has no room in a line of this width")]
     NameTooLong,
+    /// The file has no line: it is empty, as one that a shell wrote over, or a failed transfer left.
+    #[error("the file is empty")]
+    Empty,
     /// No station has sets: none is read in face II, but for sights back before detail; or there
     /// are no readings. The number is that of the last block plus 1.
     #[error("no station has sets")]
     NoSets,
+    /// A number is stated of a station by its name that isn't there, or has no sets. The number of
+    /// the block is that of the last one plus 1.
+    #[error("a number is stated of a station that isn't there or has no sets")]
+    NoSuchStation,
     /// The station's sets are read by targets, so that nothing shows where they begin: state how
     /// many were read to the end; and of a single set how many targets it has.
     #[error("the sets are read by targets, and their number or that of targets isn't stated")]
@@ -136,7 +143,9 @@ impl MarkKind {
             MarkKind::StationTwice => "StationTwice",
             MarkKind::TooManyStations => "TooManyStations",
             MarkKind::NameTooLong => "NameTooLong",
+            MarkKind::Empty => "Empty",
             MarkKind::NoSets => "NoSets",
+            MarkKind::NoSuchStation => "NoSuchStation",
             MarkKind::ByTargets => "ByTargets",
             MarkKind::SetCount => "SetCount",
             MarkKind::TargetCount => "TargetCount",

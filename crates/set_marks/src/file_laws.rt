@@ -7,7 +7,7 @@ ghost use Rattle.gsi_file.specs.FileAnswers.{file_answers};
 ghost use Rattle.adjust_kernel.specs.Names.{IsName};
 ghost use Rattle.station_book.specs.Places.{History};
 ghost use Rattle.set_marks.specs.declared.marked.Marked.{Marked};
-ghost use Rattle.set_marks.specs.declared.stated.Stated.{Stated};
+ghost use Rattle.set_marks.specs.Numbers.{Said};
 ghost use Rattle.set_marks.specs.Markings.{IsMarking, copy_of};
 ghost use Rattle.set_marks.specs.Unmarked.{is_put_in, unmarked, whole_lines};
 ghost use Rattle.set_marks.specs.MarkedFile.{AreBlocksOf, copy_history, IsFoundAsDivided};
@@ -17,20 +17,20 @@ ghost use Rattle.set_marks.specs.MarkedFile.{AreBlocksOf, copy_history, IsFoundA
 /// set, and no fault that comes of the code lines. Without the lines that begin with four points
 /// after `41` the copy is the file, byte for byte, where the file has no such line.
 pub fn copy_is_read()
-    ensures blocks { (station : Option (List ℕ)) (stated : Stated) (bytes : List ℕ) (fails : Bool)
+    ensures blocks { (station : Option (List ℕ)) (stated : Said) (bytes : List ℕ) (fails : Bool)
         (m : Marked)
         → IfSome station IsName
         → (marking : IsMarking station stated bytes
         (file_answers (record { bytes = bytes; fails = fails })) m)
         → AreBlocksOf (copy_of bytes m) (copy_history station stated marking.blocks) }
-    ensures found { (station : Option (List ℕ)) (stated : Stated) (bytes : List ℕ) (fails : Bool)
+    ensures found { (station : Option (List ℕ)) (stated : Said) (bytes : List ℕ) (fails : Bool)
         (m : Marked)
         → IfSome station IsName
         → (marking : IsMarking station stated bytes
         (file_answers (record { bytes = bytes; fails = fails })) m)
         → (copy : History) → AreBlocksOf (copy_of bytes m) copy
         → IsFoundAsDivided station stated marking.blocks copy }
-    ensures back { (station : Option (List ℕ)) (stated : Stated) (bytes : List ℕ) (fails : Bool)
+    ensures back { (station : Option (List ℕ)) (stated : Said) (bytes : List ℕ) (fails : Bool)
         (m : Marked)
         → IfSome station IsName
         → IsMarking station stated bytes

@@ -51,4 +51,4 @@ pub use recognized::Recognized;
 pub use refused::Refused;
 pub use remarks::Remarks;
 pub use sight::Sight;
-pub use stated::{NamedNumber, Stated, StatedNumber};
+pub use stated::{NamedNumber, Numbers, Stated, StatedNumber};

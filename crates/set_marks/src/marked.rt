@@ -2,6 +2,7 @@
 
 ghost use Rattle.gsi_file.specs.FileAnswers.{file_answers};
 ghost use Rattle.set_marks.specs.Markings.{AnswersMark};
+ghost use Rattle.set_marks.specs.Numbers.{said_in};
 
 use crate::mark::Mark;
 use crate::placing::placed;
@@ -42,13 +43,13 @@ pub fn mark_file(
     station: Option<Name>,
     stated: Stated,
 ) -> Result<Marked, Refused>
-    ensures { AnswersMark station stated bytes.now
+    ensures { AnswersMark station (said_in stated) bytes.now
         (file_answers (record { bytes = bytes.now; fails = fails })) result }
 {
     let walk = readings_of(alloc, bytes, fails, station, stated)?;
     let end = walk.readings.blocks + 1;
     let marking = walk.readings.finish(alloc)?;
-    if let Some(flaw) = refusal(stated, end, &marking.stations) {
+    if let Some(flaw) = refusal(&marking.stated, end, &marking.stations) {
         return Err(Refused::Stations(flaw, marking.stations));
     }
     let marks = placed(alloc, bytes, &walk.begins, &marking.marks)?;

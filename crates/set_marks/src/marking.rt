@@ -10,6 +10,7 @@ ghost use Rattle.set_marks.specs.Judging.{is_too_long, judged, sets_fault, targe
 ghost use Rattle.set_marks.specs.Judging.{none_before};
 ghost use Rattle.station_book.specs.Places.{is_empty};
 ghost use Rattle.set_marks.specs.Marks.{HasRoom, IsRoomy};
+ghost use Rattle.set_marks.specs.Numbers.{said_in};
 ghost use Rattle.set_marks.specs.Marking.{close_mark, mark_at, outside, set_marks, sets_marks};
 ghost use Rattle.set_marks.specs.Keeping.{TakesStation, before_in};
 
@@ -272,10 +273,10 @@ impl Marking {
         requires room { All IsRoomy self.old.marks.items }
         ensures room { All IsRoomy self.new.marks.items }
         ensures takes { OnOk result (TakesStation (record { name = name.now; sights = sights.now })
-            (judged self.old.stated (before_in self.old.names)
+            (judged (said_in self.old.stated) (before_in self.old.names)
             (record { name = name.now; sights = sights.now })) self.old self.new) }
     {
-        match divide(alloc, self.stated, sights)? {
+        match divide(alloc, self.stated.of(name), sights)? {
             Divided::NoSets => self.take_without_sets(name, sights),
             Divided::Flawed(flaw) => match self.names.twice_fault(name, sights) {
                 Some(twice) => self.take_faulty(name, sights, twice),

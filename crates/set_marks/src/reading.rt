@@ -14,6 +14,7 @@ ghost use Rattle.station_book.specs.Readings.{read};
 ghost use Rattle.adjust_kernel.specs.Names.{IsName};
 ghost use Rattle.gsi_word.specs.Names.{name_of};
 ghost use Rattle.set_marks.specs.Marks.{IsRoomy};
+ghost use Rattle.set_marks.specs.Numbers.{said_in};
 ghost use Rattle.set_marks.specs.Stations.{begins_line, is_two_lines, block_fault, fault_as};
 ghost use Rattle.set_marks.specs.Stations.{has_set_up_word, tells_set_up};
 ghost use Rattle.set_marks.specs.Taking.{IsKnown};
@@ -137,7 +138,7 @@ pub fn bare_name(name: &Name) -> Name
 /// No readings: of a station, where its name is stated.
 #[tactic(auto, using(crate::proofs::EndedStations::none_kept))]
 pub(crate) fn no_readings(alloc: Global, station: Option<Name>, stated: Stated) -> Readings
-    ensures keeps { Keeps station stated [] result }
+    ensures keeps { Keeps station (said_in stated) [] result }
     ensures room { All IsRoomy result.marking.marks.items }
 {
     match station {

@@ -5,13 +5,16 @@ ghost use Rattle.std.specs.List.{list_any};
 ghost use Rattle.set_marks.specs.declared.fault.MarkFault.TheVariants.{Memory};
 ghost use Rattle.set_marks.specs.declared.refused.Refused.TheVariants.{File};
 ghost use Rattle.set_marks.specs.Marking.{first_fault, have_sets, is_twice, may_stay_outside};
-ghost use Rattle.set_marks.specs.Marking.{refusal};
+ghost use Rattle.set_marks.specs.Marking.{are_of_stations, has_station, no_sets_kind, refusal};
+ghost use Rattle.set_marks.specs.Marking.{unfound_fault};
+ghost use Rattle.set_marks.specs.Numbers.{said_in};
 ghost use Rattle.set_marks.specs.Markings.{fault_in, told_in};
 
 use crate::fault::{MarkFault, MarkKind};
 use crate::flaw::Flaw;
 use crate::recognized::Recognized;
-use crate::stated::Stated;
+use crate::stated::{NamedNumber, Stated};
+use adjust_kernel::Name;
 use std::alloc::AllocError;
 
 /// Why a field file is not marked.
@@ -102,29 +105,71 @@ fn have_twice(stations: &[Recognized]) -> bool
 }
 
 /// Whether stations with a fault may stay outside.
-fn may_stay_outside(stated: Stated, stations: &[Recognized]) -> bool
-    ensures { result ≡ may_stay_outside stated stations.now }
+fn may_stay_outside(stated: &Stated, stations: &[Recognized]) -> bool
+    ensures { result ≡ may_stay_outside (said_in stated.now) stations.now }
 {
     stated.others && have_sets(stations) && !have_twice(stations)
 }
 
-/// The fault for which a file is refused of whose stations this is told. `end` is the number of its
-/// last block plus 1.
-pub(crate) fn refusal(stated: Stated, end: u32, stations: &[Recognized]) -> Option<Flaw>
-    ensures { result ≡ refusal stated end stations.now }
+/// What is wrong where no station has sets of a file whose last block has the number before this one.
+fn no_sets_kind(end: u32) -> MarkKind
+    ensures { result ≡ no_sets_kind end }
 {
-    if may_stay_outside(stated, stations) {
+    if end == 1 {
+        MarkKind::Empty
+    } else {
+        MarkKind::NoSets
+    }
+}
+
+/// Whether a station of this name has sets or a fault.
+fn has_station(stations: &[Recognized], name: &Name) -> bool
+    ensures { result ≡ has_station stations.now name.now }
+{
+    stations.iter().any(|station| {
+        station.name.is_same(name) && (station.fault.is_some() || station.sets != 0)
+    })
+}
+
+/// Whether each of these numbers is stated of such a station.
+fn are_of_stations(stations: &[Recognized], numbers: &[NamedNumber]) -> bool
+    ensures { result ≡ are_of_stations stations.now numbers.now }
+{
+    numbers
+        .iter()
+        .all(|named| has_station(stations, &named.name))
+}
+
+/// The fault that a number is stated of a station by itself that isn't there, or has no sets.
+fn unfound_fault(stated: &Stated, end: u32, stations: &[Recognized]) -> Option<Flaw>
+    ensures { result ≡ unfound_fault (said_in stated.now) end stations.now }
+{
+    if are_of_stations(stations, &stated.sets.of_one)
+        && are_of_stations(stations, &stated.targets.of_one)
+    {
         return None;
     }
-    if let Some(flaw) = first_fault(stations) {
-        return Some(flaw);
+    Some(Flaw {
+        block: end,
+        kind: MarkKind::NoSuchStation,
+    })
+}
+
+/// The fault for which a file is refused of whose stations this is told. `end` is the number of its
+/// last block plus 1.
+pub(crate) fn refusal(stated: &Stated, end: u32, stations: &[Recognized]) -> Option<Flaw>
+    ensures { result ≡ refusal (said_in stated.now) end stations.now }
+{
+    if !may_stay_outside(stated, stations) {
+        if let Some(flaw) = first_fault(stations) {
+            return Some(flaw);
+        }
     }
-    if have_sets(stations) {
-        None
-    } else {
-        Some(Flaw {
+    if !have_sets(stations) {
+        return Some(Flaw {
             block: end,
-            kind: MarkKind::NoSets,
-        })
+            kind: no_sets_kind(end),
+        });
     }
+    unfound_fault(stated, end, stations)
 }

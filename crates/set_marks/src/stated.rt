@@ -1,9 +1,11 @@
 //! What is stated of a field file.
 
-ghost use Rattle.std.specs.Prelude.{◌≡◌};
-ghost use Rattle.set_marks.specs.Numbers.{is_asked, is_other};
+ghost use Rattle.std.specs.Prelude.{◌≡◌, []};
+ghost use Rattle.set_marks.specs.Numbers.{is_asked, is_other, number_of, numbers_of};
+ghost use Rattle.set_marks.specs.Numbers.{number_said, own_number, said_in};
 
 use adjust_kernel::Name;
+use std::alloc::Global;
 
 /// A number that is stated of the station of one name.
 #[derive(Clone, Copy, Debug, PartialEq, Eq, Drop)]
@@ -24,16 +26,73 @@ pub struct StatedNumber {
     pub of_one: Vec<NamedNumber>,
 }
 
-/// What is stated of a field file, since no reading shows it. The numbers are those of each station
-/// that has sets.
-#[derive(Clone, Copy, Debug, PartialEq, Eq, Drop)]
+/// What is stated of a field file, since no reading shows it.
+#[derive(Debug, Drop)]
 pub struct Stated {
     /// How many sets were read to the end.
+    pub sets: StatedNumber,
+    /// How many targets they have.
+    pub targets: StatedNumber,
+    /// Whether stations with a fault stay outside, and the others are marked.
+    pub others: bool,
+}
+
+/// What is stated of the sets of one station.
+#[derive(Clone, Copy, Debug, PartialEq, Eq, Drop)]
+pub struct Numbers {
+    /// How many were read to the end.
     pub sets: Option<u32>,
     /// How many targets they have.
     pub targets: Option<u32>,
-    /// Whether stations with a fault stay outside, and the others are marked.
-    pub others: bool,
+}
+
+/// The number that is stated of the station of this name by itself.
+fn own_number(numbers: &[NamedNumber], name: &Name) -> Option<u32>
+    ensures { result ≡ own_number numbers.now name.now }
+{
+    let mut left = numbers;
+    'numbers: while let Some((named, rest)) = left.split_first() {
+        if named.name.is_same(name) {
+            return Some(named.number);
+        }
+        left = rest;
+    }
+    None
+}
+
+impl StatedNumber {
+    /// This number of each station, or none.
+    pub fn of_each(alloc: Global, number: Option<u32>) -> StatedNumber
+        ensures each { result.of_each ≡ number }
+        ensures one { result.of_one.items ≡ [] }
+    {
+        StatedNumber {
+            of_each: number,
+            of_one: Vec::new(alloc),
+        }
+    }
+
+    /// The number that is stated of the station of this name: its own, or else that of each.
+    pub(crate) fn of(&self, name: &Name) -> Option<u32>
+        ensures { result ≡ number_of (number_said self.now) name.now }
+    {
+        match own_number(&self.of_one, name) {
+            Some(number) => Some(number),
+            None => self.of_each,
+        }
+    }
+}
+
+impl Stated {
+    /// What is stated of the sets of the station of this name.
+    pub(crate) fn of(&self, name: &Name) -> Numbers
+        ensures { result ≡ numbers_of (said_in self.now) name.now }
+    {
+        Numbers {
+            sets: self.sets.of(name),
+            targets: self.targets.of(name),
+        }
+    }
 }
 
 /// Whether a number is stated, and is not this one.

@@ -4,27 +4,27 @@ ghost use Rattle.std.specs.Prelude.{◌≡◌, ◌≤◌, ℕ, All, List, None, 
 ghost use Rattle.adjust_kernel.specs.declared.bounds.TheConstants.{MOST_TARGETS};
 ghost use Rattle.gsi_file.specs.FileAnswers.{FileAnswers};
 ghost use Rattle.set_marks.specs.declared.marked.Marked.{Marked};
-ghost use Rattle.set_marks.specs.declared.stated.Stated.{Stated};
+ghost use Rattle.set_marks.specs.Numbers.{Said};
 ghost use Rattle.set_marks.specs.Judging.{judged_of};
 ghost use Rattle.set_marks.specs.Markings.{IsMarking};
 ghost use Rattle.set_marks.specs.Stated.{AreAsStated, IsByFaces};
 
 /// What is told of each station of a marked file is what is stated of its sets. Where no number of
-/// sets is stated, each set of each station is read by faces: none is read by targets. No station
+/// sets is stated of a station, each of its sets is read by faces: none is read by targets. No station
 /// has more targets than the 100 that it may have. Where it isn't stated that stations with a fault
 /// stay outside, no station has one.
 pub fn marked_as_stated()
-    ensures numbers { (station : Option (List ℕ)) (stated : Stated) (bytes : List ℕ)
+    ensures numbers { (station : Option (List ℕ)) (stated : Said) (bytes : List ℕ)
         (answers : FileAnswers) (m : Marked)
         → IsMarking station stated bytes answers m → AreAsStated stated m.stations.items }
-    ensures by_faces { (station : Option (List ℕ)) (stated : Stated) (bytes : List ℕ)
+    ensures by_faces { (station : Option (List ℕ)) (stated : Said) (bytes : List ℕ)
         (answers : FileAnswers) (m : Marked)
-        → (marking : IsMarking station stated bytes answers m) → stated.sets ≡ None
-        → All IsByFaces (judged_of station stated marking.blocks) }
-    ensures few_targets { (station : Option (List ℕ)) (stated : Stated) (bytes : List ℕ)
+        → (marking : IsMarking station stated bytes answers m)
+        → All (IsByFaces stated) (judged_of station stated marking.blocks) }
+    ensures few_targets { (station : Option (List ℕ)) (stated : Said) (bytes : List ℕ)
         (answers : FileAnswers) (m : Marked) → IsMarking station stated bytes answers m
         → All (λ r. r.targets ≤ MOST_TARGETS) m.stations.items }
-    ensures faultless { (station : Option (List ℕ)) (stated : Stated) (bytes : List ℕ)
+    ensures faultless { (station : Option (List ℕ)) (stated : Said) (bytes : List ℕ)
         (answers : FileAnswers) (m : Marked) → IsMarking station stated bytes answers m
         → stated.others ≡ false → All (λ r. r.fault ≡ None) m.stations.items }
 {}

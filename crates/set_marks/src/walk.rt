@@ -18,6 +18,7 @@ ghost use Rattle.gsi_file.specs.declared.file_fault.FileFault.TheVariants.{At};
 ghost use Rattle.gsi_file.specs.declared.file_fault.FileKind.TheVariants.{FileTooLong, LineTooLong};
 ghost use Rattle.set_marks.specs.declared.fault.MarkFault.TheVariants.{File, Memory};
 ghost use Rattle.set_marks.specs.Marks.{IsRoomy};
+ghost use Rattle.set_marks.specs.Numbers.{said_in};
 ghost use Rattle.set_marks.specs.Keeping.{AnswersReadings, Keeps};
 ghost use Rattle.set_marks.specs.LinePlaces.{AreBegins, IsUsedUp};
 ghost use Rattle.set_marks.specs.Taking.{IsKnown, IsLineRefusal, IsTested, TakesLine, TakesPart};
@@ -115,7 +116,7 @@ fn after(count: usize, bytes: &[u8]) -> &[u8]
 impl Walk {
     /// Nothing was taken. A station of this name may be open.
     fn new(alloc: Global, station: Option<Name>, stated: Stated) -> Walk
-        ensures keeps { Keeps station stated [] result.readings }
+        ensures keeps { Keeps station (said_in stated) [] result.readings }
         ensures room { All IsRoomy result.readings.marking.marks.items }
         ensures fault { result.fault ≡ None }
         ensures begins { result.begins.items ≡ [] }
@@ -259,7 +260,7 @@ pub(crate) fn readings_of(
     station: Option<Name>,
     stated: Stated,
 ) -> Result<Walk, MarkFault>
-    ensures answers { AnswersReadings station stated
+    ensures answers { AnswersReadings station (said_in stated)
         (file_answers (record { bytes = bytes.now; fails = fails })) (readings_in result) }
     ensures room { IfOk result (λ w. All IsRoomy w.readings.marking.marks.items) }
     ensures begins { IfOk result (λ w. AreBegins bytes.now w.begins.items) }

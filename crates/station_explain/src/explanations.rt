@@ -551,6 +551,17 @@ first reading in a set stands in a line of GSI-8.",
 State a shorter name with --station; or rename the set-up line in a copy.",
     },
     Said {
+        names: &["Empty"],
+        meaning: "the file has no line",
+        when: "\
+The file has no bytes, or blank lines alone: the transfer from the instrument failed, or a shell
+wrote over it, as 'mark job.gsi > job.gsi' does before the program begins.",
+        example: "refused: block 1: mark: Empty",
+        remedy: "\
+Transfer the file again. Name the copy as 'mark job.gsi job_marked.gsi': a file that is there is
+never written over.",
+    },
+    Said {
         names: &["NoSets"],
         meaning: "no station of the file has sets",
         when: "\
@@ -561,6 +572,17 @@ beside it; or the file has no readings. The number is that after the last block.
 See 'station_check words GSI'. A detail survey, a traverse in one face or a levelling
 file has no two-face directions. Face II has zenith angles above 200 gon: if none is, the
 instrument recorded elevations, or means of both faces.",
+    },
+    Said {
+        names: &["NoSuchStation"],
+        meaning: "a number is stated of a station that the file doesn't have, or that has no sets",
+        when: "\
+'--sets P7=3' or '--targets P7=6' states a number of the station P7 alone, and no station of this
+name has sets. Zeros before a name don't count; small letters and capitals differ. The number of the
+block is that after the last one.",
+        example: "refused: block 43: mark: NoSuchStation",
+        remedy: "\
+The notes before the line have the name of each station: state the number of one of them.",
     },
 ];
 

@@ -8,7 +8,7 @@ use Rattle.set_marks.specs.declared.flaw.Flaw.{Flaw}
 use Rattle.set_marks.specs.declared.recognized.Recognized.{Recognized}
 use Rattle.set_marks.specs.declared.refused.Refused.{Refused}
 use Rattle.set_marks.specs.declared.refused.Refused.TheVariants as refused
-use Rattle.set_marks.specs.declared.stated.Stated.{Stated}
+use Rattle.set_marks.specs.Numbers.{Said}
 use Rattle.set_marks.specs.Stations.{fault_of_blocks}
 use Rattle.set_marks.specs.Marking.{marks_of, recognized_of, refusal}
 use Rattle.set_marks.specs.Markings.{AreBlocks, AnswersMark, IsBlockFault, IsFault, IsRefused}
@@ -23,7 +23,7 @@ use Rattle.station_mark.specs.Notes.{notes_of, notes_text}
 use Rattle.station_mark.specs.OneAnswer.{IsSettled, printed_of}
 use Rattle.station_mark.specs.declared.fault.PrintFault.TheVariants.{Mark}
 
-module _ (station : Option (List ℕ)) (stated : Stated) (bytes : List ℕ) (answers : FileAnswers)
+module _ (station : Option (List ℕ)) (stated : Said) (bytes : List ℕ) (answers : FileAnswers)
   where
     -- What is answered.
     abbrev Tells : Result Marked Refused → Type 0

@@ -15,7 +15,7 @@ use Rattle.gsi_file.specs.declared.file_fault.FileFault.TheVariants as file
 use Rattle.gsi_file.specs.declared.file_fault.FileKind.TheVariants as kind
 use Rattle.set_marks.specs.Copies.{AreOrdered}
 use Rattle.set_marks.specs.Markings.{AnswersMark, IsFileFault}
-use Rattle.set_marks.specs.declared.stated.Stated.{Stated}
+use Rattle.set_marks.specs.Numbers.{Said}
 use Rattle.set_marks.specs.declared.fault.MarkFault.TheVariants.{File, Reading, At, Memory}
 use Rattle.set_marks.specs.declared.refused.Refused.{Refused}
 use Rattle.set_marks.specs.declared.refused.Refused.TheVariants as refused
@@ -77,7 +77,7 @@ read_is_last a number h = ap (λ (b : FileAnswers). b.last) h.split ∙ next h.l
     next left (inr (line, rest, e, none)) = absurd none
 
 leaves : (reader : ReaderChange) (bytes : List ℕ) (fails : Bool) (station : Option (List ℕ))
-    (stated : Stated) (r : Result MarkedFile Refused)
+    (stated : Said) (r : Result MarkedFile Refused)
     → IsLeft LONGEST_FILE (length bytes) fails reader
     → AnswersMark station stated bytes (file_answers (told_of bytes fails)) (marking_in r)
     → Leaves marked_left r reader
@@ -122,7 +122,7 @@ read_for (Err (refused.File (At number what))) count reader h = h
 read_for (Err (refused.File Memory)) count reader h = tt
 
 -- What is answered of the bytes that were kept is the answer on what the reader gave.
-pub answered : (station : Option (List ℕ)) (stated : Stated) (reader : ReaderChange)
+pub answered : (station : Option (List ℕ)) (stated : Said) (reader : ReaderChange)
     (bytes : List ℕ) (fails : Bool) (r : Result MarkedFile Refused)
     → IsAllGiven LONGEST_FILE reader bytes fails
     → AnswersMark station stated bytes (file_answers (told_of bytes fails)) (marking_in r)
@@ -138,7 +138,7 @@ answered station stated reader bytes fails r h a kept = record {
 }
 
 -- Where memory ran out, nothing is said of the bytes that the reader gave.
-pub out_of_memory : (station : Option (List ℕ)) (stated : Stated) (reader : ReaderChange)
+pub out_of_memory : (station : Option (List ℕ)) (stated : Said) (reader : ReaderChange)
     (bytes : List ℕ) → HasGiven reader bytes
     → IsMarkAnswer station stated reader (Err (refused.File Memory))
 out_of_memory station stated reader bytes h = record {
@@ -151,7 +151,7 @@ out_of_memory station stated reader bytes h = record {
 }
 
 -- The code lines of a marked file stand in order.
-pub in_order : (station : Option (List ℕ)) (stated : Stated) (reader : ReaderChange)
+pub in_order : (station : Option (List ℕ)) (stated : Said) (reader : ReaderChange)
     (file : MarkedFile) → IsMarkAnswer station stated reader (Ok file)
     → AreOrdered 0 (length file.bytes.items) file.marked.marks.items
 in_order station stated reader file a =

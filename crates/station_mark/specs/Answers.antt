@@ -12,7 +12,7 @@ use Rattle.set_marks.specs.declared.fault.MarkFault.TheVariants as fault
 use Rattle.set_marks.specs.declared.refused.Refused.{Refused}
 use Rattle.set_marks.specs.declared.refused.Refused.TheVariants.{File, Stations}
 use Rattle.set_marks.specs.declared.marked.Marked.{Marked}
-use Rattle.set_marks.specs.declared.stated.Stated.{Stated}
+use Rattle.set_marks.specs.Numbers.{Said}
 use Rattle.station_mark.specs.declared.marked_file.MarkedFile.{MarkedFile}
 
 -- the marking of a marked file, or why there is none
@@ -43,7 +43,7 @@ marked_left refused = Unknown
 
 -- The answer on what a reader gave, whatever it is, and how it is left. `station` is the name of
 -- the file's one station, where it is stated, and `stated` is what is stated of the file.
-pub record IsMarkAnswer (station : Option (List ℕ)) (stated : Stated) (gsi : ReaderChange)
+pub record IsMarkAnswer (station : Option (List ℕ)) (stated : Said) (gsi : ReaderChange)
     (r : Result MarkedFile Refused) : Type 0 where
   -- The field file's reader gave these bytes.
   pub bytes : List ℕ

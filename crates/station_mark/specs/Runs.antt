@@ -4,7 +4,7 @@ use Rattle.byte_ends.specs.Sink.{WriterChange}
 use Rattle.byte_ends.specs.Source.{ReaderChange}
 use Rattle.set_marks.specs.Markings.{copy_of}
 use Rattle.set_marks.specs.declared.refused.Refused.{Refused}
-use Rattle.set_marks.specs.declared.stated.Stated.{Stated}
+use Rattle.set_marks.specs.Numbers.{Said}
 use Rattle.station_check.specs.RunEndings.{IsWritten, IsCutShort}
 use Rattle.station_mark.specs.Answers.{IsMarkAnswer}
 use Rattle.station_mark.specs.FaultTexts.{Unprinted, unmarked, untold}
@@ -31,7 +31,7 @@ PrintsCopy (Ok file) (Err u) out = (u ≡ untold Write) × IsCutShort (copy_in f
 PrintsCopy (Err refused) r out = (r ≡ Err (unmarked refused)) × out.is_unasked
 
 -- A run that puts codes in: all that is promised of the marking, and how its copy was printed.
-pub record IsMarkRun (station : Option (List ℕ)) (stated : Stated) (gsi : ReaderChange)
+pub record IsMarkRun (station : Option (List ℕ)) (stated : Said) (gsi : ReaderChange)
     (r : Result MarkedFile Unprinted) (out : WriterChange) : Type 0 where
   pub marking : Result MarkedFile Refused
   pub answers : IsMarkAnswer station stated gsi marking

@@ -5,7 +5,7 @@ ghost use Rattle.gsi_file.specs.FileAnswers.{FileAnswers};
 ghost use Rattle.set_marks.specs.Markings.{AnswersMark};
 ghost use Rattle.set_marks.specs.declared.marked.Marked.{Marked};
 ghost use Rattle.set_marks.specs.declared.refused.Refused.{Refused};
-ghost use Rattle.set_marks.specs.declared.stated.Stated.{Stated};
+ghost use Rattle.set_marks.specs.Numbers.{Said};
 ghost use Rattle.station_mark.specs.OneAnswer.{IsSettled, printed_of};
 
 /// What came of a reader has one answer of `mark`: of the same lines, the same bytes, the same
@@ -13,7 +13,7 @@ ghost use Rattle.station_mark.specs.OneAnswer.{IsSettled, printed_of};
 /// and so is each byte of the copy and of the notes. Out of memory alone may stand in the place of
 /// any.
 pub fn one_answer()
-    ensures { (station : Option (List ℕ)) (stated : Stated) (bytes : List ℕ) (file : FileAnswers)
+    ensures { (station : Option (List ℕ)) (stated : Said) (bytes : List ℕ) (file : FileAnswers)
         (r s : Result Marked Refused) → IsSettled r → IsSettled s
         → AnswersMark station stated bytes file r → AnswersMark station stated bytes file s
         → printed_of bytes r ≡ printed_of bytes s }

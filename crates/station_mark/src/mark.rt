@@ -4,6 +4,7 @@ ghost use Rattle.std.specs.Prelude.{◌≡◌, IfOk};
 ghost use Rattle.byte_ends.specs.Source.{reader_change, UntilDropped};
 ghost use Rattle.gsi_file.specs.FileAnswers.{file_answers};
 ghost use Rattle.set_marks.specs.Markings.{AnswersMark};
+ghost use Rattle.set_marks.specs.Numbers.{said_in};
 ghost use Rattle.station_mark.specs.Answers.{IsMarkAnswer, marking_in};
 
 use crate::given::{Given, all_given};
@@ -34,7 +35,7 @@ pub fn mark_bytes<R: Source>(
     stated: Stated,
 ) -> Result<MarkedFile, Refused>
     ensures { UntilDropped R.told R.failed R.gave gsi
-        (λ gsi. IsMarkAnswer station stated gsi result) }
+        (λ gsi. IsMarkAnswer station (said_in stated) gsi result) }
 {
     let (answer, _gsi) = mark_source(alloc, gsi, station, stated);
     answer
@@ -50,7 +51,7 @@ pub fn mark_source<R: Source>(
     station: Option<Name>,
     stated: Stated,
 ) -> (Result<MarkedFile, Refused>, R)
-    ensures { IsMarkAnswer station stated
+    ensures { IsMarkAnswer station (said_in stated)
         (reader_change R.told R.failed R.gave gsi result.1) result.0 }
 {
     let mut reader = gsi;
@@ -67,7 +68,7 @@ fn mark_given(
     station: Option<Name>,
     stated: Stated,
 ) -> Result<MarkedFile, Refused>
-    ensures answers { AnswersMark station stated given.bytes.items
+    ensures answers { AnswersMark station (said_in stated) given.bytes.items
         (file_answers (record { bytes = given.bytes.items; fails = given.fails }))
         (marking_in result) }
     ensures kept { IfOk result (λ file. file.bytes.items ≡ given.bytes.items) }

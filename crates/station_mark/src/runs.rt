@@ -5,6 +5,7 @@ ghost use Rattle.std.specs.Prelude.{◌≡◌, ◌⊎◌};
 ghost use Rattle.byte_ends.specs.Writers.{writer_change};
 ghost use Rattle.byte_ends.specs.Source.{UntilDropped};
 ghost use Rattle.set_marks.specs.declared.fault.MarkFault.TheVariants.{Memory};
+ghost use Rattle.set_marks.specs.Numbers.{said_in};
 ghost use Rattle.station_check.specs.RunEndings.{RunWithNotes, WritesOrFails};
 ghost use Rattle.station_mark.specs.FaultTexts.{refusal_line, refusal_text, unmarked};
 ghost use Rattle.station_mark.specs.Runs.{IsMarkRun, notes_in};
@@ -36,7 +37,7 @@ pub fn run_mark<R: Source, W: Sink, E: Sink>(
     err: &mut E,
 ) -> u8
     ensures { UntilDropped R.told R.failed R.gave gsi (λ gsi. RunWithNotes notes_in refusal_text
-        (IsMarkRun station stated gsi)
+        (IsMarkRun station (said_in stated) gsi)
         result (writer_change W.Sink out.old out.new)
         (writer_change E.Sink err.old err.new)) }
 {

@@ -1,5 +1,8 @@
 use adjust_kernel::Name;
-use set_marks::{MarkFault, MarkKind, Recognized, Refused, Stated, mark_file, marked_copy};
+use set_marks::{
+    MarkFault, MarkKind, NamedNumber, Recognized, Refused, Stated, StatedNumber, mark_file,
+    marked_copy,
+};
 use station_book::BookKind;
 use std::alloc::Global;
 
@@ -37,12 +40,27 @@ fn file(alloc: Global, text: &[u8]) -> Option<Vec<u8>> {
     Some(bytes)
 }
 
-/// That nothing is stated.
-const NOTHING: Stated = Stated {
-    sets: None,
-    targets: None,
-    others: false,
-};
+/// These numbers of sets and of targets are stated, each of all stations.
+fn numbers(alloc: Global, sets: Option<u32>, targets: Option<u32>) -> Stated {
+    Stated {
+        sets: StatedNumber::of_each(alloc, sets),
+        targets: StatedNumber::of_each(alloc, targets),
+        others: false,
+    }
+}
+
+/// Nothing is stated.
+fn nothing(alloc: Global) -> Stated {
+    numbers(alloc, None, None)
+}
+
+/// Stations with a fault stay outside.
+fn others(alloc: Global) -> Stated {
+    Stated {
+        others: true,
+        ..nothing(alloc)
+    }
+}
 
 /// The copy of a file, or why there is none.
 fn copy_of(
@@ -77,21 +95,21 @@ fn is_marked(alloc: Global, text: &[u8], stated: Stated) -> bool {
 #[test]
 fn rows_are_marked(rt: HostRuntime) {
     let a = rt.alloc();
-    assert!(rt; is_marked(a, b"A1B1C1C2B2A2A1B1C1C2B2A2", NOTHING));
-    assert!(rt; is_marked(a, b"A1A1B1C1C2B2A2A1B1C1C2B2A2", NOTHING));
-    assert!(rt; is_marked(a, b"A1A2A1B1C1C2B2A2A1B1C1C2B2A2", NOTHING));
-    assert!(rt; is_marked(a, b"A1B1B2A2A1B1B2A2d1e1", NOTHING));
-    assert!(rt; is_marked(a, b"d1e1f1g1A1B1B2A2A1B1B2A2d1", NOTHING));
-    assert!(rt; is_marked(a, b"d1A1e1A1B1B2A2A1B1B2A2", NOTHING));
-    assert!(rt; is_marked(a, b"A1B1B2A2d1e1", NOTHING));
-    assert!(rt; is_marked(a, b"A1A1B1B2A2d1", NOTHING));
-    assert!(rt; is_marked(a, b"A1A2A1B1B2A2", NOTHING));
-    assert!(rt; is_marked(a, b"C1B1A1B1C1C2B2A2", NOTHING));
-    assert!(rt; is_marked(a, b"C1C2A1B1C1C2B2A2d1", NOTHING));
-    assert!(rt; is_marked(a, b"C1A1B1C1A2B2C2A1B1C1A2B2C2", NOTHING));
-    assert!(rt; is_marked(a, b"1pA1B1B2A22pA1B1B2A2", NOTHING));
-    assert!(rt; is_marked(a, b"A1B1C1C2B2A2A1D1B1E1C1C2E2B2D2A2", NOTHING));
-    assert!(rt; is_marked(a, b"AhA1B1B2A2BhA1B1B2A2", NOTHING));
+    assert!(rt; is_marked(a, b"A1B1C1C2B2A2A1B1C1C2B2A2", nothing(a)));
+    assert!(rt; is_marked(a, b"A1A1B1C1C2B2A2A1B1C1C2B2A2", nothing(a)));
+    assert!(rt; is_marked(a, b"A1A2A1B1C1C2B2A2A1B1C1C2B2A2", nothing(a)));
+    assert!(rt; is_marked(a, b"A1B1B2A2A1B1B2A2d1e1", nothing(a)));
+    assert!(rt; is_marked(a, b"d1e1f1g1A1B1B2A2A1B1B2A2d1", nothing(a)));
+    assert!(rt; is_marked(a, b"d1A1e1A1B1B2A2A1B1B2A2", nothing(a)));
+    assert!(rt; is_marked(a, b"A1B1B2A2d1e1", nothing(a)));
+    assert!(rt; is_marked(a, b"A1A1B1B2A2d1", nothing(a)));
+    assert!(rt; is_marked(a, b"A1A2A1B1B2A2", nothing(a)));
+    assert!(rt; is_marked(a, b"C1B1A1B1C1C2B2A2", nothing(a)));
+    assert!(rt; is_marked(a, b"C1C2A1B1C1C2B2A2d1", nothing(a)));
+    assert!(rt; is_marked(a, b"C1A1B1C1A2B2C2A1B1C1A2B2C2", nothing(a)));
+    assert!(rt; is_marked(a, b"1pA1B1B2A22pA1B1B2A2", nothing(a)));
+    assert!(rt; is_marked(a, b"A1B1C1C2B2A2A1D1B1E1C1C2E2B2D2A2", nothing(a)));
+    assert!(rt; is_marked(a, b"AhA1B1B2A2BhA1B1B2A2", nothing(a)));
 }
 
 // The blocks are those that a plain program of the rule names.
@@ -146,7 +164,7 @@ fn each_fault_stands_at_its_block(rt: HostRuntime) {
         (b"ApA1A1A2B1C1C2B2B1C1C2B2", 2, MarkKind::SightsItself),
     ];
     for (text, block, kind) in rows {
-        assert!(rt; fault(a, text, NOTHING) == Some(MarkFault::At(block, kind)));
+        assert!(rt; fault(a, text, nothing(a)) == Some(MarkFault::At(block, kind)));
     }
 }
 
@@ -212,10 +230,51 @@ fn what_is_stated_is_what_is_found_or_is_refused(rt: HostRuntime) {
         ),
     ];
     for (text, sets, targets, refused) in rows {
-        let stated = Stated {
-            sets,
-            targets,
-            others: false,
+        let stated = numbers(a, sets, targets);
+        match refused {
+            Some((block, kind)) => {
+                assert!(rt; fault(a, text, stated) == Some(MarkFault::At(block, kind)));
+            }
+            None => assert!(rt; is_marked(a, text, stated)),
+        }
+    }
+}
+
+/// A number of sets that is stated of the station of one name by itself, and another of each.
+fn own_number(alloc: Global, name: u8, own: u32, each: Option<u32>) -> Option<Stated> {
+    let mut sets = StatedNumber::of_each(alloc, each);
+    let named = NamedNumber {
+        name: Name::new(&[name])?,
+        number: own,
+    };
+    sets.of_one.push(named).ok()?;
+    Some(Stated {
+        sets,
+        targets: StatedNumber::of_each(alloc, Some(2)),
+        others: false,
+    })
+}
+
+/// Two sets by targets at a station, and one at another.
+const TWO_AND_ONE: &[u8] = b"1pA1A2B1B2A1A2B1B22pA1A2B1B2";
+
+#[test]
+fn a_number_of_one_station_stands_in_the_place_of_that_of_each(rt: HostRuntime) {
+    let a = rt.alloc();
+    let rows: [(&[u8], u8, u32, Option<u32>, Option<(u32, MarkKind)>); 8] = [
+        (TWO_AND_ONE, b'1', 2, Some(1), None),
+        (TWO_AND_ONE, b'2', 1, Some(2), None),
+        (TWO_AND_ONE, b'1', 2, None, Some((11, MarkKind::ByTargets))),
+        (TWO_AND_ONE, b'1', 3, Some(1), Some((2, MarkKind::SetCount))),
+        (TWO_AND_ONE, b'1', 2, Some(2), Some((11, MarkKind::SetCount))),
+        (TWO_AND_ONE, b'3', 1, Some(1), Some((2, MarkKind::SetCount))),
+        (b"1pA1B1B2A2", b'3', 1, Some(1), Some((6, MarkKind::NoSuchStation))),
+        (b"1pA1B1B2A22pC1", b'2', 1, Some(1), Some((8, MarkKind::NoSuchStation))),
+    ];
+    for (text, name, own, each, refused) in rows {
+        let Some(stated) = own_number(a, name, own, each) else {
+            assert!(rt; false);
+            return;
         };
         match refused {
             Some((block, kind)) => {
@@ -224,6 +283,7 @@ fn what_is_stated_is_what_is_found_or_is_refused(rt: HostRuntime) {
             None => assert!(rt; is_marked(a, text, stated)),
         }
     }
+    assert!(rt; fault(a, b"", nothing(a)) == Some(MarkFault::At(1, MarkKind::Empty)));
 }
 
 /// The names of the stations that are told, with the blocks of their faults, 0 for none.
@@ -251,20 +311,13 @@ const THREE: &[u8] = b"1pA1B1B2A22pA1B1B23pA1C1C2A2";
 /// What is told of them.
 const TOLD: [(u8, u32); 3] = [(b'1', 0), (b'2', 9), (b'3', 0)];
 
-/// Stations with a fault stay outside.
-const OTHERS: Stated = Stated {
-    sets: None,
-    targets: None,
-    others: true,
-};
-
 #[test]
 fn each_station_is_told_where_one_has_a_fault(rt: HostRuntime) {
     let a = rt.alloc();
     let Some(bytes) = file(a, THREE) else {
         return;
     };
-    let Err(Refused::Stations(flaw, stations)) = mark_file(a, &bytes, false, None, NOTHING) else {
+    let Err(Refused::Stations(flaw, stations)) = mark_file(a, &bytes, false, None, nothing(a)) else {
         assert!(rt; false);
         return;
     };
@@ -278,7 +331,7 @@ fn a_station_with_a_fault_stays_outside_where_that_is_stated(rt: HostRuntime) {
     let Some(bytes) = file(a, THREE) else {
         return;
     };
-    let Ok(marked) = mark_file(a, &bytes, false, None, OTHERS) else {
+    let Ok(marked) = mark_file(a, &bytes, false, None, others(a)) else {
         assert!(rt; false);
         return;
     };
@@ -290,18 +343,18 @@ fn a_station_with_a_fault_stays_outside_where_that_is_stated(rt: HostRuntime) {
 #[test]
 fn not_every_file_has_a_copy_without_its_faults(rt: HostRuntime) {
     let a = rt.alloc();
-    let twice = fault(a, b"1pA1B1B2A21pA1B1B2A2", OTHERS);
+    let twice = fault(a, b"1pA1B1B2A21pA1B1B2A2", others(a));
     assert!(rt; twice == Some(MarkFault::At(7, MarkKind::StationTwice)));
-    let none = fault(a, b"1pA1B1B22pA1", OTHERS);
+    let none = fault(a, b"1pA1B1B22pA1", others(a));
     assert!(rt; none == Some(MarkFault::At(4, MarkKind::FaceMissing)));
-    assert!(rt; is_marked(a, b"1pA1B1B22pA1B1B2A2", OTHERS));
-    assert!(rt; is_marked(a, b"1pA1B1B2A21pC1", NOTHING));
+    assert!(rt; is_marked(a, b"1pA1B1B22pA1B1B2A2", others(a)));
+    assert!(rt; is_marked(a, b"1pA1B1B2A21pC1", nothing(a)));
 }
 
 #[test]
 fn a_detail_point_may_have_the_name_of_its_station(rt: HostRuntime) {
     let a = rt.alloc();
-    assert!(rt; is_marked(a, b"DpA1B1B2A2A1B1B2A2D1", NOTHING));
+    assert!(rt; is_marked(a, b"DpA1B1B2A2A1B1B2A2D1", nothing(a)));
 }
 
 #[test]
@@ -312,7 +365,7 @@ fn a_reading_before_any_set_up_line_is_of_no_station(rt: HostRuntime) {
     };
     assert!(rt;
         matches!(
-            mark_file(a, &bytes, false, None, NOTHING),
+            mark_file(a, &bytes, false, None, nothing(a)),
             Err(Refused::File(MarkFault::At(1, MarkKind::NoSetUp)))
         )
     );
@@ -321,7 +374,7 @@ fn a_reading_before_any_set_up_line_is_of_no_station(rt: HostRuntime) {
 #[test]
 fn a_reading_that_a_book_refuses_has_its_fault(rt: HostRuntime) {
     let a = rt.alloc();
-    assert!(rt; fault(a, b"A1B3", NOTHING) == Some(MarkFault::Reading(2, BookKind::NoZenith)));
+    assert!(rt; fault(a, b"A1B3", nothing(a)) == Some(MarkFault::Reading(2, BookKind::NoZenith)));
 }
 
 /// Codes stand in the width and with the end of the lines beside them, and the name has lost the
@@ -370,6 +423,6 @@ fn the_copy_has_whole_lines_more(rt: HostRuntime) {
     for part in expected {
         assert!(rt; copy.extend_from_slice(part).is_ok());
     }
-    let made = copy_of(a, &bytes, Some(name), NOTHING);
+    let made = copy_of(a, &bytes, Some(name), nothing(a));
     assert!(rt; made.is_ok_and(|made| made.as_slice() == copy.as_slice()));
 }

@@ -3,7 +3,7 @@
 use adjust_kernel::Name;
 use byte_ends::{Held, OfWrite, Script};
 use gsi_file::{FileFault, FileKind};
-use set_marks::{Flaw, MarkFault, MarkKind, Recognized, Remarks, Stated};
+use set_marks::{Flaw, MarkFault, MarkKind, Recognized, Remarks, Stated, StatedNumber};
 use station_book::BookKind;
 use station_mark::{PrintFault, notes_text, refusal_line, run_mark};
 use std::alloc::Global;
@@ -58,12 +58,19 @@ outside\n\
 note: station P2: no sets; 1 reading stays outside\n\
 note: compare this with the field book\n";
 
-/// That nothing is stated.
-const NOTHING: Stated = Stated {
-    sets: None,
-    targets: None,
-    others: false,
-};
+/// These numbers of sets and of targets are stated, each of all stations.
+fn numbers(alloc: Global, sets: Option<u32>, targets: Option<u32>) -> Stated {
+    Stated {
+        sets: StatedNumber::of_each(alloc, sets),
+        targets: StatedNumber::of_each(alloc, targets),
+        others: false,
+    }
+}
+
+/// Nothing is stated.
+fn nothing(alloc: Global) -> Stated {
+    numbers(alloc, None, None)
+}
 
 /// A run over these bytes, given in pieces, prints and tells this.
 fn expect_run(
@@ -74,7 +81,7 @@ fn expect_run(
     station: Option<&[u8]>,
     want: (u8, &[u8], &[u8]),
 ) -> Result<(), Fail> {
-    expect_run_as_stated(rt, alloc, job, fails, station, NOTHING, want)
+    expect_run_as_stated(rt, alloc, job, fails, station, nothing(alloc), want)
 }
 
 /// The same, where this is stated of its sets.
@@ -115,8 +122,8 @@ fn a_refusal_prints_its_line_alone(rt: HostRuntime) -> Result<(), Fail> {
     expect_run(&rt, alloc, COPY, false, None, (1, b"", coded))?;
     let word: &[u8] = b"refused: block 1: Word 1\n";
     expect_run(&rt, alloc, b"5", false, None, (1, b"", word))?;
-    let sets: &[u8] = b"refused: block 1: mark: NoSets\n";
-    expect_run(&rt, alloc, b"", false, None, (1, b"", sets))
+    let empty: &[u8] = b"refused: block 1: mark: Empty\n";
+    expect_run(&rt, alloc, b"", false, None, (1, b"", empty))
 }
 
 /// A set of two targets at P1, and three readings at P2 that are none.
@@ -146,7 +153,7 @@ fn a_station_with_a_fault_stays_outside_where_it_is_stated(rt: HostRuntime) -> R
     let alloc = rt.alloc();
     let others = Stated {
         others: true,
-        ..NOTHING
+        ..nothing(alloc)
     };
     let copy: &[u8] = b"110001+000000P1 88..10+00001543\n\
 41....+00000010 42....+000000P1\n\
@@ -179,16 +186,9 @@ note: compare this with the field book\n";
 #[test]
 fn the_numbers_that_are_stated_are_those_of_the_sets(rt: HostRuntime) -> Result<(), Fail> {
     let alloc = rt.alloc();
-    let right = Stated {
-        sets: Some(2),
-        targets: Some(2),
-        others: false,
-    };
+    let right = numbers(alloc, Some(2), Some(2));
     expect_run_as_stated(&rt, alloc, JOB, false, None, right, (0, COPY, NOTES))?;
-    let other = Stated {
-        sets: Some(3),
-        ..NOTHING
-    };
+    let other = numbers(alloc, Some(3), None);
     let refused: &[u8] =
         b"note: station P1: not recognized, block 2: SetCount; 10 readings stay outside\n\
 note: station P2: no sets; 1 reading stays outside\n\
@@ -449,7 +449,7 @@ fn an_output_that_failed_once_is_not_written_on(rt: HostRuntime) -> Result<(), F
         let mut out = OfWrite::new(&mut writer);
         let mut err = Held::new(alloc, AMPLE, AMPLE, false).map_err(|_| "no memory")?;
         let gsi = Script::new(JOB, AMPLE, false);
-        let status = run_mark(alloc, gsi, None, NOTHING, &mut out, &mut err);
+        let status = run_mark(alloc, gsi, None, nothing(alloc), &mut out, &mut err);
         drop(out);
         assert_eq!(rt; status, 1);
         assert_eq!(rt; err.bytes(), b"refused: write failed\n".as_slice());
@@ -467,7 +467,7 @@ fn notes_that_are_lost_leave_the_status(rt: HostRuntime) -> Result<(), Fail> {
         let mut err = OfWrite::new(&mut writer);
         let mut out = Held::new(alloc, AMPLE, AMPLE, false).map_err(|_| "no memory")?;
         let gsi = Script::new(JOB, AMPLE, false);
-        let status = run_mark(alloc, gsi, None, NOTHING, &mut out, &mut err);
+        let status = run_mark(alloc, gsi, None, nothing(alloc), &mut out, &mut err);
         drop(err);
         assert_eq!(rt; (status, out.bytes()), (0, COPY));
         let bytes = calls.saturating_mul(STEP);

@@ -5,7 +5,7 @@ use Rattle.set_marks.specs.declared.fault.MarkFault.TheVariants.{Memory}
 use Rattle.set_marks.specs.declared.marked.Marked.{Marked}
 use Rattle.set_marks.specs.declared.refused.Refused.{Refused}
 use Rattle.set_marks.specs.declared.refused.Refused.TheVariants.{File}
-use Rattle.set_marks.specs.declared.stated.Stated.{Stated}
+use Rattle.set_marks.specs.Numbers.{Said}
 use Rattle.station_check.specs.Came.{source_of}
 use Rattle.page_calls.specs.Answers.{IsMarkOf}
 use Rattle.page_calls.specs.HandedOut.{HandsOut}
@@ -64,7 +64,7 @@ returns-clause-copy c = record {
       subst (λ (s : Option (List ℕ)). IsNoted s
       (stated_file c.args.sets c.args.targets c.args.others) c.args.gsi.now
       c.with_notes-noted.result) c.in-Ok.ensures.ok
-      (subst (λ (s : Stated). IsNoted c.in-Ok.station s c.args.gsi.now c.with_notes-noted.result)
+      (subst (λ (s : Said). IsNoted c.in-Ok.station s c.args.gsi.now c.with_notes-noted.result)
       c.stated_file-stated.ensures c.with_notes-noted.ensures) in
       of_answer c.args.gsi.now c.args.name.now c.args.sets c.args.targets c.args.others _ _
       c.hand_out-status.result _ _ _

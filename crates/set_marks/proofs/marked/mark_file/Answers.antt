@@ -2,6 +2,7 @@ use Rattle.std.proofs.Common.{◌≡◌, ◌+◌, None, refl, rules}
 use Rattle.gsi_file.specs.FileAnswers.{file_answers}
 use Rattle.set_marks.specs.Placing.{placed}
 use Rattle.set_marks.specs.Marking.{refusal}
+use Rattle.set_marks.specs.Numbers.{said_in}
 use Rattle.set_marks.proofs.Making.{is_marking}
 use Rattle.set_marks.proofs.marked.mark_file.Goals as goal
 
@@ -11,10 +12,11 @@ returns c =
     let marking = c.in_ok-marking.marking in
     let walk = c.in_ok-walk.walk in
     let end = walk.readings.blocks + 1 in
-    let none : refusal c.args.stated end marking.stations.items ≡ None = search rules in
+    let none : refusal (said_in marking.stated) end marking.stations.items ≡ None =
+    search rules in
     let is : c.in_ok-marks.marks.items ≡ placed c.args.bytes.now marking.marks.items =
     search rules in
-    is_marking c.args.station c.args.stated c.args.bytes.now answers walk.readings marking
+    is_marking c.args.station (said_in c.args.stated) c.args.bytes.now answers walk.readings marking
     c.in_ok-marks.marks.items
     (record { marks = c.in_ok-marks.marks; stations = marking.stations }) end
     c.in_ok-walk.ensures.answers c.in_ok-marking.ensures.marked refl none

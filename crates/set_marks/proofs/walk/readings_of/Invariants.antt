@@ -3,6 +3,7 @@ use Rattle.gsi_file.specs.FileAnswers.{answers_within, file_answers}
 use Rattle.gsi_file.specs.Parts.{parts}
 use Rattle.gsi_file.specs.declared.bounds.TheConstants.{LONGEST_FILE}
 use Rattle.set_marks.specs.Marks.{IsRoomy}
+use Rattle.set_marks.specs.Numbers.{said_in}
 use Rattle.set_marks.specs.Copies.{BeginsAt}
 use Rattle.set_marks.specs.LinePlaces.{begins_of, AreAscending}
 use Rattle.set_marks.proofs.Taking.{AreTaken}
@@ -11,7 +12,7 @@ use Rattle.set_marks.proofs.walk.readings_of.Given as goal
 
 abbrev pub invariant-parts : goal.invariant-parts
 invariant-parts l = record {
-  taken : AreTaken l.station l.fn.stated
+  taken : AreTaken l.station (said_in l.fn.stated)
       (file_answers (record { bytes = l.bytes; fails = l.fails }))
       (coming l.walk.number (answers_within (LONGEST_FILE - l.at) l.rest l.fails))
       l.walk.readings l.walk.fault;

@@ -7,15 +7,16 @@ use Rattle.set_marks.specs.Stations.{Occupation}
 use Rattle.set_marks.specs.Divisions.{divided, divided_unless}
 use Rattle.set_marks.specs.Judging.{sets_fault, targets_fault}
 use Rattle.set_marks.specs.Keeping.{TakesStation, before_in}
+use Rattle.set_marks.specs.Numbers.{numbers_of, said_in}
 use Rattle.set_marks.proofs.Few.{few_sets}
 use Rattle.set_marks.proofs.Taken.{with_sets}
 use Rattle.set_marks.proofs.marking.Marking.take.Goals as goal
 
 pub take_sets-requires-clause-few : goal.take_sets-requires-clause-few
 take_sets-requires-clause-few c =
-    let divides : divided c.args.self.now.stated c.args.sights.now ≡ Sets c.in-Sets.leading =
-    search rules in
-    few_sets c.args.self.now.stated c.args.sights.now c.in-Sets.leading divides
+    let numbers = numbers_of (said_in c.args.self.now.stated) c.args.name.now in
+    let divides : divided numbers c.args.sights.now ≡ Sets c.in-Sets.leading = search rules in
+    few_sets numbers c.args.sights.now c.in-Sets.leading divides
 
 pub returns-in-None-sets_fault-clause-takes : goal.returns-in-None-sets_fault-clause-takes
 returns-in-None-sets_fault-clause-takes c =
@@ -23,11 +24,11 @@ returns-in-None-sets_fault-clause-takes c =
     let old = c.args.self.now in
     let new = c.take_sets.new.self in
     let n = c.in-Sets.leading in
-    let divides : divided old.stated s.sights ≡ Sets n = search rules in
+    let divides : divided (numbers_of (said_in old.stated) s.name) s.sights ≡ Sets n = search rules in
     let none : sets_fault (before_in old.names) s n ≡ None = search rules in
     let wanted = divided_unless (targets_fault s n) n in
     subst (λ (d : Divided). OnOk c.take_sets.result (TakesStation s d old new))
-    (sym (with_sets old.stated (before_in old.names) s n divides none))
+    (sym (with_sets (said_in old.stated) (before_in old.names) s n divides none))
     (subst (λ (names : StationNames). OnOk c.take_sets.result (TakesStation s wanted (record {
       stated = old.stated;
       marks = old.marks;

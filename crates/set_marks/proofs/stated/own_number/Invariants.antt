@@ -1,0 +1,10 @@
+use Rattle.std.proofs.Common.{◌≡◌, length}
+use Rattle.set_marks.specs.Numbers.{own_number}
+use Rattle.set_marks.proofs.stated.own_number.Given as goal
+
+abbrev pub invariant-numbers : goal.invariant-numbers
+invariant-numbers l =
+    own_number l.left l.name ≡ own_number l.numbers l.name
+
+abbrev pub decreases-numbers : goal.decreases-numbers
+decreases-numbers l = length l.left
