@@ -224,6 +224,16 @@ class Job:
         self.random = random
         self.lines = FieldFile(random, random.choice([0, 0, 0.003]))
         self.lines.limits = Limits()
+        self.name = ""  # of the station that is open
+        self.repeats = random.random() < 0.15  # the set-up line before each set
+
+    def begin(self, name: str) -> None:
+        """The beginning of a station: its set-up line, or code 7 with its name."""
+        self.name = name
+        if self.random.random() < 0.8:
+            self.set_up(name)
+        else:
+            self.lines.code("7", name)
 
     def set_up(self, name: str) -> None:
         """A set-up line of a station."""
@@ -276,6 +286,8 @@ class Job:
         other = self.random.random() < 0.04
         count = self.random.choice([0, 1, 1, 2, 2, 3])
         for number in range(count):
+            if number and self.repeats and self.name:
+                self.begin(self.name)
             seen = list(targets)
             if len(seen) > 2 and self.random.random() < 0.15:
                 seen.remove(self.random.choice(seen[1:]))
@@ -331,7 +343,7 @@ def job(random: Random) -> tuple[bytes, str | None]:
         made.sight("A", 1)
     for _ in range(random.choice([1, 1, 1, 2, 2, 3]) if stated is None else 1):
         if (stated is None) != (random.random() < 0.03):
-            made.set_up(random.choice(["S1", "S2", "S3", "00S4", "A B", "P7", "B"]))
+            made.begin(random.choice(["S1", "S2", "S3", "00S4", "A B", "P7", "B"]))
         made.station()
     if len(made.lines.lines) > 1 and random.random() < 0.03:
         made.lines.join()
@@ -626,18 +638,31 @@ def divisions_in(text: bytes, name: str | None) -> list[model.Division]:
     return divisions
 
 
+def own_numbers(random: Random, number: int) -> dict[bytes, int]:
+    """Numbers that are stated of single stations: mostly none, or this one or another of some."""
+    names = random.sample([b"S1", b"S2", b"S3", b"S4", b"A B", b"P7", b"X"], random.choice([1, 1, 2]))
+    own = {name: random.choice([number, number, number + 1]) for name in names}
+    return own if random.random() < 0.3 else {}
+
+
 def sets_stated(random: Random, text: bytes, name: str | None) -> model.StatedSets:
-    """What is stated of the sets of a job: mostly the numbers of one of its stations; and now and
-    then that stations with a fault stay outside."""
+    """What is stated of a job: mostly the numbers of the sets of one of its stations; now and then
+    others of single stations, that stations with a fault stay outside, that a set-up line that comes
+    again begins nothing, and the code that begins a station too."""
     divisions, others = divisions_in(text, name), random.random() < 0.4
+    same, code = random.random() < 0.3, random.choice([None, None, b"7"])
+    begins = {"same_set_up": same, "code": code}
     if not divisions:
-        return model.StatedSets(*random.choice([(None, None), (2, 3)]), others)
+        return model.StatedSets(*random.choice([(None, None), (2, 3)]), others, **begins)
     division = random.choice(divisions)
     sets, targets = len(division.sets), len(model.targets_in_sets(division))
     return model.StatedSets(
         random.choice([None, sets, sets, sets, sets, sets % model.MOST_SETS + 1]),
         random.choice([None, None, targets, targets, targets % model.MOST_TARGETS + 1]),
         others,
+        own_numbers(random, sets),
+        own_numbers(random, targets),
+        **begins,
     )
 
 

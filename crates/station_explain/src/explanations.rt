@@ -312,8 +312,9 @@ file has one occupation of a station. As 'mark: StationTwice', a set-up line has
 earlier one, and both stations have sets, or readings that aren't recognized as sets.",
         example: "refused: block 14: StationTwice",
         remedy: "\
-If the instrument was not moved, check a copy without the later codes 10 or set-up lines
-of this name, and the sets go on. Else give the second occupation a name of its own in a copy, with
+If the instrument was not moved, and the set-up line was written again, mark the file with
+--same-set-up; of a file with codes check a copy without the later codes 10 of this name, and the
+sets go on. Else give the second occupation a name of its own in a copy, with
 'prepare.py --rename BLOCK NAME' of the examples: BLOCK is that of its code 10 or its set-up line,
 before the one that is named.",
     },
@@ -521,7 +522,8 @@ in the codes of each station with 'prepare.py --codes STATION BLOCKS LAST' of th
         when: "\
 The block is a set-up line: a point number without a direction, vertical angle or distance, with the
 coordinates of a station or the height of the instrument, in words 84, 85, 86 or 88. A station
-begins there and has that name, so --station cannot name one.",
+begins there and has that name, so --station cannot name one. So it is of a code that --station-code
+states, with the name in word 42.",
         example: "refused: block 1: mark: HasSetUp",
         remedy: "\
 Leave --station out. If the name in the line is wrong, give the block another one in a
@@ -536,9 +538,10 @@ set-up line is a point number without a direction, vertical angle or distance, w
 86 or 88.",
         example: "refused: block 1: mark: NoSetUp",
         remedy: "\
-If the file is of one station, name it: 'station_check mark --station NAME GSI'. If
-set-up lines come later, leave the readings before the first out of a copy. A file of several
-stations without set-up lines is to be divided first: 'mark' cannot see where another begins.",
+If the file is of one station, name it: 'station_check mark --station NAME GSI'. If a
+code with the name in word 42 begins each, state its number: 'mark --station-code N GSI'. If set-up
+lines come later, leave the readings before the first out of a copy. Any other file of several
+stations is to be divided first: 'mark' cannot see where another begins.",
     },
     Said {
         names: &["NameTooLong"],
@@ -765,8 +768,8 @@ targets too.",
         remedy: "\
 Count in the field book the sets that were read to the end, and state them with --sets;
 of a single set state how many targets it has with --targets. A set that was broken off doesn't
-count. The numbers are those of each station of the file that has sets: if they differ, mark a copy
-of each station alone, which 'prepare.py --blocks' of the examples makes.",
+count. The numbers are those of each station of the file that has sets; where one has another, state
+its own beside them: '--sets 4 --sets P7=3'.",
     },
     Said {
         names: &["SetCount"],
