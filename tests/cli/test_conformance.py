@@ -79,6 +79,7 @@ def command_line():
     parser.add_argument("--targets", action="append", default=[])
     parser.add_argument("--others", action="store_true")
     parser.add_argument("--same-set-up", action="store_true")
+    parser.add_argument("--again", action="store_true")
     parser.add_argument("--station-code", type=str.encode)
     parser.add_argument("command", nargs="?")
     parser.add_argument("operands", nargs="*")
@@ -129,8 +130,9 @@ def model_answer(case):
         code = asked.station_code and model.name_of(asked.station_code)
         if code in (b"10", b"20", b"30") or not (code is None or model.is_name(code)):
             return (2, b"", b"")
-        others, same = asked.others, asked.same_set_up
-        stated = model.StatedSets(sets, targets, others, own_sets, own_targets, same, code)
+        begins = {"same_set_up": asked.same_set_up, "code": code, "again": asked.again}
+        own = own_sets, own_targets
+        stated = model.StatedSets(sets, targets, asked.others, *own, **begins)
         return model.marked(files[0], asked.station, fails[0], stated)
     station = asked.operands[1].encode()
     if asked.command == "means":

@@ -53,5 +53,6 @@ abbrev pub stated_file : ℕ → ℕ → Bool → Said
 stated_file sets targets others = record {
   sets = record { of_each = stated_number sets; of_one = [] };
   targets = record { of_each = stated_number targets; of_one = [] };
+  again = false;
   others = others;
 }

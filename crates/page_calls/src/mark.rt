@@ -133,6 +133,7 @@ fn stated_file(alloc: Global, sets: u32, targets: u32, others: bool) -> Stated
     Stated {
         sets: StatedNumber::of_each(alloc, stated_number(sets)),
         targets: StatedNumber::of_each(alloc, stated_number(targets)),
+        again: false,
         others,
     }
 }

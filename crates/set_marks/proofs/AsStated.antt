@@ -25,8 +25,8 @@ use Rattle.set_marks.specs.Divisions.{flaw_when, are_read_alike, is_by_faces, is
 use Rattle.set_marks.specs.Divisions.{last_target, are_by_targets, begins_with_pair, first_part}
 use Rattle.set_marks.specs.Divisions.{starts_from, first_cut, cut_end, cut_of}
 use Rattle.set_marks.specs.SetsInWords.{ReadsEachOnce, one_after_another}
-use Rattle.set_marks.specs.Judging.{Before, none_before, judged, judged_from, judged_of}
-use Rattle.set_marks.specs.Judging.{names_after}
+use Rattle.set_marks.specs.Judging.{Before, called, judged, judged_called, judged_from, judged_of}
+use Rattle.set_marks.specs.Judging.{names_past, none_before}
 use Rattle.set_marks.specs.Marking.{recognized, recognized_from, first_fault}
 use Rattle.set_marks.specs.Marking.{no_sets_fault, unfound_fault}
 use Rattle.set_marks.specs.Markings.{IsMarking}
@@ -95,13 +95,13 @@ same_targets all rs has = ap targets_of (whole (end_in all) all ∙ has.read
     ∙ sym (whole (cut_end (starts_of rs) rs) rs))
 
 -- Sets that are not read by targets where no number of them is stated.
-not_by_targets : (stated : Said) (before : Before) (s : Occupation) (leading : ℕ)
-    → judged stated before s ≡ Sets leading → number_of stated.sets s.name ≡ None
+not_by_targets : (stated : Said) (before : Before) (line : List ℕ) (s : Occupation) (leading : ℕ)
+    → judged stated before line s ≡ Sets leading → number_of stated.sets s.name ≡ None
     → are_by_targets (drop leading s.sights) ≡ false
-not_by_targets stated before s leading is none =
+not_by_targets stated before line s leading is none =
     let numbers = numbers_of stated s.name in
     let found = divided_sets numbers s.sights leading
-    (has_no_fault stated before s leading is).divides in
+    (has_no_fault stated before line s leading is).divides in
     let sure = all_none (doubts numbers found.before found.rest) found.sure in
     let by = are_by_targets found.rest in
     same_way (drop leading s.sights) found.rest found.sets
@@ -109,14 +109,14 @@ not_by_targets stated before s leading is none =
     (slice_get found.rest 0) sure.1.1.0) none
 
 -- What is told of a station with sets is what is stated.
-one_as_stated : (stated : Said) (before : Before) (s : Occupation) (leading : ℕ)
-    → judged stated before s ≡ Sets leading
+one_as_stated : (stated : Said) (before : Before) (line : List ℕ) (s : Occupation) (leading : ℕ)
+    → judged stated before line s ≡ Sets leading
     → IsAsStated (numbers_of stated s.name) (recognized s (Sets leading))
-one_as_stated stated before s leading is =
+one_as_stated stated before line s leading is =
     let numbers = numbers_of stated s.name in
     let all = drop leading s.sights in
     let found = divided_sets numbers s.sights leading
-    (has_no_fault stated before s leading is).divides in
+    (has_no_fault stated before line s leading is).divides in
     let rs = found.rest in
     let count = length (starts_of rs) in
     let targets = length (targets_of (part 0 (cut_end (starts_of rs) rs) rs)) in
@@ -136,7 +136,7 @@ one_as_stated stated before s leading is =
       targets = is_this numbers.targets (length (targets_of (part 0 (end_in all) all)))
           (ap (λ (n : ℕ). is_other numbers.targets n) same_number
           ∙ no_flaw (is_other numbers.targets targets) kinds.TargetCount first none.2);
-      by_faces = not_by_targets stated before s leading is;
+      by_faces = not_by_targets stated before line s leading is;
       single = λ by one. asked single numbers.targets
           (no_flaw (is_asked single numbers.targets) kinds.ByTargets first none.1)
           (both_hold (are_by_targets rs) count (sym (same_way all rs found.sets) ∙ by)
@@ -147,23 +147,23 @@ one_as_stated stated before s leading is =
 abbrev AsStated : Said → Recognized → Type 0
 AsStated stated r = (r.sets == 0) ≡ false → IsAsStated (numbers_of stated r.name) r
 
-station_as_stated : (stated : Said) (before : Before) (s : Occupation) (d : Divided)
-    → judged stated before s ≡ d → AsStated stated (recognized s d)
-station_as_stated stated before s NoSets is some = cc
-station_as_stated stated before s (Flawed f) is some = cc
-station_as_stated stated before s (Sets leading) is some =
-    one_as_stated stated before s leading is
+station_as_stated : (stated : Said) (before : Before) (line : List ℕ) (s : Occupation)
+    (d : Divided) → judged stated before line s ≡ d → AsStated stated (recognized s d)
+station_as_stated stated before line s NoSets is some = cc
+station_as_stated stated before line s (Flawed f) is some = cc
+station_as_stated stated before line s (Sets leading) is some =
+    one_as_stated stated before line s leading is
 
 -- So it is of all stations.
 all_as_stated : (stated : Said) (before : Before) (ss : List Occupation)
     → AreAsStated stated (recognized_from (judged_from stated before ss))
 all_as_stated stated before [] = All-nil (AsStated stated)
 all_as_stated stated before (s ∷ ss) =
-    let d = judged stated before s in
-    All-cons (AsStated stated) (recognized s d)
-    (recognized_from (judged_from stated (names_after before s d) ss))
-    (station_as_stated stated before s d refl)
-    (all_as_stated stated (names_after before s d) ss)
+    let c = called stated.again before s in
+    let d = judged_called stated before s in
+    let after = names_past stated before s in
+    All-cons (AsStated stated) (recognized c d) (recognized_from (judged_from stated after ss))
+    (station_as_stated stated before s.name c d refl) (all_as_stated stated after ss)
 
 -- In a set without a flaw targets are read as in the first.
 read_alike : (first set : List Sight) → set_flaw first set ≡ None
@@ -235,11 +235,11 @@ all_by_faces first (set ∷ sets) is alike =
     (All-tail (λ (s : List Sight). are_read_alike first s ≡ true) set sets alike))
 
 -- A station with sets of which no number is stated is read by faces.
-station_by_faces : (stated : Said) (before : Before) (s : Occupation)
-    → IsByFaces stated (record { station = s; division = judged stated before s })
-station_by_faces stated before s none leading is =
+station_by_faces : (stated : Said) (before : Before) (line : List ℕ) (s : Occupation)
+    → IsByFaces stated (record { station = s; division = judged stated before line s })
+station_by_faces stated before line s none leading is =
     let beyond = drop leading s.sights in
-    let divides = (has_no_fault stated before s leading is).divides in
+    let divides = (has_no_fault stated before line s leading is).divides in
     let numbers = numbers_of stated s.name in
     let are = sets_in_words numbers s.sights leading divides in
     let found = divided_sets numbers s.sights leading divides in
@@ -247,7 +247,7 @@ station_by_faces stated before s none leading is =
     let alike = all_alike (first_cut (starts_of rest) rest) 0 (cut_end (starts_of rest) rest)
     (starts_of rest) rest found.wrong in
     all_by_faces (first_set (starts_of beyond) beyond) (sets_of beyond)
-    (first_by_faces beyond (not_by_targets stated before s leading is none) are.some are.each)
+    (first_by_faces beyond (not_by_targets stated before line s leading is none) are.some are.each)
     (subst (λ (l : List (List Sight)). All (λ set. are_read_alike
     (first_set (starts_of beyond) beyond) set ≡ true) l) (sym found.sets.sets)
     (subst (λ (f : List Sight). All (λ set. are_read_alike f set ≡ true) (cut_of rest))
@@ -258,11 +258,11 @@ stations_by_faces : (stated : Said) (before : Before) (ss : List Occupation)
     → All (IsByFaces stated) (judged_from stated before ss)
 stations_by_faces stated before [] = All-nil (IsByFaces stated)
 stations_by_faces stated before (s ∷ ss) =
-    let d = judged stated before s in
-    let after = names_after before s d in
-    All-cons (IsByFaces stated) (record { station = s; division = d })
+    let c = called stated.again before s in
+    let after = names_past stated before s in
+    All-cons (IsByFaces stated) (record { station = c; division = judged_called stated before s })
     (judged_from stated after ss)
-    (station_by_faces stated before s) (stations_by_faces stated after ss)
+    (station_by_faces stated before s.name c) (stations_by_faces stated after ss)
 
 -- Where none of these stations is the first with a fault, none has one.
 all_faultless : (rs : List Recognized) → first_fault rs ≡ None → All (λ r. r.fault ≡ None) rs

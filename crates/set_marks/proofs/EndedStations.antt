@@ -21,7 +21,7 @@ use Rattle.set_marks.specs.Numbers.{Said, said_in}
 use Rattle.set_marks.specs.Stations.{SetUp, Occupation, sets_up, sight_in, sights_of, set_up_in}
 use Rattle.set_marks.specs.Stations.{set_ups_of, occupations, begun, is_stated, stations_of}
 use Rattle.set_marks.specs.Stations.{tells_set_up}
-use Rattle.set_marks.specs.Judging.{Before, none_before, judged, judged_from, names_after}
+use Rattle.set_marks.specs.Judging.{Before, called, judged_called, judged_from, names_past, none_before}
 use Rattle.set_marks.specs.Marking.{marks_from, recognized_from, station_marks, is_open_after}
 use Rattle.set_marks.specs.Marking.{recognized}
 use Rattle.set_marks.proofs.StationReadings.{BeginBy, by_more, by_both}
@@ -44,33 +44,36 @@ none_marked m stated said marks stations names in_set = record {
 -- A station more is judged, marked and told.
 pub one_marked : (stated : Said) (ended : List Occupation) (s : Occupation) (old new : Marking)
     → AreMarkedFirst stated ended old
-    → TakesStation s (judged (said_in old.stated) (before_in old.names) s) old new
+    → TakesStation s.name (called old.stated.again (before_in old.names) s)
+    (judged_called (said_in old.stated) (before_in old.names) s) old new
     → AreMarkedFirst stated (ended ++ s ∷ []) new
 one_marked stated ended s old new are took =
     let before = before_in old.names in
-    let d = judged stated before s in
-    let takes : TakesStation s d old new =
-    subst (λ (st : Said). TakesStation s (judged st before s) old new) are.same took in
+    let c = called stated.again before s in
+    let d = judged_called stated before s in
+    let takes : TakesStation s.name c d old new =
+    subst (λ (st : Said). TakesStation s.name (called st.again before s)
+    (judged_called st before s) old new) are.same took in
     record {
       same = ap said_in takes.stated ∙ are.same;
       marks = λ later.
-          let rest = judged_from stated (names_after before s d) later in
+          let rest = judged_from stated (names_past stated before s) later in
           ap (λ (ss : List Occupation). marks_from false (judged_from stated none_before ss))
           (append_assoc ended (s ∷ []) later)
           ∙ are.marks (s ∷ later)
-          ∙ sym (append_assoc old.marks.items (station_marks old.in_set s d)
-          (marks_from (is_open_after old.in_set s d) rest))
-          ∙ ap (λ (ms : List BlockMark). ms ++ marks_from (is_open_after old.in_set s d) rest)
+          ∙ sym (append_assoc old.marks.items (station_marks old.in_set c d)
+          (marks_from (is_open_after old.in_set c d) rest))
+          ∙ ap (λ (ms : List BlockMark). ms ++ marks_from (is_open_after old.in_set c d) rest)
           (sym takes.marks)
           ∙ ap (λ (b : Bool). new.marks.items ++ marks_from b rest) (sym takes.in_set)
           ∙ ap (λ (names : Before). new.marks.items
           ++ marks_from new.in_set (judged_from stated names later)) (sym takes.names);
       told = λ later.
-          let rest = judged_from stated (names_after before s d) later in
+          let rest = judged_from stated (names_past stated before s) later in
           ap (λ (ss : List Occupation). recognized_from (judged_from stated none_before ss))
           (append_assoc ended (s ∷ []) later)
           ∙ are.told (s ∷ later)
-          ∙ sym (append_assoc old.stations.items (recognized s d ∷ []) (recognized_from rest))
+          ∙ sym (append_assoc old.stations.items (recognized c d ∷ []) (recognized_from rest))
           ∙ ap (λ (rs : List Recognized). rs ++ recognized_from rest) (sym takes.stations)
           ∙ ap (λ (names : Before). new.stations.items
           ++ recognized_from (judged_from stated names later)) (sym takes.names);
@@ -79,8 +82,10 @@ one_marked stated ended s old new are took =
 -- The station that is open has ended: it is judged and marked.
 pub open_ended : (old : Readings) (m : Marking) (name : List ℕ) (sights : List Sight)
     → old.station ≡ Some name → sights ≡ old.sights.items
-    → TakesStation (record { name = name; sights = sights })
-    (judged (said_in old.marking.stated) (before_in old.marking.names)
+    → TakesStation name
+    (called old.marking.stated.again (before_in old.marking.names)
+    (record { name = name; sights = sights }))
+    (judged_called (said_in old.marking.stated) (before_in old.marking.names)
     (record { name = name; sights = sights })) old.marking m
     → (stated : Said) (ended : List Occupation) → AreMarkedFirst stated ended old.marking
     → AreMarkedFirst stated (ended ++ open_in old) m

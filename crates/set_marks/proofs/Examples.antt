@@ -1,6 +1,6 @@
 -- The definitions on small files.
 use Rattle.std.proofs.Common.{◌≡◌, ℕ, false, List, [], ◌∷◌, Option, Some, None, refl}
-use Rattle.std.specs.Prelude.{codes, true, Bool}
+use Rattle.std.specs.Prelude.{codes, map, true, Bool}
 use Rattle.gsi_word.specs.Words.{GsiWord}
 use Rattle.gsi_word.specs.Blocks.{GsiBlock}
 use Rattle.station_book.specs.Blocks.{role_of, target, named, number, angles, angle_fault}
@@ -15,13 +15,14 @@ use Rattle.set_marks.specs.declared.sight.Sight.{Sight}
 use Rattle.set_marks.specs.Stations.{sets_up, tells_set_up, sights_of}
 use Rattle.set_marks.specs.Divisions.{divided, starts_of, end_in}
 use Rattle.set_marks.specs.Stations.{Occupation}
-use Rattle.set_marks.specs.Judging.{none_before, judged, judged_from}
+use Rattle.set_marks.specs.Judging.{none_before, judged_called, judged_from}
 use Rattle.set_marks.specs.Marking.{marks_of, recognized, recognized_from, refusal}
 use Rattle.set_marks.specs.declared.division.Divided.{Divided}
 use Rattle.set_marks.specs.declared.flaw.Flaw.{Flaw}
 use Rattle.set_marks.specs.declared.recognized.Recognized.{Recognized}
 use Rattle.set_marks.specs.declared.stated.Numbers.{Numbers}
 use Rattle.set_marks.specs.Numbers.{Said, SaidNumber}
+use Rattle.set_marks.specs.Visits.{once_more, visit_name}
 use Rattle.set_marks.specs.Found.{Found, found_in}
 use Rattle.set_marks.specs.MarkedFile.{copy_history, in_file}
 
@@ -75,18 +76,23 @@ of_each number = record { of_each = number; of_one = [] }
 
 -- Nothing is stated; and that stations with a fault stay outside.
 abbrev nothing : Said
-nothing = record { sets = of_each None; targets = of_each None; others = false }
+nothing = record { sets = of_each None; targets = of_each None; again = false; others = false }
 
 abbrev others : Said
-others = record { sets = of_each None; targets = of_each None; others = true }
+others = record { sets = of_each None; targets = of_each None; again = false; others = true }
 
 -- A number of sets is stated of P1 by itself, and 5 of each other station.
 abbrev of_p1 : ℕ → Said
 of_p1 n = record {
   sets = record { of_each = Some 5; of_one = record { name = codes "P1"; number = n } ∷ [] };
   targets = of_each None;
+  again = false;
   others = false;
 }
+
+-- It is stated that a name that comes again is another set-up.
+abbrev again_apart : Said
+again_apart = record { sets = of_each None; targets = of_each None; again = true; others = false }
 
 -- What these readings are, where these numbers are stated.
 abbrev read_as : List Sight → Option ℕ → Option ℕ → Divided
@@ -108,6 +114,12 @@ one_set = sight 1 (codes "A") false ∷ sight 2 (codes "B") false
 abbrev again : List Sight
 again = sight 6 (codes "A") false ∷ sight 7 (codes "B") false
     ∷ sight 8 (codes "B") false ∷ sight 9 (codes "A") true ∷ []
+
+-- The names of the stations that are told where P1 comes again with a set, and then once more.
+abbrev names_told : List (List ℕ)
+names_told = map (λ r. r.name) (recognized_from (judged_from again_apart none_before
+    (station (codes "P1") one_set ∷ station (codes "P1") one_set ∷ station (codes "P1") []
+    ∷ station (codes "P1") one_set ∷ [])))
 
 -- What is told of the stations P1, of one set, and P2, where A and B are read as above.
 abbrev told : Said → List Recognized
@@ -190,19 +202,25 @@ record AreExamples : Type 0 where
   })
   strangers : divided (numbers None None) other_targets
       ≡ Flawed (record { block = 5; kind = kinds.OtherTargets })
-  sights_itself : judged nothing none_before (station (codes "B") one_set)
+  sights_itself : judged_called nothing none_before (station (codes "B") one_set)
       ≡ Flawed (record { block = 2; kind = kinds.SightsItself })
-  twice : judged nothing (record { marked = []; faulty = codes "P1" ∷ [] })
-      (station (codes "P1") one_set) ≡ at_first kinds.StationTwice
+  twice : judged_called nothing
+      (record { marked = []; faulty = codes "P1" ∷ []; visits = [] }) (station (codes "P1") one_set) ≡ at_first kinds.StationTwice
   both_told : told nothing
       ≡ recognized (station (codes "P1") one_set) (Sets 0)
       ∷ recognized (station (codes "P2") again) (Flawed alone) ∷ []
   refused : refusal nothing 10 (told nothing) ≡ Some alone
   left_outside : refusal others 10 (told others) ≡ None
   no_blocks : refusal nothing 1 [] ≡ Some (record { block = 1; kind = kinds.Empty })
-  its_own : judged (of_p1 1) none_before (station (codes "P1") one_set) ≡ Sets 0
-  that_of_each : judged (of_p1 1) none_before (station (codes "P2") one_set)
+  its_own : judged_called (of_p1 1) none_before (station (codes "P1") one_set) ≡ Sets 0
+  that_of_each : judged_called (of_p1 1) none_before (station (codes "P2") one_set)
       ≡ at_first kinds.SetCount
+  visits : names_told ≡ codes "P1" ∷ codes "P1-2" ∷ codes "P1" ∷ codes "P1-3" ∷ []
+  itself_again : judged_called again_apart
+      (record { marked = codes "B" ∷ []; faulty = []; visits = once_more [] (codes "B") })
+      (station (codes "B") one_set) ≡ Flawed (record { block = 2; kind = kinds.SightsItself })
+  zero : visit_name (codes "0") 1 ≡ codes "0"
+  no_room : visit_name (codes "FIFTEEN OF BYTE") 1 ≡ codes "FIFTEEN OF BYTE"
   not_there : refusal (of_p1 1) 10 (recognized (station (codes "P2") one_set) (Sets 0) ∷ [])
       ≡ Some (record { block = 10; kind = kinds.NoSuchStation })
 
@@ -237,5 +255,9 @@ examples = record {
   no_blocks = refl;
   its_own = refl;
   that_of_each = refl;
+  visits = refl;
+  itself_again = refl;
+  zero = refl;
+  no_room = refl;
   not_there = refl;
 }

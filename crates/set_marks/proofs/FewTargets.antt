@@ -17,7 +17,7 @@ use Rattle.set_marks.specs.Stations.{Occupation}
 use Rattle.set_marks.specs.Numbers.{Said}
 use Rattle.set_marks.specs.declared.flaw.Flaw.{Flaw}
 use Rattle.set_marks.specs.Divisions.{flaw_found, names_with, targets_of, one_too_many, in_sets_of}
-use Rattle.set_marks.specs.Judging.{Before, judged, judged_from, names_after}
+use Rattle.set_marks.specs.Judging.{Before, called, judged, judged_called, judged_from, names_past}
 use Rattle.set_marks.specs.Marking.{recognized, recognized_from}
 use Rattle.set_marks.proofs.EachTargetOnce.{none_found}
 use Rattle.set_marks.proofs.Judged.{has_no_fault}
@@ -87,22 +87,22 @@ few_unless n rs (Some f) is e = tt
 abbrev HasFew : Recognized → Type 0
 HasFew r = r.targets ≤ MOST_TARGETS
 
-station_few : (stated : Said) (before : Before) (s : Occupation) (d : Divided)
-    → judged stated before s ≡ d → HasFew (recognized s d)
-station_few stated before s NoSets is = omega arith
-station_few stated before s (Flawed f) is = omega arith
-station_few stated before s (Sets leading) is =
+station_few : (stated : Said) (before : Before) (line : List ℕ) (s : Occupation) (d : Divided)
+    → judged stated before line s ≡ d → HasFew (recognized s d)
+station_few stated before line s NoSets is = omega arith
+station_few stated before line s (Flawed f) is = omega arith
+station_few stated before line s (Sets leading) is =
     few_with [] (in_sets_of leading s.sights) (omega arith)
     (none_found kinds.TooManyTargets (one_too_many [] (in_sets_of leading s.sights))
-    (has_no_fault stated before s leading is).targets)
+    (has_no_fault stated before line s leading is).targets)
 
 -- What is told of stations that are judged.
 pub all_few : (stated : Said) (before : Before) (ss : List Occupation)
     → All HasFew (recognized_from (judged_from stated before ss))
 all_few stated before [] = All-nil HasFew
 all_few stated before (s ∷ ss) =
-    let d = judged stated before s in
-    All-cons HasFew (recognized s d)
-    (recognized_from (judged_from stated (names_after before s d) ss))
-    (station_few stated before s d refl)
-    (all_few stated (names_after before s d) ss)
+    let c = called stated.again before s in
+    let d = judged_called stated before s in
+    let after = names_past stated before s in
+    All-cons HasFew (recognized c d) (recognized_from (judged_from stated after ss))
+    (station_few stated before s.name c d refl) (all_few stated after ss)

@@ -1,7 +1,8 @@
 -- What holds of the stations that are judged to have sets.
-use Rattle.std.proofs.Common.{◌≡◌, ℕ, Bool, true, false, ◌||◌, List, [], ◌∷◌, ◌++◌, Option, Some}
+use Rattle.std.proofs.Common.{◌≡◌, ℕ, Bool, true, false, ◌&&◌, ◌||◌, not, inl, inr, List, [], ◌∷◌, ◌++◌, Option, Some}
 use Rattle.std.proofs.Common.{None, refl, sym, ap, subst, ◌∙◌}
 use Rattle.std.specs.Prelude.{slice_get, nat_le, length, ⊤}
+use Rattle.std.proofs.lemmas.Bool.{cases_Bool}
 use Rattle.std.proofs.lemmas.List.Elements.{All-head, All-tail}
 use Rattle.station_book.specs.declared.bounds.TheConstants.{MOST_STATIONS}
 use Rattle.station_book.specs.Places.{is_among}
@@ -11,14 +12,16 @@ use Rattle.set_marks.specs.declared.division.Divided.{Divided}
 use Rattle.set_marks.specs.declared.division.Divided.TheVariants.{NoSets, Sets, Flawed}
 use Rattle.set_marks.specs.Numbers.{Said, numbers_of}
 use Rattle.set_marks.specs.Stations.{Occupation}
-use Rattle.set_marks.specs.Divisions.{divided, flaw_when}
+use Rattle.set_marks.specs.Divisions.{divided, flaw_when, has_no_sets}
 use Rattle.set_marks.specs.SetsInWords.{AreSets}
 use Rattle.set_marks.specs.Judging.{Before, Judged, was_before, twice_fault, itself_fault}
 use Rattle.set_marks.specs.Judging.{is_too_long, name_fault, targets_fault, sets_fault}
 use Rattle.set_marks.specs.Judging.{division_fault, station_fault, settled, judged, names_after}
-use Rattle.set_marks.specs.Judging.{judged_from}
+use Rattle.set_marks.specs.Judging.{called, judged_called, judged_from, names_past}
+use Rattle.set_marks.specs.Visits.{times}
 use Rattle.set_marks.proofs.BareNames.{IsBareName, HaveBareNames}
 use Rattle.set_marks.proofs.EachTargetOnce.{no_flaw}
+use Rattle.set_marks.proofs.VisitNames.{bare_visit}
 use Rattle.set_marks.proofs.Few.{none_of_two, none_of_three}
 use Rattle.set_marks.proofs.SetsInWords.{sets_in_words}
 
@@ -56,23 +59,24 @@ settled_sets None d n e = (refl, e)
 settled_sets (Some f) d n e = cc
 
 -- What is judged of a station that has sets.
-pub record HasNoFault (stated : Said) (before : Before) (s : Occupation) (n : ℕ) : Type 0 where
+pub record HasNoFault (stated : Said) (before : Before) (line : List ℕ) (s : Occupation) (n : ℕ)
+    : Type 0 where
   pub divides : divided (numbers_of stated s.name) s.sights ≡ Sets n
   pub new : twice_fault before s ≡ None
-  pub sights : itself_fault s ≡ None
+  pub sights : itself_fault line s.sights ≡ None
   pub named : name_fault before s n ≡ None
   pub targets : targets_fault s n ≡ None
 
-pub has_no_fault : (stated : Said) (before : Before) (s : Occupation) (n : ℕ)
-    → judged stated before s ≡ Sets n → HasNoFault stated before s n
-has_no_fault stated before s n is =
-    let both = settled_sets (station_fault stated before s)
+pub has_no_fault : (stated : Said) (before : Before) (line : List ℕ) (s : Occupation) (n : ℕ)
+    → judged stated before line s ≡ Sets n → HasNoFault stated before line s n
+has_no_fault stated before line s n is =
+    let both = settled_sets (station_fault stated before line s)
     (divided (numbers_of stated s.name) s.sights) n is in
-    let faultless : division_fault before s (Sets n) ≡ None =
-    ap (λ (d : Divided). division_fault before s d) (sym both.1) ∙ both.0 in
-    let two = none_of_two (sets_fault before s n) (targets_fault s n) faultless in
-    let three = none_of_three (twice_fault before s) (itself_fault s) (name_fault before s n) two.0
-    in
+    let faultless : division_fault before line s (Sets n) ≡ None =
+    ap (λ (d : Divided). division_fault before line s d) (sym both.1) ∙ both.0 in
+    let two = none_of_two (sets_fault before line s n) (targets_fault s n) faultless in
+    let three = none_of_three (twice_fault before s) (itself_fault line s.sights)
+    (name_fault before s n) two.0 in
     record {
       divides = both.1;
       new = three.0;
@@ -99,12 +103,12 @@ is_short before s n none =
     no_flaw (is_too_long s.name (slice_get s.sights n)) kinds.NameTooLong (slice_get s.sights n)
     two.1
 
-sound_as : (stated : Said) (before : Before) (s : Occupation) (d : Divided) → IsBareName s.name
-    → judged stated before s ≡ d → IsSoundAs before.marked s d
-sound_as stated before s NoSets bare is = tt
-sound_as stated before s (Flawed f) bare is = tt
-sound_as stated before s (Sets n) bare is =
-    let none = has_no_fault stated before s n is in
+sound_as : (stated : Said) (before : Before) (line : List ℕ) (s : Occupation) (d : Divided)
+    → IsBareName s.name → judged stated before line s ≡ d → IsSoundAs before.marked s d
+sound_as stated before line s NoSets bare is = tt
+sound_as stated before line s (Flawed f) bare is = tt
+sound_as stated before line s (Sets n) bare is =
+    let none = has_no_fault stated before line s n is in
     record {
       are = sets_in_words (numbers_of stated s.name) s.sights n none.divides;
       bare = bare;
@@ -112,24 +116,34 @@ sound_as stated before s (Sets n) bare is =
       short = is_short before s n none.named;
     }
 
-same_names : (before : Before) (s : Occupation) (d : Divided) → IsSoundAs before.marked s d
-    → (names_after before s d).marked ≡ names_then before.marked s d
-same_names before s NoSets is = refl
-same_names before s (Flawed f) is = refl
-same_names before s (Sets n) is = rw is.new refl
+same_names : (before : Before) (line : List ℕ) (s : Occupation) (d : Divided)
+    → IsSoundAs before.marked s d
+    → (names_after before line s d).marked ≡ names_then before.marked s d
+same_names before line s NoSets is = refl
+same_names before line s (Flawed f) is = refl
+same_names before line s (Sets n) is = rw is.new refl
+
+-- What a station is called is such a name as well.
+bare_call : (again : Bool) (before : Before) (s : Occupation) → IsBareName s.name
+    → IsBareName (called again before s).name
+bare_call again before s bare = elim (cases_Bool (again && not (has_no_sets s.sights))) [
+  | inl h ↦ rw h (bare_visit s.name (times before.visits s.name) bare)
+  | inr h ↦ rw h bare
+]
 
 -- Stations of which each is judged.
 pub all_sound : (stated : Said) (before : Before) (ss : List Occupation) → HaveBareNames ss
     → AreSound before.marked (judged_from stated before ss)
 all_sound stated before [] bare = tt
 all_sound stated before (s ∷ ss) bare =
-    let d = judged stated before s in
-    let here = sound_as stated before s d
-    (All-head (λ (o : Occupation). IsBareName o.name) s ss bare) refl in (
+    let c = called stated.again before s in
+    let d = judged_called stated before s in
+    let after = names_past stated before s in
+    let here = sound_as stated before s.name c d (bare_call stated.again before s
+    (All-head (λ (o : Occupation). IsBareName o.name) s ss bare)) refl in (
       here,
-      subst (λ (names : List (List ℕ)).
-          AreSound names (judged_from stated (names_after before s d) ss))
-          (same_names before s d here)
-          (all_sound stated (names_after before s d) ss
+      subst (λ (names : List (List ℕ)). AreSound names (judged_from stated after ss))
+          (same_names before s.name c d here)
+          (all_sound stated after ss
           (All-tail (λ (o : Occupation). IsBareName o.name) s ss bare)),
     )

@@ -20,7 +20,7 @@ use Rattle.set_marks.specs.declared.sight.Sight.{Sight}
 use Rattle.set_marks.specs.Stations.{Occupation}
 use Rattle.set_marks.specs.Numbers.{Said}
 use Rattle.set_marks.specs.Divisions.{starts_of, end_in, sets_of}
-use Rattle.set_marks.specs.Judging.{Before, Judged, judged, judged_from, names_after}
+use Rattle.set_marks.specs.Judging.{Before, Judged, judged_from, names_past}
 use Rattle.set_marks.specs.Marks.{code_block}
 use Rattle.set_marks.specs.Marking.{mark_at, set_marks, close_mark, station_marks, is_open_after}
 use Rattle.set_marks.specs.Marking.{marks_from}
@@ -125,7 +125,7 @@ pub same_sights : (stated : Said) (before : Before) (ss : List Occupation)
     → sights_in (judged_from stated before ss) ≡ all_sights ss
 same_sights stated before [] = refl
 same_sights stated before (s ∷ ss) = ap (λ (rs : List Sight). s.sights ++ rs)
-    (same_sights stated (names_after before s (judged stated before s)) ss)
+    (same_sights stated (names_past stated before s) ss)
 
 -- where they are to be found
 abbrev pub in_all : List Judged → List (Option Found)

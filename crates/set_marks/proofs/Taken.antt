@@ -1,5 +1,5 @@
 -- A station more is judged, and taken.
-use Rattle.std.proofs.Common.{◌≡◌, ℕ, false, ◌&&◌, [], ◌∷◌, ◌++◌}
+use Rattle.std.proofs.Common.{◌≡◌, ℕ, false, ◌&&◌, List, [], ◌∷◌, ◌++◌}
 use Rattle.std.proofs.Common.{Option, Some, None, refl, ap, ◌∙◌}
 use Rattle.std.specs.Prelude.{slice_get}
 use Rattle.station_book.specs.Faults.{first_of}
@@ -20,13 +20,13 @@ use Rattle.set_marks.proofs.Few.{few_sets, none_of_three}
 use Rattle.set_marks.proofs.Judged.{is_short}
 
 -- A station without sets stays outside.
-pub takes_none : (s : Occupation) (old new : Marking)
+pub takes_none : (line : List ℕ) (s : Occupation) (old new : Marking)
     → new.stated ≡ old.stated
     → new.marks.items ≡ old.marks.items ++ close_mark old.in_set s.sights
     → new.stations.items ≡ old.stations.items ++ outside s None ∷ []
     → new.names ≡ old.names → new.in_set ≡ (old.in_set && is_empty s.sights)
-    → TakesStation s NoSets old new
-takes_none s old new stated marks stations names in_set = record {
+    → TakesStation line s NoSets old new
+takes_none line s old new stated marks stations names in_set = record {
   stated = stated;
   marks = marks;
   stations = stations;
@@ -35,13 +35,13 @@ takes_none s old new stated marks stations names in_set = record {
 }
 
 -- So does one with a fault.
-pub takes_fault : (s : Occupation) (f : Flaw) (old new : Marking)
+pub takes_fault : (line : List ℕ) (s : Occupation) (f : Flaw) (old new : Marking)
     → new.stated ≡ old.stated
     → new.marks.items ≡ old.marks.items ++ close_mark old.in_set s.sights
     → new.stations.items ≡ old.stations.items ++ outside s (Some f) ∷ []
-    → before_in new.names ≡ names_after (before_in old.names) s (Flawed f)
-    → new.in_set ≡ (old.in_set && is_empty s.sights) → TakesStation s (Flawed f) old new
-takes_fault s f old new stated marks stations names in_set = record {
+    → before_in new.names ≡ names_after (before_in old.names) line s (Flawed f)
+    → new.in_set ≡ (old.in_set && is_empty s.sights) → TakesStation line s (Flawed f) old new
+takes_fault line s f old new stated marks stations names in_set = record {
   stated = stated;
   marks = marks;
   stations = stations;
@@ -50,42 +50,42 @@ takes_fault s f old new stated marks stations names in_set = record {
 }
 
 -- One with sets, of few targets, is marked.
-pub takes_sets : (s : Occupation) (n : ℕ) (old new : Marking) → targets_fault s n ≡ None
-    → TakesStation s (Sets n) old new
-    → TakesStation s (divided_unless (targets_fault s n) n) old new
-takes_sets s n old new none takes = rw none takes
+pub takes_sets : (line : List ℕ) (s : Occupation) (n : ℕ) (old new : Marking) → targets_fault s n ≡ None
+    → TakesStation line s (Sets n) old new
+    → TakesStation line s (divided_unless (targets_fault s n) n) old new
+takes_sets line s n old new none takes = rw none takes
 
 -- Else it stays outside.
-pub takes_many : (s : Occupation) (n : ℕ) (f : Flaw) (old new : Marking)
-    → targets_fault s n ≡ Some f → TakesStation s (Flawed f) old new
-    → TakesStation s (divided_unless (targets_fault s n) n) old new
-takes_many s n f old new some takes = rw some takes
+pub takes_many : (line : List ℕ) (s : Occupation) (n : ℕ) (f : Flaw) (old new : Marking)
+    → targets_fault s n ≡ Some f → TakesStation line s (Flawed f) old new
+    → TakesStation line s (divided_unless (targets_fault s n) n) old new
+takes_many line s n f old new some takes = rw some takes
 
 -- What a station is judged to be, case by case.
-pub without_sets : (stated : Said) (before : Before) (s : Occupation)
-    → divided (numbers_of stated s.name) s.sights ≡ NoSets → judged stated before s ≡ NoSets
-without_sets stated before s is =
-    ap (λ (d : Divided). settled (division_fault before s d) d) is
+pub without_sets : (stated : Said) (before : Before) (line : List ℕ) (s : Occupation)
+    → divided (numbers_of stated s.name) s.sights ≡ NoSets → judged stated before line s ≡ NoSets
+without_sets stated before line s is =
+    ap (λ (d : Divided). settled (division_fault before line s d) d) is
 
-pub with_flaw : (stated : Said) (before : Before) (s : Occupation) (f : Flaw)
+pub with_flaw : (stated : Said) (before : Before) (line : List ℕ) (s : Occupation) (f : Flaw)
     → divided (numbers_of stated s.name) s.sights ≡ Flawed f → twice_fault before s ≡ None
-    → judged stated before s ≡ Flawed f
-with_flaw stated before s f is new =
-    ap (λ (d : Divided). settled (division_fault before s d) d) is
+    → judged stated before line s ≡ Flawed f
+with_flaw stated before line s f is new =
+    ap (λ (d : Divided). settled (division_fault before line s d) d) is
     ∙ ap (λ (o : Option Flaw). settled (first_of (o ∷ Some f ∷ [])) (Flawed f)) new
 
-pub flawed_twice : (stated : Said) (before : Before) (s : Occupation) (f g : Flaw)
+pub flawed_twice : (stated : Said) (before : Before) (line : List ℕ) (s : Occupation) (f g : Flaw)
     → divided (numbers_of stated s.name) s.sights ≡ Flawed f → twice_fault before s ≡ Some g
-    → judged stated before s ≡ Flawed g
-flawed_twice stated before s f g is twice =
-    ap (λ (d : Divided). settled (division_fault before s d) d) is
+    → judged stated before line s ≡ Flawed g
+flawed_twice stated before line s f g is twice =
+    ap (λ (d : Divided). settled (division_fault before line s d) d) is
     ∙ ap (λ (o : Option Flaw). settled (first_of (o ∷ Some f ∷ [])) (Flawed f)) twice
 
-pub with_fault : (stated : Said) (before : Before) (s : Occupation) (n : ℕ) (f : Flaw)
-    → divided (numbers_of stated s.name) s.sights ≡ Sets n → sets_fault before s n ≡ Some f
-    → judged stated before s ≡ Flawed f
-with_fault stated before s n f is fault =
-    ap (λ (d : Divided). settled (division_fault before s d) d) is
+pub with_fault : (stated : Said) (before : Before) (line : List ℕ) (s : Occupation) (n : ℕ) (f : Flaw)
+    → divided (numbers_of stated s.name) s.sights ≡ Sets n → sets_fault before line s n ≡ Some f
+    → judged stated before line s ≡ Flawed f
+with_fault stated before line s n f is fault =
+    ap (λ (d : Divided). settled (division_fault before line s d) d) is
     ∙ ap (λ (o : Option Flaw). settled (first_of (o ∷ targets_fault s n ∷ [])) (Sets n)) fault
 
 unless_more : (o : Option Flaw) (n : ℕ)
@@ -93,19 +93,19 @@ unless_more : (o : Option Flaw) (n : ℕ)
 unless_more None n = refl
 unless_more (Some f) n = refl
 
-pub with_sets : (stated : Said) (before : Before) (s : Occupation) (n : ℕ)
-    → divided (numbers_of stated s.name) s.sights ≡ Sets n → sets_fault before s n ≡ None
-    → judged stated before s ≡ divided_unless (targets_fault s n) n
-with_sets stated before s n is none =
-    ap (λ (d : Divided). settled (division_fault before s d) d) is
+pub with_sets : (stated : Said) (before : Before) (line : List ℕ) (s : Occupation) (n : ℕ)
+    → divided (numbers_of stated s.name) s.sights ≡ Sets n → sets_fault before line s n ≡ None
+    → judged stated before line s ≡ divided_unless (targets_fault s n) n
+with_sets stated before line s n is none =
+    ap (λ (d : Divided). settled (division_fault before line s d) d) is
     ∙ ap (λ (o : Option Flaw). settled (first_of (o ∷ targets_fault s n ∷ [])) (Sets n)) none
     ∙ unless_more (targets_fault s n) n
 
 -- The name of a station without a fault has room where the first set begins.
-pub has_room : (before : Before) (s : Occupation) (n : ℕ) → sets_fault before s n ≡ None
+pub has_room : (before : Before) (line : List ℕ) (s : Occupation) (n : ℕ) → sets_fault before line s n ≡ None
     → is_too_long s.name (slice_get s.sights n) ≡ false
-has_room before s n none = is_short before s n
-    (none_of_three (twice_fault before s) (itself_fault s) (name_fault before s n) none).2
+has_room before line s n none = is_short before s n
+    (none_of_three (twice_fault before s) (itself_fault line s.sights) (name_fault before s n) none).2
 
 -- What is known of a station whose sets are taken.
 pub ruleset is_judged = (few_sets, has_room)

@@ -1,6 +1,6 @@
 -- What each station of a field file is judged to be, by itself (profile). Of the stations before it
 -- no more than their names counts.
-use Rattle.std.specs.Prelude.{ℕ, Bool, false, ◌||◌, List, [], ◌∷◌, length}
+use Rattle.std.specs.Prelude.{ℕ, Bool, false, ◌&&◌, ◌||◌, not, List, [], ◌∷◌, length}
 use Rattle.std.specs.Prelude.{if◌then◌else◌, Option, Some, None, nat_le, nat_lt, slice_get}
 use Rattle.station_book.specs.declared.bounds.TheConstants.{MOST_STATIONS}
 use Rattle.station_book.specs.Places.{History, is_among, with_new}
@@ -14,16 +14,19 @@ use Rattle.set_marks.specs.Marks.{width_of}
 use Rattle.set_marks.specs.Numbers.{Said, numbers_of}
 use Rattle.set_marks.specs.Stations.{Occupation, stations_of}
 use Rattle.set_marks.specs.Divisions.{divided, is_of, flaw_when, flaw_found, in_sets_of}
-use Rattle.set_marks.specs.Divisions.{is_read_in_two, one_too_many}
+use Rattle.set_marks.specs.Divisions.{has_no_sets, is_read_in_two, one_too_many}
+use Rattle.set_marks.specs.Visits.{Visits, once_more, times, visit_name}
 
--- The names of the stations before one: of those that have sets, and of those that have a fault.
+-- The names of the stations before one: of those that have sets, and of those that have a fault;
+-- and how often each name came at the set-ups of both.
 pub record Before : Type 0 where
   pub marked : List (List ℕ)
   pub faulty : List (List ℕ)
+  pub visits : Visits
 
 -- no station
 abbrev pub none_before : Before
-none_before = record { marked = []; faulty = [] }
+none_before = record { marked = []; faulty = []; visits = [] }
 
 -- one of them has this name
 abbrev pub was_before : Before → List ℕ → Bool
@@ -39,11 +42,11 @@ abbrev pub first_of_target : List ℕ → List Sight → Option Sight
 first_of_target name [] = None
 first_of_target name (r ∷ rs) = if is_of name r then Some r else first_of_target name rs
 
--- A station reads a target of its own name in face II: so it is where the set-up line of the next
--- station is lost, whose backsight is this one.
-abbrev pub itself_fault : Occupation → Option Flaw
-itself_fault s = flaw_when (is_read_in_two s.sights s.name) kinds.SightsItself
-    (first_of_target s.name s.sights)
+-- A station that was set up under this name reads a target of it in face II: so it is where the
+-- set-up line of the next station is lost, whose backsight is this one.
+abbrev pub itself_fault : List ℕ → List Sight → Option Flaw
+itself_fault line rs =
+    flaw_when (is_read_in_two rs line) kinds.SightsItself (first_of_target line rs)
 
 -- the name has no room in the width of the line of the reading at this place
 abbrev pub is_too_long : List ℕ → Option Sight → Bool
@@ -65,58 +68,85 @@ abbrev pub targets_fault : Occupation → ℕ → Option Flaw
 targets_fault s leading =
     flaw_found kinds.TooManyTargets (one_too_many [] (in_sets_of leading s.sights))
 
--- The fault of a station whose readings are sets after so many leading ones, after these stations,
--- the first that stands: its name was had; it sights itself; or the fault of its name.
-abbrev pub sets_fault : Before → Occupation → ℕ → Option Flaw
-sets_fault before s leading = first_of (
+-- The fault of a station that was set up under this name, and whose readings are sets after so many
+-- leading ones, after these stations, the first that stands: its name was had; it sights itself; or
+-- the fault of its name.
+abbrev pub sets_fault : Before → List ℕ → Occupation → ℕ → Option Flaw
+sets_fault before line s leading = first_of (
     twice_fault before s
-    ∷ itself_fault s
+    ∷ itself_fault line s.sights
     ∷ name_fault before s leading
     ∷ [])
 
 -- The fault of a station whose readings are so divided, after these stations, the first that
 -- stands: one without sets has none; where something is wrong with its readings, its name was had,
 -- or this; where they are sets, one of its name, or that of its targets.
-abbrev pub division_fault : Before → Occupation → Divided → Option Flaw
-division_fault before s NoSets = None
-division_fault before s (Flawed f) = first_of (twice_fault before s ∷ Some f ∷ [])
-division_fault before s (Sets leading) =
-    first_of (sets_fault before s leading ∷ targets_fault s leading ∷ [])
+abbrev pub division_fault : Before → List ℕ → Occupation → Divided → Option Flaw
+division_fault before line s NoSets = None
+division_fault before line s (Flawed f) = first_of (twice_fault before s ∷ Some f ∷ [])
+division_fault before line s (Sets leading) =
+    first_of (sets_fault before line s leading ∷ targets_fault s leading ∷ [])
 
--- The fault of a station, after these stations, where this is stated of its sets.
-abbrev pub station_fault : Said → Before → Occupation → Option Flaw
-station_fault stated before s = division_fault before s (divided (numbers_of stated s.name) s.sights)
+-- The fault of a station that was set up under this name, after these stations, where this is
+-- stated.
+abbrev pub station_fault : Said → Before → List ℕ → Occupation → Option Flaw
+station_fault stated before line s =
+    division_fault before line s (divided (numbers_of stated s.name) s.sights)
 
 -- its fault, if it has one; else what its readings are
 abbrev pub settled : Option Flaw → Divided → Divided
 settled None d = d
 settled (Some f) d = Flawed f
 
--- What a station is judged to be: without sets; with sets, after so many leading readings; or to
--- have a fault.
-abbrev pub judged : Said → Before → Occupation → Divided
-judged stated before s =
-    settled (station_fault stated before s) (divided (numbers_of stated s.name) s.sights)
+-- What a station that was set up under this name is judged to be: without sets; with sets, after so
+-- many leading readings; or to have a fault.
+abbrev pub judged : Said → Before → List ℕ → Occupation → Divided
+judged stated before line s =
+    settled (station_fault stated before line s) (divided (numbers_of stated s.name) s.sights)
 
--- the names, and that of a station that isn't without sets
-abbrev pub names_after : Before → Occupation → Divided → Before
-names_after before s NoSets = before
-names_after before s (Sets leading) =
-    record { marked = with_new before.marked s.name; faulty = before.faulty }
-names_after before s (Flawed f) =
-    record { marked = before.marked; faulty = with_new before.faulty s.name }
+-- A station as it is called, after these: where it isn't without sets, and it is stated that a name
+-- that comes again is another set-up, by the name of this visit; else by that of its set-up line.
+abbrev pub called : Bool → Before → Occupation → Occupation
+called again before s = record {
+  name = if again && not (has_no_sets s.sights) then visit_name s.name (times before.visits s.name)
+      else s.name;
+  sights = s.sights;
+}
+
+-- the names, and those of a station that isn't without sets and was set up under this name
+abbrev pub names_after : Before → List ℕ → Occupation → Divided → Before
+names_after before line s NoSets = before
+names_after before line s (Sets leading) = record {
+  marked = with_new before.marked s.name;
+  faulty = before.faulty;
+  visits = once_more before.visits line;
+}
+names_after before line s (Flawed f) = record {
+  marked = before.marked;
+  faulty = with_new before.faulty s.name;
+  visits = once_more before.visits line;
+}
 
 -- a station, and what it is judged to be
 pub record Judged : Type 0 where
   pub station : Occupation
   pub division : Divided
 
--- These stations, which come after others, and what each is judged to be.
+-- What a station is judged to be, after these, by the name that it is called.
+abbrev pub judged_called : Said → Before → Occupation → Divided
+judged_called stated before s = judged stated before s.name (called stated.again before s)
+
+-- the names after it
+abbrev pub names_past : Said → Before → Occupation → Before
+names_past stated before s =
+    names_after before s.name (called stated.again before s) (judged_called stated before s)
+
+-- These stations, which come after others, each as it is called, and what it is judged to be.
 abbrev pub judged_from : Said → Before → List Occupation → List Judged
 judged_from stated before [] = []
 judged_from stated before (s ∷ ss) =
-    record { station = s; division = judged stated before s }
-    ∷ judged_from stated (names_after before s (judged stated before s)) ss
+    record { station = called stated.again before s; division = judged_called stated before s }
+    ∷ judged_from stated (names_past stated before s) ss
 
 -- The stations of a file, in its order, and what each is judged to be.
 abbrev pub judged_of : Option (List ℕ) → Said → History → List Judged

@@ -43,7 +43,8 @@ begun_in (Some name) = record { name = name; from = 0 } ∷ []
 
 -- the names, as those of the stations before one
 abbrev pub before_in : StationNames → Before
-before_in names = record { marked = names.marked; faulty = names.faulty }
+before_in names =
+    record { marked = names.marked; faulty = names.faulty; visits = names.visits }
 
 -- These stations, of whose sets this is stated, are judged, marked and told, whichever come after
 -- them.
@@ -109,12 +110,13 @@ abbrev pub AnswersReadings : Option (List ℕ) → Said → FileAnswers → Resu
 AnswersReadings station stated answers (Ok r) = AreReadings station stated answers r
 AnswersReadings station stated answers (Err fault) = IsFault station answers fault
 
--- A station more is marked and told.
-pub record TakesStation (s : Occupation) (d : Divided) (old new : Marking) : Type 0 where
+-- A station more, which was set up under this name, is marked and told.
+pub record TakesStation (line : List ℕ) (s : Occupation) (d : Divided) (old new : Marking)
+    : Type 0 where
   pub stated : new.stated ≡ old.stated
   pub marks : new.marks.items ≡ old.marks.items ++ station_marks old.in_set s d
   pub stations : new.stations.items ≡ old.stations.items ++ recognized s d ∷ []
-  pub names : before_in new.names ≡ names_after (before_in old.names) s d
+  pub names : before_in new.names ≡ names_after (before_in old.names) line s d
   pub in_set : new.in_set ≡ is_open_after old.in_set s d
 
 -- These stations, of whose sets this is stated, are judged, marked and told.

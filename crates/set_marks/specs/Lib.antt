@@ -8,6 +8,7 @@ pub mod Fewest
 pub mod Remarks
 pub mod Lines
 pub mod Marks
+pub mod Visits
 pub mod Judging
 pub mod Marking
 pub mod Stated

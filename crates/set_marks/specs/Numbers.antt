@@ -18,10 +18,12 @@ pub record SaidNumber : Type 0 where
   pub of_one : List NamedNumber
 
 -- What is stated of a field file: how many sets were read to the end, how many targets they have,
--- and whether stations with a fault stay outside, and the others are marked.
+-- whether a name that comes again is another set-up, and whether stations with a fault stay outside,
+-- and the others are marked.
 pub record Said : Type 0 where
   pub sets : SaidNumber
   pub targets : SaidNumber
+  pub again : Bool
   pub others : Bool
 
 -- a number, as it is stated
@@ -33,6 +35,7 @@ abbrev pub said_in : Stated → Said
 said_in stated = record {
   sets = number_said stated.sets;
   targets = number_said stated.targets;
+  again = stated.again;
   others = stated.others;
 }
 

@@ -8,9 +8,10 @@ ghost use Rattle.set_marks.specs.Divisions.{flaw_found, is_read_in_two, one_too_
 ghost use Rattle.set_marks.specs.Divisions.{targets_of};
 ghost use Rattle.set_marks.specs.Judging.{first_of_target, is_too_long};
 ghost use Rattle.set_marks.specs.Judging.{itself_fault, name_fault, sets_fault, twice_fault};
-ghost use Rattle.set_marks.specs.Judging.{was_before};
+ghost use Rattle.set_marks.specs.Judging.{called, was_before};
 ghost use Rattle.set_marks.specs.Keeping.{before_in};
 
+use crate::details::has_no_sets;
 use crate::fault::MarkKind;
 use crate::flaw::{Flaw, flaw_found, flaw_when};
 use crate::known::one_too_many;
@@ -18,6 +19,7 @@ use crate::mark::width;
 use crate::names::Names;
 use crate::set::{is_of, sight_at};
 use crate::sight::Sight;
+use crate::visits::{Visits, visit_name};
 use adjust_kernel::{MOST_TARGETS, Name};
 use station_book::MOST_STATIONS;
 use std::alloc::{AllocError, Global};
@@ -29,6 +31,8 @@ pub(crate) struct StationNames {
     pub(crate) marked: Names,
     /// Those of stations that have a fault.
     pub(crate) faulty: Names,
+    /// How often each name came at the set-ups of both.
+    pub(crate) visits: Visits,
 }
 
 impl StationNames {
@@ -36,10 +40,25 @@ impl StationNames {
     pub(crate) fn new(alloc: Global) -> StationNames
         ensures marked { result.marked ≡ [] }
         ensures faulty { result.faulty ≡ [] }
+        ensures visits { result.visits ≡ [] }
     {
         StationNames {
             marked: Names::new(alloc),
             faulty: Names::new(alloc),
+            visits: Visits::new(alloc),
+        }
+    }
+
+    /// What a station is called, after the stations of these names: by the name of this visit, where
+    /// it isn't without sets, and a name that comes again is another set-up.
+    pub(crate) fn called(&self, again: bool, name: &Name, sights: &[Sight]) -> Name
+        ensures { result ≡ (called again (before_in self.now)
+            (record { name = name.now; sights = sights.now })).name }
+    {
+        if again && !has_no_sets(sights) {
+            visit_name(name, self.visits.count(name))
+        } else {
+            *name
         }
     }
 
@@ -85,14 +104,14 @@ fn first_of_target<'a>(name: &Name, sights: &'a [Sight]) -> Option<&'a Sight>
     None
 }
 
-/// The fault of a station with sets that it reads a target of its own name in face II.
-fn itself_fault(name: &Name, sights: &[Sight]) -> Option<Flaw>
-    ensures { result ≡ itself_fault (record { name = name.now; sights = sights.now }) }
+/// The fault of a station with sets that it reads a target of the name of its set-up line in face II.
+fn itself_fault(line: &Name, sights: &[Sight]) -> Option<Flaw>
+    ensures { result ≡ itself_fault line.now sights.now }
 {
-    if !is_read_in_two(name, sights) {
+    if !is_read_in_two(line, sights) {
         return None;
     }
-    flaw_when(true, MarkKind::SightsItself, first_of_target(name, sights))
+    flaw_when(true, MarkKind::SightsItself, first_of_target(line, sights))
 }
 
 /// Whether a name has no room in the width of the line of a reading.
@@ -118,22 +137,23 @@ fn name_fault(names: &StationNames, name: &Name, sights: &[Sight], leading: usiz
     flaw_when(is_too_long(name, opening), MarkKind::NameTooLong, opening)
 }
 
-/// The fault of a station whose readings are sets after so many leading ones, after the stations of
-/// these names, but for that of its targets.
+/// The fault of a station of the name of this set-up line, whose readings are sets after so many
+/// leading ones, after the stations of these names, but for that of its targets.
 pub(crate) fn sets_fault(
     names: &mut StationNames,
+    line: &Name,
     name: &Name,
     sights: &[Sight],
     leading: usize,
 ) -> Option<Flaw>
-    ensures fault { result ≡ sets_fault (before_in names.old)
+    ensures fault { result ≡ sets_fault (before_in names.old) line.now
         (record { name = name.now; sights = sights.now }) leading }
     ensures unchanged { names.new ≡ names.old }
 {
     if let Some(flaw) = names.twice_fault(name, sights) {
         return Some(flaw);
     }
-    if let Some(flaw) = itself_fault(name, sights) {
+    if let Some(flaw) = itself_fault(line, sights) {
         return Some(flaw);
     }
     name_fault(names, name, sights, leading)

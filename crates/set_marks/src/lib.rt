@@ -34,6 +34,7 @@ mod sight;
 mod starts;
 mod stated;
 pub mod stated_laws;
+mod visits;
 mod walk;
 
 pub use beginnings::Beginnings;

@@ -7,7 +7,7 @@ ghost use Rattle.adjust_kernel.specs.declared.bounds.TheConstants.{MOST_SETS};
 ghost use Rattle.set_marks.specs.declared.division.Divided.TheVariants.{Flawed, NoSets, Sets};
 ghost use Rattle.set_marks.specs.Divisions.{divided_unless, starts_of, end_in};
 ghost use Rattle.set_marks.specs.Judging.{is_too_long, judged, sets_fault, targets_fault};
-ghost use Rattle.set_marks.specs.Judging.{none_before};
+ghost use Rattle.set_marks.specs.Judging.{called, judged_called, none_before};
 ghost use Rattle.station_book.specs.Places.{is_empty};
 ghost use Rattle.set_marks.specs.Marks.{HasRoom, IsRoomy};
 ghost use Rattle.set_marks.specs.Numbers.{said_in};
@@ -189,25 +189,37 @@ impl Marking {
 
     /// Takes a station that has no sets.
     #[tactic(auto, using(crate::proofs::Taken::stays_outside))]
-    fn take_without_sets(&mut self, name: &Name, sights: &[Sight]) -> Result<(), AllocError>
+    fn take_without_sets(
+        &mut self,
+        line: &Name,
+        name: &Name,
+        sights: &[Sight],
+    ) -> Result<(), AllocError>
         requires room { All IsRoomy self.old.marks.items }
         ensures room { All IsRoomy self.new.marks.items }
-        ensures takes { OnOk result (TakesStation (record { name = name.now; sights = sights.now })
-            NoSets self.old self.new) }
+        ensures takes { OnOk result (TakesStation line.now
+            (record { name = name.now; sights = sights.now }) NoSets self.old self.new) }
     {
         self.leave_outside(name, sights, None)
     }
 
     /// Takes a station that has this fault.
     #[tactic(auto, using(crate::proofs::Taken::stays_outside))]
-    fn take_faulty(&mut self, name: &Name, sights: &[Sight], flaw: Flaw) -> Result<(), AllocError>
+    fn take_faulty(
+        &mut self,
+        line: &Name,
+        name: &Name,
+        sights: &[Sight],
+        flaw: Flaw,
+    ) -> Result<(), AllocError>
         requires room { All IsRoomy self.old.marks.items }
         ensures room { All IsRoomy self.new.marks.items }
-        ensures takes { OnOk result (TakesStation (record { name = name.now; sights = sights.now })
-            (Flawed flaw) self.old self.new) }
+        ensures takes { OnOk result (TakesStation line.now
+            (record { name = name.now; sights = sights.now }) (Flawed flaw) self.old self.new) }
     {
         self.leave_outside(name, sights, Some(flaw))?;
         self.names.faulty.add(name)?;
+        self.names.visits.add(line)?;
         Ok(())
     }
 
@@ -216,6 +228,7 @@ impl Marking {
     fn take_sets(
         &mut self,
         alloc: Global,
+        line: &Name,
         name: &Name,
         sights: &[Sight],
         leading: usize,
@@ -224,7 +237,8 @@ impl Marking {
         requires here { is_too_long name.now (slice_get sights.now leading) ≡ false }
         requires room { All IsRoomy self.old.marks.items }
         ensures room { All IsRoomy self.new.marks.items }
-        ensures takes { OnOk result (TakesStation (record { name = name.now; sights = sights.now })
+        ensures takes { OnOk result (TakesStation line.now
+            (record { name = name.now; sights = sights.now })
             (divided_unless (targets_fault (record { name = name.now; sights = sights.now })
             leading) leading) self.old self.new) }
     {
@@ -234,7 +248,7 @@ impl Marking {
         let in_sets = part(0, end, rest);
         let targets = count_targets(alloc, in_sets)?;
         if let Some(flaw) = targets_fault(alloc, targets, in_sets)? {
-            return self.take_faulty(name, sights, flaw);
+            return self.take_faulty(line, name, sights, flaw);
         }
         let after = rest_after(end, rest);
         let remarks = remarks_of(alloc, &starts, in_sets, targets, after)?;
@@ -249,6 +263,7 @@ impl Marking {
         )?;
         self.in_set = sight_at(rest, end).is_none();
         self.names.marked.add(name)?;
+        self.names.visits.add(line)?;
         self.stations.push(Recognized {
             name: *name,
             fault: None,
@@ -262,30 +277,51 @@ impl Marking {
         Ok(())
     }
 
-    /// Takes a station: it is judged by itself, and marked where it has sets.
-    #[tactic(auto, using(crate::proofs::Taken::is_judged))]
+    /// Takes a station of the name of a set-up line: it is judged by the name that it is called.
     pub(crate) fn take(
         &mut self,
         alloc: Global,
+        line: &Name,
+        sights: &[Sight],
+    ) -> Result<(), AllocError>
+        requires room { All IsRoomy self.old.marks.items }
+        ensures room { All IsRoomy self.new.marks.items }
+        ensures takes { OnOk result (TakesStation line.now
+            (called self.old.stated.again (before_in self.old.names)
+            (record { name = line.now; sights = sights.now }))
+            (judged_called (said_in self.old.stated) (before_in self.old.names)
+            (record { name = line.now; sights = sights.now })) self.old self.new) }
+    {
+        let name = self.names.called(self.stated.again, line, sights);
+        self.take_called(alloc, line, &name, sights)
+    }
+
+    /// Takes a station that is called so: it is judged by itself, and marked where it has sets.
+    #[tactic(auto, using(crate::proofs::Taken::is_judged))]
+    fn take_called(
+        &mut self,
+        alloc: Global,
+        line: &Name,
         name: &Name,
         sights: &[Sight],
     ) -> Result<(), AllocError>
         requires room { All IsRoomy self.old.marks.items }
         ensures room { All IsRoomy self.new.marks.items }
-        ensures takes { OnOk result (TakesStation (record { name = name.now; sights = sights.now })
-            (judged (said_in self.old.stated) (before_in self.old.names)
+        ensures takes { OnOk result (TakesStation line.now
+            (record { name = name.now; sights = sights.now })
+            (judged (said_in self.old.stated) (before_in self.old.names) line.now
             (record { name = name.now; sights = sights.now })) self.old self.new) }
     {
         match divide(alloc, self.stated.of(name), sights)? {
-            Divided::NoSets => self.take_without_sets(name, sights),
+            Divided::NoSets => self.take_without_sets(line, name, sights),
             Divided::Flawed(flaw) => match self.names.twice_fault(name, sights) {
-                Some(twice) => self.take_faulty(name, sights, twice),
-                None => self.take_faulty(name, sights, flaw),
+                Some(twice) => self.take_faulty(line, name, sights, twice),
+                None => self.take_faulty(line, name, sights, flaw),
             },
             Divided::Sets(leading) => {
-                match sets_fault(&mut self.names, name, sights, leading) {
-                    Some(flaw) => self.take_faulty(name, sights, flaw),
-                    None => self.take_sets(alloc, name, sights, leading),
+                match sets_fault(&mut self.names, line, name, sights, leading) {
+                    Some(flaw) => self.take_faulty(line, name, sights, flaw),
+                    None => self.take_sets(alloc, line, name, sights, leading),
                 }
             }
         }

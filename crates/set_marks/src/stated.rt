@@ -33,6 +33,8 @@ pub struct Stated {
     pub sets: StatedNumber,
     /// How many targets they have.
     pub targets: StatedNumber,
+    /// Whether a name that comes again is another set-up: the second one is NAME-2, the third NAME-3.
+    pub again: bool,
     /// Whether stations with a fault stay outside, and the others are marked.
     pub others: bool,
 }

@@ -45,6 +45,7 @@ fn numbers(alloc: Global, sets: Option<u32>, targets: Option<u32>) -> Stated {
     Stated {
         sets: StatedNumber::of_each(alloc, sets),
         targets: StatedNumber::of_each(alloc, targets),
+        again: false,
         others: false,
     }
 }
@@ -251,6 +252,7 @@ fn own_number(alloc: Global, name: u8, own: u32, each: Option<u32>) -> Option<St
     Some(Stated {
         sets,
         targets: StatedNumber::of_each(alloc, Some(2)),
+        again: false,
         others: false,
     })
 }
@@ -284,6 +286,28 @@ fn a_number_of_one_station_stands_in_the_place_of_that_of_each(rt: HostRuntime) 
         }
     }
     assert!(rt; fault(a, b"", nothing(a)) == Some(MarkFault::At(1, MarkKind::Empty)));
+}
+
+/// A name that comes again is another set-up; between both of them it stands at one without sets.
+#[test]
+fn a_second_set_up_of_a_name_is_called_apart_where_that_is_stated(rt: HostRuntime) {
+    let a = rt.alloc();
+    let stated = Stated {
+        again: true,
+        ..nothing(a)
+    };
+    let Some(bytes) = file(a, b"1pA1B1B2A21pC11pA1B1B2A2") else {
+        return;
+    };
+    let Ok(marked) = mark_file(a, &bytes, false, None, stated) else {
+        assert!(rt; false);
+        return;
+    };
+    let names: [&[u8]; 3] = [b"1", b"1", b"1-2"];
+    assert!(rt; marked.stations.len() == names.len());
+    for (station, name) in marked.stations.iter().zip(names) {
+        assert!(rt; station.name.bytes() == name);
+    }
 }
 
 /// The names of the stations that are told, with the blocks of their faults, 0 for none.

@@ -63,6 +63,7 @@ fn numbers(alloc: Global, sets: Option<u32>, targets: Option<u32>) -> Stated {
     Stated {
         sets: StatedNumber::of_each(alloc, sets),
         targets: StatedNumber::of_each(alloc, targets),
+        again: false,
         others: false,
     }
 }

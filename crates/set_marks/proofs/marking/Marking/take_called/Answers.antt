@@ -10,7 +10,7 @@ use Rattle.set_marks.specs.Keeping.{TakesStation, before_in}
 use Rattle.set_marks.specs.Numbers.{numbers_of, said_in}
 use Rattle.set_marks.proofs.Few.{few_sets}
 use Rattle.set_marks.proofs.Taken.{with_sets}
-use Rattle.set_marks.proofs.marking.Marking.take.Goals as goal
+use Rattle.set_marks.proofs.marking.Marking.take_called.Goals as goal
 
 pub take_sets-requires-clause-few : goal.take_sets-requires-clause-few
 take_sets-requires-clause-few c =
@@ -25,10 +25,10 @@ returns-in-None-sets_fault-clause-takes c =
     let new = c.take_sets.new.self in
     let n = c.in-Sets.leading in
     let divides : divided (numbers_of (said_in old.stated) s.name) s.sights ≡ Sets n = search rules in
-    let none : sets_fault (before_in old.names) s n ≡ None = search rules in
+    let none : sets_fault (before_in old.names) c.args.line.now s n ≡ None = search rules in
     let wanted = divided_unless (targets_fault s n) n in
-    subst (λ (d : Divided). OnOk c.take_sets.result (TakesStation s d old new))
-    (sym (with_sets (said_in old.stated) (before_in old.names) s n divides none))
+    subst (λ (d : Divided). OnOk c.take_sets.result (TakesStation c.args.line.now s d old new))
+    (sym (with_sets (said_in old.stated) (before_in old.names) c.args.line.now s n divides none))
     (subst (λ (names : StationNames). OnOk c.take_sets.result (TakesStation s wanted (record {
       stated = old.stated;
       marks = old.marks;
