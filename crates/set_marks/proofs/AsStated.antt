@@ -11,6 +11,7 @@ use Rattle.gsi_file.specs.FileAnswers.{FileAnswers}
 use Rattle.adjust_kernel.specs.declared.bounds.TheConstants.{MOST_SETS, MOST_TARGETS}
 use Rattle.station_book.specs.Faults.{first_of}
 use Rattle.station_book.proofs.readings.CleanBlocks.{all_none}
+use Rattle.set_marks.specs.declared.beginnings.Beginnings.{Beginnings}
 use Rattle.set_marks.specs.declared.fault.MarkKind.TheVariants as kinds
 use Rattle.set_marks.specs.declared.division.Divided.{Divided}
 use Rattle.set_marks.specs.declared.division.Divided.TheVariants.{NoSets, Sets, Flawed}
@@ -272,31 +273,31 @@ all_faultless (r ∷ rs) e =
     All-cons (λ (s : Recognized). s.fault ≡ None) r rs none.0 (all_faultless rs none.1)
 
 -- Of a marked file.
-pub marked_as_stated : (station : Option (List ℕ)) (stated : Said) (bytes : List ℕ)
-    (answers : FileAnswers) (m : Marked) → IsMarking station stated bytes answers m
+pub marked_as_stated : (beginnings : Beginnings) (stated : Said) (bytes : List ℕ)
+    (answers : FileAnswers) (m : Marked) → IsMarking beginnings stated bytes answers m
     → AreAsStated stated m.stations.items
-marked_as_stated station stated bytes answers m marking =
+marked_as_stated beginnings stated bytes answers m marking =
     subst (λ (rs : List Recognized). AreAsStated stated rs) (sym marking.told)
-    (all_as_stated stated none_before (stations_of station marking.blocks))
+    (all_as_stated stated none_before (stations_of beginnings marking.blocks))
 
-pub marked_by_faces : (station : Option (List ℕ)) (stated : Said) (bytes : List ℕ)
+pub marked_by_faces : (beginnings : Beginnings) (stated : Said) (bytes : List ℕ)
     (answers : FileAnswers) (m : Marked)
-    → (marking : IsMarking station stated bytes answers m)
-    → All (IsByFaces stated) (judged_of station stated marking.blocks)
-marked_by_faces station stated bytes answers m marking =
-    stations_by_faces stated none_before (stations_of station marking.blocks)
+    → (marking : IsMarking beginnings stated bytes answers m)
+    → All (IsByFaces stated) (judged_of beginnings stated marking.blocks)
+marked_by_faces beginnings stated bytes answers m marking =
+    stations_by_faces stated none_before (stations_of beginnings marking.blocks)
 
-pub marked_few_targets : (station : Option (List ℕ)) (stated : Said) (bytes : List ℕ)
-    (answers : FileAnswers) (m : Marked) → IsMarking station stated bytes answers m
+pub marked_few_targets : (beginnings : Beginnings) (stated : Said) (bytes : List ℕ)
+    (answers : FileAnswers) (m : Marked) → IsMarking beginnings stated bytes answers m
     → All (λ r. r.targets ≤ MOST_TARGETS) m.stations.items
-marked_few_targets station stated bytes answers m marking =
+marked_few_targets beginnings stated bytes answers m marking =
     subst (λ (rs : List Recognized). All (λ r. r.targets ≤ MOST_TARGETS) rs) (sym marking.told)
-    (all_few stated none_before (stations_of station marking.blocks))
+    (all_few stated none_before (stations_of beginnings marking.blocks))
 
-pub marked_faultless : (station : Option (List ℕ)) (stated : Said) (bytes : List ℕ)
-    (answers : FileAnswers) (m : Marked) → IsMarking station stated bytes answers m
+pub marked_faultless : (beginnings : Beginnings) (stated : Said) (bytes : List ℕ)
+    (answers : FileAnswers) (m : Marked) → IsMarking beginnings stated bytes answers m
     → stated.others ≡ false → All (λ r. r.fault ≡ None) m.stations.items
-marked_faultless station stated bytes answers m marking whole =
+marked_faultless beginnings stated bytes answers m marking whole =
     let rs = m.stations.items in
     let end = length marking.blocks + 1 in
     let e : first_of (first_fault rs ∷ no_sets_fault end rs ∷ unfound_fault stated end rs ∷ [])

@@ -13,6 +13,7 @@ use Rattle.gsi_file.specs.FileAnswers.{file_answers, answers_within, answers_by,
 use Rattle.gsi_file.specs.declared.bounds.TheConstants.{LONGEST_FILE}
 use Rattle.adjust_kernel.specs.Names.{IsName}
 use Rattle.station_book.specs.Places.{History}
+use Rattle.set_marks.specs.declared.beginnings.Beginnings.{Beginnings}
 use Rattle.set_marks.specs.declared.marked.Marked.{Marked}
 use Rattle.set_marks.specs.Numbers.{Said}
 use Rattle.set_marks.specs.Marking.{marks_of}
@@ -67,10 +68,10 @@ all_lines bytes fails e = by (first_break LONGEST_FILE bytes) fails e where
   by None true e = cc
   by None false e = refl
 
-module _ (station : Option (List ℕ)) (stated : Said) (bytes : List ℕ) (fails : Bool)
+module _ (beginnings : Beginnings) (stated : Said) (bytes : List ℕ) (fails : Bool)
     (m : Marked)
-    (is : IfSome station IsName)
-    (marking : IsMarking station stated bytes
+    (is : IfSome beginnings.station IsName)
+    (marking : IsMarking beginnings stated bytes
     (file_answers (record { bytes = bytes; fails = fails })) m)
   where
     file_blocks : AreBlocksOf bytes marking.blocks
@@ -78,36 +79,39 @@ module _ (station : Option (List ℕ)) (stated : Said) (bytes : List ℕ) (fails
         (all_lines bytes fails marking.are_blocks.ended) marking.are_blocks.each
 
     -- The copy has the file's blocks, with those of the code lines before theirs.
-    pub copy_has_blocks : AreBlocksOf (copy_of bytes m) (copy_history station stated marking.blocks)
+    pub copy_has_blocks : AreBlocksOf (copy_of bytes m)
+        (copy_history beginnings stated marking.blocks)
     copy_has_blocks =
-        subst (λ (copy : List ℕ). AreBlocksOf copy (copy_history station stated marking.blocks))
+        subst (λ (copy : List ℕ). AreBlocksOf copy (copy_history beginnings stated marking.blocks))
         (sym marking.copy) (subst (λ (bs : List GsiBlock). AllZip IsBlock
-        (numbered_lines (woven 0 bytes (placed bytes (marks_of station stated marking.blocks)))) bs)
-        (sym (history_of (copy_blocks station stated marking.blocks)))
-        (copy_is_blocks station stated bytes marking.blocks file_blocks is marking.clean))
+        (numbered_lines (woven 0 bytes (placed bytes
+        (marks_of beginnings stated marking.blocks)))) bs)
+        (sym (history_of (copy_blocks beginnings stated marking.blocks)))
+        (copy_is_blocks beginnings stated bytes marking.blocks file_blocks is marking.clean))
 
     -- In it the book finds each reading where the division puts it.
     pub copy_is_found : (copy : History) → AreBlocksOf (copy_of bytes m) copy
-        → IsFoundAsDivided station stated marking.blocks copy
+        → IsFoundAsDivided beginnings stated marking.blocks copy
     copy_is_found copy blocks =
         let lines = numbered_lines bytes in
         let h = marking.blocks in
-        subst (λ (g : History). IsFoundAsDivided station stated h g)
-        (one_history (copy_of bytes m) (copy_history station stated h) copy copy_has_blocks blocks)
+        subst (λ (g : History). IsFoundAsDivided beginnings stated h g)
+        (one_history (copy_of bytes m) (copy_history beginnings stated h) copy copy_has_blocks
+        blocks)
         (record {
-          found = found_as_divided station stated lines h file_blocks is marking.clean;
-          faults = λ limits. no_fault_of_codes limits station stated lines h file_blocks is
+          found = found_as_divided beginnings stated lines h file_blocks is marking.clean;
+          faults = λ limits. no_fault_of_codes limits beginnings stated lines h file_blocks is
               marking.clean;
-          end = no_fault_at_end station stated lines h file_blocks is marking.clean;
+          end = no_fault_at_end beginnings stated lines h file_blocks is marking.clean;
         })
 
     -- Without its code lines it is the file.
     pub copy_without : list_any is_put_in (whole_lines bytes) ≡ false → unmarked (copy_of bytes m)
         ≡ bytes
     copy_without none =
-        let marks = marks_of station stated marking.blocks in
+        let marks = marks_of beginnings stated marking.blocks in
         let well = are_well bytes marks
-        (all_roomy station stated bytes marking.blocks file_blocks is) in
+        (all_roomy beginnings stated bytes marking.blocks file_blocks is) in
         ap (λ (copy : List ℕ). unmarked copy) marking.copy
         ∙ bytes_come_back bytes (placed bytes marks) well.ordered
         (All-from_recursion (BeginsSomeLine bytes) (placed bytes marks) well.each) none

@@ -1,33 +1,34 @@
 -- Stations end one after another: what is kept of those that have ended, and of the one that is
 -- open.
-use Rattle.std.proofs.Common.{◌≡◌, ℕ, ◌+◌, ◌-◌, ◌≤◌, Bool, true, false, List, [], ◌∷◌, ◌++◌, length}
-use Rattle.std.proofs.Common.{take, drop, Option, Some, None, refl, sym, ap, subst, ◌∙◌, inl, inr}
+use Rattle.std.proofs.Common.{◌≡◌, ℕ, ◌+◌, ◌-◌, ◌≤◌, Bool, false, List, [], ◌∷◌, ◌++◌, length}
+use Rattle.std.proofs.Common.{take, drop, Option, Some, None, refl, sym, ap, subst, ◌∙◌}
 use Rattle.std.proofs.Common.{arith, append_assoc}
-use Rattle.std.specs.Prelude.{not, ◌&&◌}
+use Rattle.std.specs.Prelude.{if◌then◌else◌, is_some}
 use Rattle.std.specs.Option.{option_map}
-use Rattle.std.proofs.lemmas.Bool.{cases_Bool}
 use Rattle.std.proofs.lemmas.List.{append-nil, length-append, length-drop, drop_all, take_all}
 use Rattle.std.proofs.lemmas.List.{drop-append-le, take-append-le}
 use Rattle.gsi_word.specs.Blocks.{GsiBlock}
 use Rattle.gsi_word.specs.Names.{name_of}
-use Rattle.station_book.specs.Blocks.{target, has_direction, role_of, lacks, is_measurement}
+use Rattle.station_book.specs.Blocks.{has_direction}
 use Rattle.station_book.specs.Places.{History, is_empty}
+use Rattle.set_marks.specs.declared.beginnings.Beginnings.{Beginnings}
 use Rattle.set_marks.specs.declared.marking.Marking.{Marking}
 use Rattle.set_marks.specs.declared.mark.BlockMark.{BlockMark}
 use Rattle.set_marks.specs.declared.recognized.Recognized.{Recognized}
 use Rattle.set_marks.specs.declared.readings.Readings.{Readings}
 use Rattle.set_marks.specs.declared.sight.Sight.{Sight}
 use Rattle.set_marks.specs.Numbers.{Said, said_in}
-use Rattle.set_marks.specs.Stations.{SetUp, Occupation, sets_up, sight_in, sights_of, set_up_in}
-use Rattle.set_marks.specs.Stations.{set_ups_of, occupations, begun, is_stated, stations_of}
-use Rattle.set_marks.specs.Stations.{tells_set_up}
+use Rattle.set_marks.specs.Stations.{SetUp, Occupation, sight_in, sights_of, begins_named}
+use Rattle.set_marks.specs.Stations.{begins_after, set_up_of, open_name, set_ups_of, occupations}
+use Rattle.set_marks.specs.Stations.{stated_or, begun, stations_of}
 use Rattle.set_marks.specs.Judging.{Before, called, judged_called, judged_from, names_past, none_before}
 use Rattle.set_marks.specs.Marking.{marks_from, recognized_from, station_marks, is_open_after}
 use Rattle.set_marks.specs.Marking.{recognized}
+use Rattle.set_marks.proofs.SetUps.{begins_unread, not_open, one_open, last_open}
 use Rattle.set_marks.proofs.StationReadings.{BeginBy, by_more, by_both}
 use Rattle.set_marks.specs.Keeping.{TakesStation, AreMarkedFirst, AreMarked, Ends, before_in}
-use Rattle.set_marks.specs.Keeping.{open_one, open_in, begun_in, BeginsStation, AddsReading, Adds}
-use Rattle.set_marks.specs.Keeping.{Keeps}
+use Rattle.set_marks.specs.Keeping.{open_one, open_in, begun_in, BeginsStation, AddsReading, AddsTo}
+use Rattle.set_marks.specs.Keeping.{begins_in, Adds, Keeps}
 
 -- Nothing is marked before the first station.
 pub none_marked : (m : Marking) (stated : Said) → said_in m.stated ≡ stated → m.marks.items ≡ []
@@ -100,24 +101,29 @@ none_open old new none marking = λ stated ended are.
     rw (none, marking) (subst (λ (ss : List Occupation). AreMarkedFirst stated ss old.marking)
     (sym (append-nil ended)) are)
 
-at_most : (n : ℕ) (b : GsiBlock) → BeginBy n (set_up_in n b)
-at_most n b = elim (cases_Bool (sets_up b)) [
-  | inl h ↦ rw h (omega arith, tt)
-  | inr h ↦ rw h tt
-]
+at_most : (n : ℕ) (name : Option (List ℕ)) → BeginBy n (set_up_of n name)
+at_most n None = tt
+at_most n (Some name) = (omega arith, tt)
 
-begin_by : (h : History) → BeginBy (length (sights_of h)) (set_ups_of h)
-begin_by [] = tt
-begin_by (b ∷ past) =
+begin_by : (beginnings : Beginnings) (h : History)
+    → BeginBy (length (sights_of h)) (set_ups_of beginnings h)
+begin_by beginnings [] = tt
+begin_by beginnings (b ∷ past) =
     let n = length (sights_of past) in
     let l = length-append (sights_of past) (sight_in (length past + 1) b) in
-    by_more n (length (sights_of (b ∷ past))) (set_ups_of past ++ set_up_in n b)
-    (omega (arith, l)) (by_both n (set_ups_of past) (set_up_in n b) (begin_by past) (at_most n b))
+    let ss = set_ups_of beginnings past in
+    let new = set_up_of n (begins_after beginnings (open_name ss) b) in
+    by_more n (length (sights_of (b ∷ past))) (ss ++ new) (omega (arith, l))
+    (by_both n ss new (begin_by beginnings past)
+    (at_most n (begins_after beginnings (open_name ss) b)))
 
-begun_by : (station : Option (List ℕ)) (h : History)
-    → BeginBy (length (sights_of h)) (begun station h)
-begun_by None h = begin_by h
-begun_by (Some name) h = (omega arith, tt)
+begun_by : (beginnings : Beginnings) (h : History)
+    → BeginBy (length (sights_of h)) (begun beginnings h)
+begun_by beginnings h = by beginnings.station where
+  by : (station : Option (List ℕ))
+      → BeginBy (length (sights_of h)) (stated_or station (set_ups_of beginnings h))
+  by None = begin_by beginnings h
+  by (Some name) = (omega arith, tt)
 
 -- more readings of the last of some stations
 abbrev with_more : List Sight → List Occupation → List Occupation
@@ -210,115 +216,150 @@ none_ended (Some n) ss ended rs all e is none = cc
 none_ended None [] ended rs all e is none = sym (append-nil ended) ∙ sym is
 none_ended None (s ∷ ss) ended rs all e is none = cc
 
-no_direction : (m l w : Bool) → (m && (l && w)) ≡ true → (m && not l) ≡ false
-no_direction true true w e = refl
-no_direction true false w e = cc
-no_direction false l w e = refl
-
 -- a block that begins a station is no reading
-no_reading : (number : ℕ) (b : GsiBlock) → sets_up b ≡ true → sight_in number b ≡ []
-no_reading number b e =
-    let none : has_direction b ≡ false =
-    no_direction (is_measurement (role_of b)) (lacks 21 b) (tells_set_up b) e in
+no_reading : (beginnings : Beginnings) (current : Option (List ℕ)) (number : ℕ) (b : GsiBlock)
+    (name : List ℕ) → begins_after beginnings current b ≡ Some name → sight_in number b ≡ []
+no_reading beginnings current number b name e =
+    let none : has_direction b ≡ false = begins_unread beginnings b name
+    (not_open beginnings.same_set_up current (begins_named beginnings b) name e) in
     rw none refl
 
-one_at_least : {A : Type 0} (xs : List A) (x : A) → is_empty (xs ++ x ∷ []) ≡ false
-one_at_least [] x = refl
-one_at_least (y ∷ xs) x = refl
+-- Where a station is open, some have begun.
+pub keeps_open : (beginnings : Beginnings) (stated : Stated) (h : History) (r : Readings)
+    → Keeps beginnings stated h r
+    → is_empty (begun_in r.station) ≡ is_empty (begun beginnings h)
+keeps_open beginnings stated h r kept =
+    ap (λ (n : Option (List ℕ)). is_empty (begun_in n)) kept.station
+    ∙ one_open (begun beginnings h)
 
 -- What is kept before the first block.
-pub none_kept : (station : Option (List ℕ)) (stated : Said) (r : Readings)
+pub none_kept : (beginnings : Beginnings) (stated : Said) (r : Readings)
     → AreMarkedFirst stated [] r.marking → r.sights.items ≡ []
-    → r.station ≡ option_map name_of station → r.blocks ≡ 0 → Keeps station stated [] r
-none_kept None stated r marked sights is blocks = record {
-  ended = [];
-  stations = rw is refl;
-  are_ended = marked;
-  begun = rw is refl;
-  blocks = blocks;
-}
-none_kept (Some name) stated r marked sights is blocks = record {
-  ended = [];
-  stations = rw (is, sights) refl;
-  are_ended = marked;
-  begun = rw is refl;
-  blocks = blocks;
-}
+    → r.station ≡ option_map name_of beginnings.station → r.blocks ≡ 0
+    → Keeps beginnings stated [] r
+none_kept beginnings stated r marked sights is blocks = by beginnings.station refl is where
+  by : (station : Option (List ℕ)) → beginnings.station ≡ station
+      → r.station ≡ option_map name_of station → Keeps beginnings stated [] r
+  by None e none = record {
+    ended = [];
+    stations = rw (e, none) refl;
+    are_ended = marked;
+    station = rw (e, none) refl;
+    blocks = blocks;
+  }
+  by (Some name) e one = record {
+    ended = [];
+    stations = rw (e, one, sights) refl;
+    are_ended = marked;
+    station = rw (e, one) refl;
+    blocks = blocks;
+  }
 
 -- What is kept with a block more, which begins no station.
-pub reads_more : (station : Option (List ℕ)) (stated : Said) (h : History) (b : GsiBlock)
-    (r r' : Readings) → begun station (b ∷ h) ≡ begun station h → Keeps station stated h r
-    → AddsReading b (length h + 1) r r' → r'.blocks ≡ length h + 1
-    → Keeps station stated (b ∷ h) r'
-reads_more station stated h b r r' same kept adds blocks =
+pub reads_more : (beginnings : Beginnings) (stated : Said) (h : History) (b : GsiBlock)
+    (r r' : Readings) → begun beginnings (b ∷ h) ≡ begun beginnings h
+    → Keeps beginnings stated h r → AddsReading b (length h + 1) r r'
+    → r'.blocks ≡ length h + 1 → Keeps beginnings stated (b ∷ h) r'
+reads_more beginnings stated h b r r' same kept adds blocks =
     let rs = sights_of h in
     let more = sight_in (length h + 1) b in
     record {
       ended = kept.ended;
       stations = ap (λ (ss : List SetUp). occupations ss (rs ++ more)) same
-          ∙ occupied_more (begun station h) rs more (begun_by station h)
+          ∙ occupied_more (begun beginnings h) rs more (begun_by beginnings h)
           ∙ ap (λ (ss : List Occupation). with_more more ss) kept.stations
           ∙ open_more r.station kept.ended r.sights.items more
-          (none_ended r.station (begun station h) kept.ended r.sights.items rs kept.begun
-          kept.stations)
+          (none_ended r.station (begun beginnings h) kept.ended r.sights.items rs
+          (keeps_open beginnings stated h r kept) kept.stations)
           ∙ ap (λ (l : List Sight). kept.ended ++ open_one r.station l) (sym adds.sights)
           ∙ ap (λ (n : Option (List ℕ)). kept.ended ++ open_one n r'.sights.items)
           (sym adds.station);
       are_ended = rw adds.marking kept.are_ended;
-      begun = ap (λ (n : Option (List ℕ)). is_empty (begun_in n)) adds.station
-          ∙ kept.begun ∙ ap (λ (ss : List SetUp). is_empty ss) (sym same);
+      station = adds.station ∙ kept.station ∙ ap (λ (ss : List SetUp). open_name ss) (sym same);
       blocks = blocks ∙ omega arith;
     }
 
--- What is kept with a block more, which begins a station.
-pub begins_next : (stated : Said) (h : History) (b : GsiBlock) (r r' : Readings)
-    → sets_up b ≡ true → Keeps None stated h r → BeginsStation b r r'
-    → r'.blocks ≡ length h + 1 → Keeps None stated (b ∷ h) r'
-begins_next stated h b r r' sets kept adds blocks =
+-- What is kept with a block more, which begins a station of this name.
+pub begins_next : (beginnings : Beginnings) (stated : Said) (h : History) (b : GsiBlock)
+    (name : List ℕ) (r r' : Readings) → beginnings.station ≡ None
+    → begins_after beginnings (open_name (set_ups_of beginnings h)) b ≡ Some name
+    → Keeps beginnings stated h r → BeginsStation name r r' → r'.blocks ≡ length h + 1
+    → Keeps beginnings stated (b ∷ h) r'
+begins_next beginnings stated h b name r r' unstated begins kept adds blocks =
     let rs = sights_of h in
-    let new : SetUp = record { name = target b; from = length rs } in
-    let one : set_up_in (length rs) b ≡ new ∷ [] = rw sets refl in
-    let none : sight_in (length h + 1) b ≡ [] = no_reading (length h + 1) b sets in
+    let ss = set_ups_of beginnings h in
+    let new : SetUp = record { name = name; from = length rs } in
+    let none : sight_in (length h + 1) b ≡ [] =
+    no_reading beginnings (open_name ss) (length h + 1) b name begins in
+    let before : begun beginnings h ≡ ss =
+    ap (λ (s : Option (List ℕ)). stated_or s ss) unstated in
+    let after : begun beginnings (b ∷ h) ≡ ss ++ new ∷ [] =
+    ap (λ (s : Option (List ℕ)). stated_or s (set_ups_of beginnings (b ∷ h))) unstated
+    ∙ ap (λ (o : Option (List ℕ)). ss ++ set_up_of (length rs) o) begins in
     record {
       ended = kept.ended ++ open_in r;
-      stations = ap (λ (ss : List SetUp). occupations (set_ups_of h ++ ss)
-          (rs ++ sight_in (length h + 1) b)) one
-          ∙ ap (λ (l : List Sight). occupations (set_ups_of h ++ new ∷ []) (rs ++ l)) none
-          ∙ ap (λ (l : List Sight). occupations (set_ups_of h ++ new ∷ []) l) (append-nil rs)
-          ∙ occupied_next (set_ups_of h) (target b) rs
-          ∙ ap (λ (ss : List Occupation). ss ++ record { name = target b; sights = [] } ∷ [])
-          kept.stations
-          ∙ ap (λ (l : List Sight). (kept.ended ++ open_in r) ++ open_one (Some (target b)) l)
+      stations = ap (λ (ts : List SetUp). occupations ts (rs ++ sight_in (length h + 1) b)) after
+          ∙ ap (λ (l : List Sight). occupations (ss ++ new ∷ []) (rs ++ l)) none
+          ∙ ap (λ (l : List Sight). occupations (ss ++ new ∷ []) l) (append-nil rs)
+          ∙ occupied_next ss name rs
+          ∙ ap (λ (os : List Occupation). os ++ record { name = name; sights = [] } ∷ [])
+          (ap (λ (ts : List SetUp). occupations ts rs) (sym before) ∙ kept.stations)
+          ∙ ap (λ (l : List Sight). (kept.ended ++ open_in r) ++ open_one (Some name) l)
           (sym adds.sights)
           ∙ ap (λ (n : Option (List ℕ)). (kept.ended ++ open_in r) ++ open_one n r'.sights.items)
           (sym adds.station);
       are_ended = adds.ends stated kept.ended kept.are_ended;
-      begun = ap (λ (n : Option (List ℕ)). is_empty (begun_in n)) adds.station
-          ∙ sym (ap (λ (ss : List SetUp). is_empty (set_ups_of h ++ ss)) one
-          ∙ one_at_least (set_ups_of h) new);
+      station = adds.station
+          ∙ sym (ap (λ (ts : List SetUp). open_name ts) after ∙ last_open ss new);
       blocks = blocks ∙ omega arith;
     }
 
+-- What is kept with a block more, where no station is stated.
+next_unstated : (beginnings : Beginnings) (stated : Stated) (h : History) (b : GsiBlock)
+    (r r' : Readings) (name : Option (List ℕ)) → beginnings.station ≡ None
+    → begins_after beginnings (open_name (set_ups_of beginnings h)) b ≡ name
+    → Keeps beginnings stated h r → AddsTo name b (length h + 1) r r'
+    → r'.blocks ≡ length h + 1 → Keeps beginnings stated (b ∷ h) r'
+next_unstated beginnings stated h b r r' None unstated begins kept adds blocks =
+    let ss = set_ups_of beginnings h in
+    let same : begun beginnings (b ∷ h) ≡ begun beginnings h =
+    ap (λ (o : Option (List ℕ)).
+    stated_or beginnings.station (ss ++ set_up_of (length (sights_of h)) o)) begins
+    ∙ ap (λ (ts : List SetUp). stated_or beginnings.station ts) (append-nil ss) in
+    reads_more beginnings stated h b r r' same kept adds blocks
+next_unstated beginnings stated h b r r' (Some name) unstated begins kept adds blocks =
+    begins_next beginnings stated h b name r r' unstated begins kept adds blocks
+
 -- What is kept with a block more.
-pub keeps_next : (station : Option (List ℕ)) (stated : Said) (h : History) (b : GsiBlock)
-    (r r' : Readings) → Keeps station stated h r
-    → Adds (is_stated station) b (length h + 1) r r' → Keeps station stated (b ∷ h) r'
-keeps_next (Some name) stated h b r r' kept adds =
-    reads_more (Some name) stated h b r r' refl kept adds.adds adds.blocks
-keeps_next None stated h b r r' kept adds = elim (cases_Bool (sets_up b)) [
-  | inl e ↦ begins_next stated h b r r' e kept (rw e at adds.adds) adds.blocks
-  | inr e ↦
-      let none : set_up_in (length (sights_of h)) b ≡ [] = rw e refl in
-      reads_more None stated h b r r'
-      (ap (λ (ss : List SetUp). set_ups_of h ++ ss) none ∙ append-nil (set_ups_of h))
-      kept (rw e at adds.adds) adds.blocks
-]
+pub keeps_next : (beginnings : Beginnings) (stated : Said) (h : History) (b : GsiBlock)
+    (r r' : Readings) → Keeps beginnings stated h r
+    → Adds beginnings b (length h + 1) r r' → Keeps beginnings stated (b ∷ h) r'
+keeps_next beginnings stated h b r r' kept adds = by beginnings.station refl where
+  by : (station : Option (List ℕ)) → beginnings.station ≡ station
+      → Keeps beginnings stated (b ∷ h) r'
+  by (Some name) e =
+      let same : begun beginnings (b ∷ h) ≡ begun beginnings h =
+      ap (λ (s : Option (List ℕ)). stated_or s (set_ups_of beginnings (b ∷ h))) e
+      ∙ sym (ap (λ (s : Option (List ℕ)). stated_or s (set_ups_of beginnings h)) e) in
+      reads_more beginnings stated h b r r' same kept (rw e at adds.adds) adds.blocks
+  by None e =
+      let ss = set_ups_of beginnings h in
+      let current : r.station ≡ open_name ss = kept.station
+      ∙ ap (λ (s : Option (List ℕ)). open_name (stated_or s ss)) e in
+      let begins : begins_in beginnings r.station b ≡ begins_after beginnings (open_name ss) b =
+      ap (λ (s : Option (List ℕ)).
+      if is_some s then None else begins_after beginnings r.station b) e
+      ∙ ap (λ (c : Option (List ℕ)). begins_after beginnings c b) current in
+      next_unstated beginnings stated h b r r' (begins_after beginnings (open_name ss) b) e refl
+      kept
+      (subst (λ (o : Option (List ℕ)). AddsTo o b (length h + 1) r r') begins adds.adds)
+      adds.blocks
 
 -- All stations are marked, once the last has ended.
-pub all_marked : (station : Option (List ℕ)) (stated : Said) (h : History) (old new : Readings)
-    → Keeps station stated h old → Ends old new
-    → AreMarkedFirst stated (stations_of station h) new.marking
-all_marked station stated h old new kept ends =
+pub all_marked : (beginnings : Beginnings) (stated : Said) (h : History) (old new : Readings)
+    → Keeps beginnings stated h old → Ends old new
+    → AreMarkedFirst stated (stations_of beginnings h) new.marking
+all_marked beginnings stated h old new kept ends =
     subst (λ (ss : List Occupation). AreMarkedFirst stated ss new.marking) (sym kept.stations)
     (ends stated kept.ended kept.are_ended)
 

@@ -6,15 +6,16 @@ use Rattle.gsi_word.specs.Blocks.{GsiBlock}
 use Rattle.station_book.specs.Blocks.{role_of, target, named, number, angles, angle_fault}
 use Rattle.station_book.specs.Blocks.{is_of_face, has_two, lacks}
 use Rattle.station_book.specs.Places.{History}
+use Rattle.set_marks.specs.declared.beginnings.Beginnings.{Beginnings}
 use Rattle.set_marks.specs.declared.division.Divided.TheVariants.{Sets, Flawed}
 use Rattle.set_marks.specs.declared.fault.MarkKind.{MarkKind}
 use Rattle.set_marks.specs.declared.fault.MarkKind.TheVariants as kinds
 use Rattle.set_marks.specs.declared.mark.Code.TheVariants.{Station, Set, Close}
 use Rattle.set_marks.specs.declared.remarks.Remarks.{Remarks}
 use Rattle.set_marks.specs.declared.sight.Sight.{Sight}
-use Rattle.set_marks.specs.Stations.{sets_up, tells_set_up, sights_of}
+use Rattle.set_marks.specs.Stations.{SetUp, sets_up, tells_set_up, sights_of, set_ups_of}
 use Rattle.set_marks.specs.Divisions.{divided, starts_of, end_in}
-use Rattle.set_marks.specs.Stations.{Occupation}
+use Rattle.set_marks.specs.Stations.{Occupation, begins_named}
 use Rattle.set_marks.specs.Judging.{none_before, judged_called, judged_from}
 use Rattle.set_marks.specs.Marking.{marks_of, recognized, recognized_from, refusal}
 use Rattle.set_marks.specs.declared.division.Divided.{Divided}
@@ -73,6 +74,24 @@ numbers sets targets = record { sets = sets; targets = targets }
 -- A number is stated of each station, or none.
 abbrev of_each : Option ℕ → SaidNumber
 of_each number = record { of_each = number; of_one = [] }
+
+-- How stations begin: nothing is stated; or that a set-up line of the name of the open station
+-- begins nothing, and that blocks of code 47 begin stations.
+abbrev by_set_ups : Beginnings
+by_set_ups = record { station = None; same_set_up = false; code = None }
+
+abbrev by_codes : Beginnings
+by_codes = record { station = None; same_set_up = true; code = Some (codes "47") }
+
+-- The station P1 begins before any reading: the set-up line of it, and a block of code 47.
+abbrev p1 : SetUp
+p1 = record { name = codes "P1"; from = 0 }
+
+abbrev set_up : GsiBlock
+set_up = b (w 11 (codes "000000P1") ∷ w 88 (codes "00001543") ∷ [])
+
+abbrev coded : List GsiWord → GsiBlock
+coded ws = b (w 41 (codes "00000047") ∷ ws)
 
 -- Nothing is stated; and that stations with a fault stay outside.
 abbrev nothing : Said
@@ -163,15 +182,15 @@ record AreExamples : Type 0 where
   starts : starts_of (sights_of file) ≡ 0 ∷ 4 ∷ []
   end : end_in (sights_of file) ≡ 8
   divides : divided (numbers None None) (sights_of file) ≡ Sets 0
-  marks : marks_of None nothing file
+  marks : marks_of by_set_ups nothing file
       ≡ record { block = 2; wide = false; code = Station (codes "P1") }
       ∷ record { block = 2; wide = false; code = Set 1 }
       ∷ record { block = 6; wide = false; code = Set 2 }
       ∷ record { block = 10; wide = false; code = Close } ∷ []
-  as_divided : in_file None nothing file
+  as_divided : in_file by_set_ups nothing file
       ≡ in_set 1 ∷ in_set 1 ∷ in_set 1 ∷ in_set 1
       ∷ in_set 2 ∷ in_set 2 ∷ in_set 2 ∷ in_set 2 ∷ None ∷ []
-  in_copy : found_in (copy_history None nothing file)
+  in_copy : found_in (copy_history by_set_ups nothing file)
       ≡ in_set 1 ∷ in_set 1 ∷ in_set 1 ∷ in_set 1
       ∷ in_set 2 ∷ in_set 2 ∷ in_set 2 ∷ in_set 2 ∷ None ∷ []
   uncoded : found_in file
@@ -179,6 +198,11 @@ record AreExamples : Type 0 where
   height : sets_up (b (w 11 a_name ∷ w 87 (codes "00001500") ∷ [])) ≡ false
   measured : sets_up (b (w 11 a_name ∷ w 22 (codes "10000000") ∷ w 31 (codes "00012345")
       ∷ w 87 (codes "00001500") ∷ w 88 (codes "00001543") ∷ [])) ≡ false
+  begun_twice : set_ups_of by_set_ups (set_up ∷ set_up ∷ []) ≡ p1 ∷ p1 ∷ []
+  joined : set_ups_of by_codes (set_up ∷ set_up ∷ []) ≡ p1 ∷ []
+  by_code : set_ups_of by_codes (set_up ∷ coded (w 42 (codes "000000P1") ∷ []) ∷ []) ≡ p1 ∷ []
+  of_no_name : set_ups_of by_codes (coded [] ∷ []) ≡ []
+  of_no_code : set_ups_of by_set_ups (coded (w 42 (codes "000000P1") ∷ []) ∷ []) ≡ []
   sets_asked : read_as by_targets None None ≡ at_first kinds.ByTargets
   targets_asked : read_as by_targets (Some 1) None ≡ at_first kinds.ByTargets
   two_by_two : read_as by_targets (Some 1) (Some 2) ≡ at_first kinds.TargetCount
@@ -226,7 +250,7 @@ record AreExamples : Type 0 where
 
 examples : AreExamples
 unfolding role_of target named number angles angle_fault is_of_face has_two lacks
-    tells_set_up
+    tells_set_up begins_named
 examples = record {
   starts = refl;
   end = refl;
@@ -237,6 +261,11 @@ examples = record {
   uncoded = refl;
   height = refl;
   measured = refl;
+  begun_twice = refl;
+  joined = refl;
+  by_code = refl;
+  of_no_name = refl;
+  of_no_code = refl;
   sets_asked = refl;
   targets_asked = refl;
   two_by_two = refl;

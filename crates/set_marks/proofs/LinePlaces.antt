@@ -7,6 +7,7 @@ use Rattle.std.proofs.lemmas.Bool.{ne_eqb}
 use Rattle.std.proofs.lemmas.List.{append-nil, drop-drop, get_or-drop, length-take, length-drop}
 use Rattle.std.proofs.lemmas.List.Elements.{All-cons, All-nil, All-append}
 use Rattle.gsi_file.specs.Parts.{parts, is_line, is_line_end}
+use Rattle.set_marks.specs.declared.beginnings.Beginnings.{Beginnings}
 use Rattle.set_marks.specs.declared.mark.BlockMark.{BlockMark}
 use Rattle.set_marks.specs.declared.mark.Mark.{Mark}
 use Rattle.set_marks.specs.declared.walk.Walk.{Walk}
@@ -23,11 +24,11 @@ begun_at true at = at ∷ []
 begun_at false at = []
 
 -- The places after a part is taken.
-pub places_after : (b stated : Bool) (at : ℕ) (part : List ℕ) (old new : Walk)
-    → TakesPart b stated at part old new
+pub places_after : (b : Bool) (beginnings : Beginnings) (at : ℕ) (part : List ℕ) (old new : Walk)
+    → TakesPart b beginnings at part old new
     → new.begins.items ≡ old.begins.items ++ begun_at b at
-places_after true stated at part old new takes = takes.begins
-places_after false stated at part old new takes =
+places_after true beginnings at part old new takes = takes.begins
+places_after false beginnings at part old new takes =
     ap (λ (w : Walk). w.begins.items) takes ∙ sym (append-nil old.begins.items)
 
 either_begins : (b : Bool) (at : ℕ) (later : List ℕ)
@@ -85,25 +86,25 @@ of_used at n used rest first (inr two) inside =
     ∙ ap (λ (k : ℕ). begins_of (at + used) (parts (drop k rest))) (omega (arith, e)))
 
 -- The places up to the next part.
-pub next_places : (stated : Bool) (at n used : ℕ) (rest whole : List ℕ) (old new : Walk)
+pub next_places : (beginnings : Beginnings) (at n used : ℕ) (rest whole : List ℕ) (old new : Walk)
     → IsFirstEnd rest n → IsUsedUp rest n used → used ≤ length rest
-    → TakesPart (is_line (take n rest)) stated at (take n rest) old new
+    → TakesPart (is_line (take n rest)) beginnings at (take n rest) old new
     → old.begins.items ++ begins_of at (parts rest) ≡ whole
     → new.begins.items ++ begins_of (at + used) (parts (drop used rest)) ≡ whole
-next_places stated at n used rest whole old new first is inside takes e =
+next_places beginnings at n used rest whole old new first is inside takes e =
     let b = is_line (take n rest) in
     ap (λ (l : List ℕ). l ++ begins_of (at + used) (parts (drop used rest)))
-    (places_after b stated at (take n rest) old new takes)
+    (places_after b beginnings at (take n rest) old new takes)
     ∙ append_assoc old.begins.items (begun_at b at) (begins_of (at + used) (parts (drop used rest)))
     ∙ ap (λ (l : List ℕ). old.begins.items ++ l) (sym (of_used at n used rest first is inside))
     ∙ e
 
 -- The places up to the end, where no byte ends the last part.
-pub last_places : (stated : Bool) (at : ℕ) (rest whole : List ℕ) (old new : Walk)
-    → parts rest ≡ rest ∷ [] → TakesPart (is_line rest) stated at rest old new
+pub last_places : (beginnings : Beginnings) (at : ℕ) (rest whole : List ℕ) (old new : Walk)
+    → parts rest ≡ rest ∷ [] → TakesPart (is_line rest) beginnings at rest old new
     → old.begins.items ++ begins_of at (parts rest) ≡ whole → new.begins.items ≡ whole
-last_places stated at rest whole old new alone takes e =
-    places_after (is_line rest) stated at rest old new takes
+last_places beginnings at rest whole old new alone takes e =
+    places_after (is_line rest) beginnings at rest old new takes
     ∙ ap (λ (l : List ℕ). old.begins.items ++ l)
     (sym (append-nil (begun_at (is_line rest) at)) ∙ sym (of_part at rest [])
     ∙ ap (λ (ps : List (List ℕ)). begins_of at ps) (sym alone)) ∙ e
@@ -126,12 +127,12 @@ and_more false from last bs ordered =
     subst (λ (l : List ℕ). AreAscending from last l) (sym (append-nil bs)) ordered
 
 -- They stay in order.
-pub in_order : (b stated : Bool) (at next : ℕ) (part : List ℕ) (old new : Walk)
-    → TakesPart b stated at part old new → AreAscending 0 at old.begins.items → at ≤ next
+pub in_order : (b : Bool) (beginnings : Beginnings) (at next : ℕ) (part : List ℕ) (old new : Walk)
+    → TakesPart b beginnings at part old new → AreAscending 0 at old.begins.items → at ≤ next
     → AreAscending 0 next new.begins.items
-in_order b stated at next part old new takes ordered le =
+in_order b beginnings at next part old new takes ordered le =
     subst (λ (l : List ℕ). AreAscending 0 next l)
-    (sym (places_after b stated at part old new takes))
+    (sym (places_after b beginnings at part old new takes))
     (up_to 0 at next (old.begins.items ++ begun_at b at)
     (and_more b 0 at old.begins.items ordered) le)
 
@@ -143,12 +144,12 @@ all_more false at bytes bs all begins =
     subst (λ (l : List ℕ). All (BeginsAt bytes) l) (sym (append-nil bs)) all
 
 -- A line begins at each.
-pub all_begin : (b stated : Bool) (at : ℕ) (part bytes : List ℕ) (old new : Walk)
-    → TakesPart b stated at part old new → All (BeginsAt bytes) old.begins.items
+pub all_begin : (b : Bool) (beginnings : Beginnings) (at : ℕ) (part bytes : List ℕ) (old new : Walk)
+    → TakesPart b beginnings at part old new → All (BeginsAt bytes) old.begins.items
     → BeginsAt bytes at → All (BeginsAt bytes) new.begins.items
-all_begin b stated at part bytes old new takes all begins =
+all_begin b beginnings at part bytes old new takes all begins =
     subst (λ (l : List ℕ). All (BeginsAt bytes) l)
-    (sym (places_after b stated at part old new takes))
+    (sym (places_after b beginnings at part old new takes))
     (all_more b at bytes old.begins.items all begins)
 
 -- A line begins after a byte that ends one.

@@ -1,9 +1,10 @@
 -- From what is kept and found to what is answered.
-use Rattle.std.proofs.Common.{◌≡◌, ℕ, ◌+◌, List, length, Option, None, Some, sym, ap, subst}
+use Rattle.std.proofs.Common.{◌≡◌, ℕ, ◌+◌, List, length, None, Some, sym, ap, subst}
 use Rattle.std.proofs.Common.{◌∙◌, All}
 use Rattle.std.specs.Prelude.{Err}
 use Rattle.gsi_file.specs.FileAnswers.{FileAnswers}
 use Rattle.station_book.specs.Places.{History}
+use Rattle.set_marks.specs.declared.beginnings.Beginnings.{Beginnings}
 use Rattle.set_marks.specs.declared.fault.MarkFault.{MarkFault}
 use Rattle.set_marks.specs.declared.readings.Readings.{Readings}
 use Rattle.set_marks.specs.declared.marking.Marking.{Marking}
@@ -23,27 +24,27 @@ use Rattle.set_marks.proofs.Identity.{made_is_copy}
 
 -- All stations are judged, marked and told, of whatever is kept in these readings.
 abbrev AllMarked : Readings → Marking → Type 0
-AllMarked r m = (station : Option (List ℕ)) (stated : Said) (h : History)
-    → Keeps station stated h r → AreMarked stated (stations_of station h) m
+AllMarked r m = (beginnings : Beginnings) (stated : Said) (h : History)
+    → Keeps beginnings stated h r → AreMarked stated (stations_of beginnings h) m
 
 -- The number after the last block is that of the blocks that came, and one more.
-last_is : (station : Option (List ℕ)) (stated : Said) (h : History) (r : Readings) (end : ℕ)
-    → Keeps station stated h r → end ≡ r.blocks + 1 → end ≡ length h + 1
-last_is station stated h r end kept is = is ∙ ap (λ (n : ℕ). n + 1) kept.blocks
+last_is : (beginnings : Beginnings) (stated : Said) (h : History) (r : Readings) (end : ℕ)
+    → Keeps beginnings stated h r → end ≡ r.blocks + 1 → end ≡ length h + 1
+last_is beginnings stated h r end kept is = is ∙ ap (λ (n : ℕ). n + 1) kept.blocks
 
 -- The copy is made.
-pub is_marking : (station : Option (List ℕ)) (stated : Said) (bytes : List ℕ)
+pub is_marking : (beginnings : Beginnings) (stated : Said) (bytes : List ℕ)
     (answers : FileAnswers) (r : Readings) (m : Marking) (found : List Mark) (made : Marked)
-    (end : ℕ) → AreReadings station stated answers r → AllMarked r m → end ≡ r.blocks + 1
+    (end : ℕ) → AreReadings beginnings stated answers r → AllMarked r m → end ≡ r.blocks + 1
     → refusal (said_in m.stated) end m.stations.items ≡ None → found ≡ placed bytes m.marks.items
     → AreOrdered 0 (length bytes) found → All (BeginsLine bytes) found
     → made.marks.items ≡ found → made.stations.items ≡ m.stations.items
-    → IsMarking station stated bytes answers made
-is_marking station stated bytes answers r m found made end are all last none is ordered begin kept
-    told =
+    → IsMarking beginnings stated bytes answers made
+is_marking beginnings stated bytes answers r m found made end are all last none is ordered begin
+    kept told =
     let h = are.blocks in
-    let marked = all station stated h are.kept in
-    let marks : made.marks.items ≡ placed bytes (marks_of station stated h) =
+    let marked = all beginnings stated h are.kept in
+    let marks : made.marks.items ≡ placed bytes (marks_of beginnings stated h) =
     kept ∙ is ∙ ap (λ ms. placed bytes ms) marked.marks in
     record {
       blocks = h;
@@ -58,33 +59,33 @@ is_marking station stated bytes answers r m found made end are all last none is 
       told = told ∙ marked.told;
       unrefused = ap (λ (rs : List Recognized). refusal stated (length h + 1) rs) told
           ∙ ap (λ (n : ℕ). refusal stated n m.stations.items)
-          (sym (last_is station stated h r end are.kept last))
+          (sym (last_is beginnings stated h r end are.kept last))
           ∙ ap (λ (st : Said). refusal st end m.stations.items) (sym marked.same) ∙ none;
     }
 
 -- The stations are refused.
-pub is_refused : (station : Option (List ℕ)) (stated : Said) (answers : FileAnswers)
-    (r : Readings) (m : Marking) (flaw : Flaw) (end : ℕ) → AreReadings station stated answers r
+pub is_refused : (beginnings : Beginnings) (stated : Said) (answers : FileAnswers)
+    (r : Readings) (m : Marking) (flaw : Flaw) (end : ℕ) → AreReadings beginnings stated answers r
     → AllMarked r m → end ≡ r.blocks + 1 → refusal (said_in m.stated) end m.stations.items ≡ Some flaw
-    → IsRefused station stated answers flaw m.stations.items
-is_refused station stated answers r m flaw end are all last is =
+    → IsRefused beginnings stated answers flaw m.stations.items
+is_refused beginnings stated answers r m flaw end are all last is =
     let h = are.blocks in
-    let marked = all station stated h are.kept in
+    let marked = all beginnings stated h are.kept in
     record {
       blocks = h;
       are_blocks = are.are_blocks;
       clean = are.clean;
       told_is = marked.told;
       fault_is = ap (λ (n : ℕ). refusal stated n m.stations.items)
-          (sym (last_is station stated h r end are.kept last))
+          (sym (last_is beginnings stated h r end are.kept last))
           ∙ ap (λ (st : Said). refusal st end m.stations.items) (sym marked.same) ∙ is;
     }
 
 -- A fault of the lines or of a block.
-pub refused_before : (station : Option (List ℕ)) (stated : Said) (bytes : List ℕ)
-    (answers : FileAnswers) (e : MarkFault) → AnswersReadings station stated answers (Err e)
-    → AnswersMark station stated bytes answers (Err (refused.File e))
-refused_before station stated bytes answers e fault = fault
+pub refused_before : (beginnings : Beginnings) (stated : Said) (bytes : List ℕ)
+    (answers : FileAnswers) (e : MarkFault) → AnswersReadings beginnings stated answers (Err e)
+    → AnswersMark beginnings stated bytes answers (Err (refused.File e))
+refused_before beginnings stated bytes answers e fault = fault
 
 -- A copy, or why there is none.
 pub ruleset as_answered = (is_marking, is_refused, refused_before)

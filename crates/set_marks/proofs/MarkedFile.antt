@@ -8,6 +8,7 @@ use Rattle.adjust_kernel.specs.Names.{IsName}
 use Rattle.station_book.specs.Limits.{FaceLimits}
 use Rattle.station_book.specs.Places.{History}
 use Rattle.station_book.specs.Faults.{fault_at_end}
+use Rattle.set_marks.specs.declared.beginnings.Beginnings.{Beginnings}
 use Rattle.set_marks.specs.Numbers.{Said}
 use Rattle.set_marks.specs.declared.sight.Sight.{Sight}
 use Rattle.set_marks.specs.Stations.{stations_of, fault_of_blocks}
@@ -31,33 +32,33 @@ use Rattle.set_marks.proofs.OwnFaults.{clean_blocks}
 use Rattle.set_marks.proofs.MarkedWalks.{found_as_marked, none_of_codes, none_at_end}
 
 -- The blocks of a copy are marked station by station and set by set, as the division says.
-pub record IsCopyMarked (station : Option (List ℕ)) (stated : Said) (h : History)
+pub record IsCopyMarked (beginnings : Beginnings) (stated : Said) (h : History)
     : Type 0 where
   pub before : List GsiBlock
   pub stations : List MarkedStation
-  pub blocks : copy_blocks station stated h ≡ marked_blocks before stations
-  pub told : in_file station stated h ≡ told_of before stations
+  pub blocks : copy_blocks beginnings stated h ≡ marked_blocks before stations
+  pub told : in_file beginnings stated h ≡ told_of before stations
   pub plain : HaveNoCode before
   pub are : AreMarkedStations [] stations
-  pub up : AreUp 1 (marks_of station stated h)
+  pub up : AreUp 1 (marks_of beginnings stated h)
 
 -- The blocks of the copy of a file without a fault of its blocks are.
-pub copy_marked : (station : Option (List ℕ)) (stated : Said) (lines : List (List ℕ))
-    (h : History) → AllZip IsBlock lines (reverse h) → IfSome station IsName
-    → fault_of_blocks station h ≡ None → IsCopyMarked station stated h
-copy_marked station stated lines h zip is fault =
-    let clean = clean_blocks station h fault in
+pub copy_marked : (beginnings : Beginnings) (stated : Said) (lines : List (List ℕ))
+    (h : History) → AllZip IsBlock lines (reverse h) → IfSome beginnings.station IsName
+    → fault_of_blocks beginnings h ≡ None → IsCopyMarked beginnings stated h
+copy_marked beginnings stated lines h zip is fault =
+    let clean = clean_blocks beginnings h fault in
     let bs = reverse h in
-    let ss = stations_of station h in
-    let js = judged_of station stated h in
-    let ms = marks_of station stated h in
+    let ss = stations_of beginnings h in
+    let js = judged_of beginnings stated h in
+    let ms = marks_of beginnings stated h in
     let all : sights_from 1 bs ≡ sights_in js =
-    sym (same_sights stated none_before ss ∙ all_are_read station h clean.stations
+    sym (same_sights stated none_before ss ∙ all_are_read beginnings h clean.stations
     ∙ sights_in_order h) in
     let s = split_at [] (sights_in js) 1 bs clean.blocks all in
     let next = 1 + length s.group in
     let done = stations_done false [] js next s.rest s.ready s.clean_rest s.there
-    (all_sound stated none_before ss (bare_names station lines h zip is)) in
+    (all_sound stated none_before ss (bare_names beginnings lines h zip is)) in
     let from = from_readings next s.rest ms
     (subst (λ (rs : List Sight). AreMarksOf rs ms) (sym s.there) (of_stations false js)) in
     let before = s.group ++ done.outside in
@@ -79,30 +80,30 @@ copy_marked station stated lines h zip is fault =
     }
 
 -- Each reading is found where the division puts it.
-pub found_as_divided : (station : Option (List ℕ)) (stated : Said) (lines : List (List ℕ))
-    (h : History) → AllZip IsBlock lines (reverse h) → IfSome station IsName
-    → fault_of_blocks station h ≡ None
-    → found_in (copy_history station stated h) ≡ in_file station stated h
-found_as_divided station stated lines h zip is fault =
-    let c = copy_marked station stated lines h zip is fault in
+pub found_as_divided : (beginnings : Beginnings) (stated : Said) (lines : List (List ℕ))
+    (h : History) → AllZip IsBlock lines (reverse h) → IfSome beginnings.station IsName
+    → fault_of_blocks beginnings h ≡ None
+    → found_in (copy_history beginnings stated h) ≡ in_file beginnings stated h
+found_as_divided beginnings stated lines h zip is fault =
+    let c = copy_marked beginnings stated lines h zip is fault in
     ap (λ (bs : List GsiBlock). found_in (grown [] bs)) c.blocks
     ∙ found_as_marked c.before c.stations c.plain c.are ∙ sym c.told
 
 -- No block of the copy has a fault that comes of the code lines.
-pub no_fault_of_codes : (limits : FaceLimits) (station : Option (List ℕ)) (stated : Said)
+pub no_fault_of_codes : (limits : FaceLimits) (beginnings : Beginnings) (stated : Said)
     (lines : List (List ℕ)) (h : History) → AllZip IsBlock lines (reverse h)
-    → IfSome station IsName → fault_of_blocks station h ≡ None
-    → HasNoFaultOfCodes limits (copy_history station stated h)
-no_fault_of_codes limits station stated lines h zip is fault =
-    let c = copy_marked station stated lines h zip is fault in
+    → IfSome beginnings.station IsName → fault_of_blocks beginnings h ≡ None
+    → HasNoFaultOfCodes limits (copy_history beginnings stated h)
+no_fault_of_codes limits beginnings stated lines h zip is fault =
+    let c = copy_marked beginnings stated lines h zip is fault in
     subst (λ (bs : List GsiBlock). HasNoFaultOfCodes limits (grown [] bs)) (sym c.blocks)
     (none_of_codes limits c.before c.stations c.plain c.are)
 
 -- The end of the copy has no fault.
-pub no_fault_at_end : (station : Option (List ℕ)) (stated : Said) (lines : List (List ℕ))
-    (h : History) → AllZip IsBlock lines (reverse h) → IfSome station IsName
-    → fault_of_blocks station h ≡ None → fault_at_end (copy_history station stated h) ≡ None
-no_fault_at_end station stated lines h zip is fault =
-    let c = copy_marked station stated lines h zip is fault in
+pub no_fault_at_end : (beginnings : Beginnings) (stated : Said) (lines : List (List ℕ))
+    (h : History) → AllZip IsBlock lines (reverse h) → IfSome beginnings.station IsName
+    → fault_of_blocks beginnings h ≡ None → fault_at_end (copy_history beginnings stated h) ≡ None
+no_fault_at_end beginnings stated lines h zip is fault =
+    let c = copy_marked beginnings stated lines h zip is fault in
     ap (λ (bs : List GsiBlock). fault_at_end (grown [] bs)) c.blocks
     ∙ none_at_end c.before c.stations c.plain c.are

@@ -19,18 +19,19 @@ use Rattle.station_book.specs.Places.{History, is_empty}
 use Rattle.station_book.specs.Faults.{first_of}
 use Rattle.station_book.specs.Readings.{own_faults, face_of}
 use Rattle.station_book.proofs.readings.CleanBlocks.{all_none, none_when}
+use Rattle.set_marks.specs.declared.beginnings.Beginnings.{Beginnings}
 use Rattle.set_marks.specs.declared.fault.MarkFault.{MarkFault}
 use Rattle.set_marks.specs.declared.fault.MarkFault.TheVariants.{Reading, At}
 use Rattle.set_marks.specs.declared.fault.MarkKind.TheVariants as kinds
-use Rattle.set_marks.specs.Stations.{SetUp, begun, is_stated, reading_fault, fault_as, is_two_lines}
+use Rattle.set_marks.specs.Stations.{SetUp, begun, reading_fault, fault_as, is_two_lines}
 use Rattle.set_marks.specs.Stations.{own_fault, fault_of_blocks}
 use Rattle.set_marks.proofs.ReadingBlocks.{IsClean}
 use Rattle.set_marks.proofs.StationReadings.{HasStation, HaveStations}
 
 -- What is true of one such block.
-record IsFree (station : Option (List ℕ)) (past : History) (b : GsiBlock) : Type 0 where
+record IsFree (beginnings : Beginnings) (past : History) (b : GsiBlock) : Type 0 where
   pub clean : IsClean b
-  pub has_station : HasStation station past b
+  pub has_station : HasStation beginnings past b
 
 has_face : (b : GsiBlock) → is_none (face_of (angles b).zenith) ≡ false
     → (is_of_face One b || is_of_face Two b) ≡ true
@@ -57,25 +58,25 @@ reading_is_free (s ∷ ss) number b e =
       none_mapped None e = refl
       none_mapped (Some k) e = cc
 
-free_as : (r : Role) (stated : Bool) (ss : List SetUp) (number : ℕ) (b : GsiBlock)
-    → fault_as r stated ss number b ≡ None
+free_as : (r : Role) (beginnings : Beginnings) (ss : List SetUp) (number : ℕ) (b : GsiBlock)
+    → fault_as r beginnings ss number b ≡ None
     → ((is_station r || (is_set_code r || is_close r)) ≡ false)
     × ((is_measurement r && not (lacks 21 b)) ≡ true
     → (is_empty ss ≡ false) × ((is_of_face One b || is_of_face Two b) ≡ true))
-free_as roles.Station stated ss number b e = cc
-free_as roles.Set stated ss number b e = cc
-free_as roles.Close stated ss number b e = cc
-free_as roles.Measurement stated ss number b e = (
+free_as roles.Station beginnings ss number b e = cc
+free_as roles.Set beginnings ss number b e = cc
+free_as roles.Close beginnings ss number b e = cc
+free_as roles.Measurement beginnings ss number b e = (
   refl,
   λ sees. reading_is_free ss number b
       (rw (not-true (lacks 21 b) sees) at e),
 )
-free_as roles.Other stated ss number b e = (refl, λ sees. absurd (false≢true sees))
+free_as roles.Other beginnings ss number b e = (refl, λ sees. absurd (false≢true sees))
 
-is_free : (station : Option (List ℕ)) (past : History) (b : GsiBlock)
-    → own_fault station past b ≡ None → IsFree station past b
-is_free station past b e =
-    let f = free_as (role_of b) (is_stated station) (begun station past) (length past + 1) b
+is_free : (beginnings : Beginnings) (past : History) (b : GsiBlock)
+    → own_fault beginnings past b ≡ None → IsFree beginnings past b
+is_free beginnings past b e =
+    let f = free_as (role_of b) beginnings (begun beginnings past) (length past + 1) b
     (one_line (is_two_lines b) _ e) in
     record {
       clean = record { plain = f.0; faced = λ sees. (f.1 sees).1 };
@@ -87,9 +88,9 @@ is_free station past b e =
       one_line false o e = e
 
 -- What is true of all.
-pub record CleanBlocks (station : Option (List ℕ)) (h : History) : Type 0 where
+pub record CleanBlocks (beginnings : Beginnings) (h : History) : Type 0 where
   pub blocks : AllByRecursion IsClean (reverse h)
-  pub stations : HaveStations station h
+  pub stations : HaveStations beginnings h
 
 all_both : (bs cs : List GsiBlock) → AllByRecursion IsClean bs → AllByRecursion IsClean cs
     → AllByRecursion IsClean (bs ++ cs)
@@ -98,13 +99,13 @@ all_both (x ∷ bs) cs a b = (a.0, all_both bs cs a.1 b)
 
 -- Where no block has a fault by itself, none has a code, each reading has a face, and each stands
 -- after the begin of a station.
-pub clean_blocks : (station : Option (List ℕ)) (h : History) → fault_of_blocks station h ≡ None
-    → CleanBlocks station h
-clean_blocks station [] e = record { blocks = tt; stations = tt }
-clean_blocks station (b ∷ past) e =
-    let none = all_none (fault_of_blocks station past ∷ own_fault station past b ∷ []) e in
-    let old = clean_blocks station past none.0 in
-    let new = is_free station past b none.1.0 in
+pub clean_blocks : (beginnings : Beginnings) (h : History) → fault_of_blocks beginnings h ≡ None
+    → CleanBlocks beginnings h
+clean_blocks beginnings [] e = record { blocks = tt; stations = tt }
+clean_blocks beginnings (b ∷ past) e =
+    let none = all_none (fault_of_blocks beginnings past ∷ own_fault beginnings past b ∷ []) e in
+    let old = clean_blocks beginnings past none.0 in
+    let new = is_free beginnings past b none.1.0 in
     record {
       blocks = subst (λ (bs : List GsiBlock). AllByRecursion IsClean bs)
           (sym (reverse-append (b ∷ []) past))

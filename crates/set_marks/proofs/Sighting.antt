@@ -1,7 +1,7 @@
 -- A reading as the division into sets sees it.
-use Rattle.std.proofs.Common.{◌≡◌, ℕ, Bool, true, false, List, [], ◌∷◌, ◌++◌, Option, Some, None}
+use Rattle.std.proofs.Common.{◌≡◌, ℕ, true, false, List, [], ◌∷◌, ◌++◌, Option, Some, None}
 use Rattle.std.proofs.Common.{refl, sym, ap, ◌∙◌, inl, inr}
-use Rattle.std.specs.Prelude.{◌==◌, ◌&&◌, not, nat_lt, Ok}
+use Rattle.std.specs.Prelude.{◌==◌, ◌&&◌, nat_lt, Ok}
 use Rattle.std.proofs.lemmas.Bool.{cases_Bool}
 use Rattle.std.proofs.lemmas.List.{append-nil}
 use Rattle.gsi_word.specs.Blocks.{GsiBlock}
@@ -9,15 +9,19 @@ use Rattle.station_book.specs.declared.bounds.TheConstants.{CIRCLE, HALF_CIRCLE}
 use Rattle.station_book.specs.declared.angles.Reading.{Reading}
 use Rattle.station_book.specs.declared.fault.BookKind.{BookKind}
 use Rattle.station_book.specs.declared.face.Face.TheVariants.{Two}
-use Rattle.station_book.specs.declared.role.Role.TheVariants.{Measurement}
-use Rattle.station_book.specs.Blocks.{role_of, lacks, has_direction, is_measurement, target}
+use Rattle.station_book.specs.declared.role.Role.TheVariants.{Measurement, Other}
+use Rattle.station_book.specs.Blocks.{role_of, lacks, has_direction}
 use Rattle.station_book.specs.Blocks.{is_of_face, angles}
 use Rattle.station_book.specs.Faults.{first_of}
 use Rattle.station_book.specs.Readings.{read, reading, own_faults, unless_fault}
+use Rattle.set_marks.specs.declared.beginnings.Beginnings.{Beginnings}
 use Rattle.set_marks.specs.declared.readings.Readings.{Readings}
 use Rattle.set_marks.specs.declared.sight.Sight.{Sight}
-use Rattle.set_marks.specs.Stations.{sets_up, sight_in}
-use Rattle.set_marks.specs.Keeping.{Adds, Ends}
+use Rattle.set_marks.specs.Stations.{SetUp, sight_in, tells_set_up, begins_named, is_two_lines}
+use Rattle.set_marks.specs.Stations.{fault_as, block_fault}
+use Rattle.set_marks.specs.Keeping.{Adds}
+use Rattle.set_marks.proofs.SetUps.{reading_names_none, measurement_names_none, other_names_none}
+use Rattle.set_marks.proofs.SetUps.{named_none, no_set_up_fault}
 
 is_second : (b : GsiBlock) → is_of_face Two b
     ≡ (nat_lt HALF_CIRCLE (angles b).zenith && nat_lt (angles b).zenith CIRCLE)
@@ -49,16 +53,9 @@ with_direction b r e = elim (cases_Bool (lacks 21 b)) [
   | inr h ↦ h
 ]
 
--- It sets nothing up.
-no_set_up : (stated : Bool) (b : GsiBlock) → lacks 21 b ≡ false → (not stated && sets_up b) ≡ false
-no_set_up true b h = refl
-no_set_up false b h = rw h (by (is_measurement (role_of b))) where
-  by : (m : Bool) → (m && false) ≡ false
-  by true = refl
-  by false = refl
-
 -- What is kept with a reading more.
-pub adds_sight : (stated : Bool) (b : GsiBlock) (number : ℕ) (old new : Readings) (r : Reading)
+pub adds_sight : (beginnings : Beginnings) (b : GsiBlock) (number : ℕ) (old new : Readings)
+    (r : Reading)
     → role_of b ≡ Measurement → read b ≡ Ok (Some r)
     → new.station ≡ old.station → new.marking ≡ old.marking
     → new.sights.items ≡ old.sights.items ++ record {
@@ -66,43 +63,83 @@ pub adds_sight : (stated : Bool) (b : GsiBlock) (number : ℕ) (old new : Readin
       wide = b.width == 16;
       target = r.target;
       second = nat_lt HALF_CIRCLE r.angles.zenith && nat_lt r.angles.zenith CIRCLE;
-    } ∷ [] → new.blocks ≡ number → Adds stated b number old new
-adds_sight stated b number old new r role e station marking sights blocks = record {
-  adds = rw (no_set_up stated b (with_direction b r e)) (record {
-    station = station;
-    sights = sights ∙ ap (λ (l : List Sight). old.sights.items ++ l)
-        (sym (sight_is number b r role e));
-    marking = marking;
-  });
-  blocks = blocks;
-}
+    } ∷ [] → new.blocks ≡ number → Adds beginnings b number old new
+adds_sight beginnings b number old new r role e station marking sights blocks =
+    let sees : has_direction b ≡ true = rw (role, with_direction b r e) refl in
+    let none = named_none beginnings old.station b (reading_names_none beginnings b sees) in
+    record {
+      adds = rw none (record {
+        station = station;
+        sights = sights ∙ ap (λ (l : List Sight). old.sights.items ++ l)
+            (sym (sight_is number b r role e));
+        marking = marking;
+      });
+      blocks = blocks;
+    }
 
-no_set_up_line : (stated : Bool) (b : GsiBlock) → sets_up b ≡ false → (not stated && sets_up b)
-    ≡ false
-no_set_up_line true b e = refl
-no_set_up_line false b e = e
+-- A measurement that says no reading has no direction.
+pub undirected : (b : GsiBlock) → read b ≡ Ok None → lacks 21 b ≡ true
+undirected b e = elim (cases_Bool (lacks 21 b)) [
+  | inl h ↦ h
+  | inr h ↦
+      absurd (by (first_of (own_faults b)) (rw h at e))
+] where
+  by : (o : Option BookKind) → unless_fault o (reading b) ≡ Ok None → ⊥
+  by None f = cc
+  by (Some k) f = cc
+
+-- Such a measurement is no reading.
+pub no_sight : (b : GsiBlock) → role_of b ≡ Measurement → read b ≡ Ok None
+    → has_direction b ≡ false
+no_sight b role e = rw (role, undirected b e) refl
 
 -- What is kept with a block more that is no reading and begins no station.
-pub adds_none : (stated : Bool) (b : GsiBlock) (number : ℕ) (old new : Readings)
-    → has_direction b ≡ false → sets_up b ≡ false
+adds_none : (beginnings : Beginnings) (b : GsiBlock) (number : ℕ) (old new : Readings)
+    → has_direction b ≡ false → begins_named beginnings b ≡ None
     → new.station ≡ old.station → new.marking ≡ old.marking
     → new.sights.items ≡ old.sights.items
-    → new.blocks ≡ number → Adds stated b number old new
-adds_none stated b number old new e sets station marking sights blocks = record {
-  adds = rw (no_set_up_line stated b sets) (record {
+    → new.blocks ≡ number → Adds beginnings b number old new
+adds_none beginnings b number old new e none station marking sights blocks = record {
+  adds = rw (named_none beginnings old.station b none) (record {
     station = station;
     sights = sights ∙ sym (ap (λ (l : List Sight). old.sights.items ++ l)
-        (let none : sight_in number b ≡ [] = rw e refl in none) ∙ append-nil old.sights.items);
+        (let no : sight_in number b ≡ [] = rw e refl in no) ∙ append-nil old.sights.items);
     marking = marking;
   });
   blocks = blocks;
 }
 
--- What is kept with a block more that begins a station.
-pub adds_station : (b : GsiBlock) (number : ℕ) (old new : Readings) → sets_up b ≡ true
-    → new.station ≡ Some (target b) → new.sights.items ≡ [] → Ends old new → new.blocks ≡ number
-    → Adds false b number old new
-adds_station b number old new sets station sights ends blocks = record {
-  adds = rw sets (record { station = station; sights = sights; ends = ends });
-  blocks = blocks;
-}
+-- A measurement that says no reading and sets no station up has no fault.
+pub passed_clean : (beginnings : Beginnings) (ss : List SetUp) (number : ℕ) (b : GsiBlock)
+    → role_of b ≡ Measurement → read b ≡ Ok None → tells_set_up b ≡ false
+    → fault_as Measurement beginnings ss number b ≡ None
+passed_clean beginnings ss number b role e tells = rw (undirected b e)
+    (no_set_up_fault beginnings number b (measurement_names_none beginnings b role tells))
+
+-- What is kept with such a measurement more.
+pub adds_passed : (beginnings : Beginnings) (b : GsiBlock) (number : ℕ) (old new : Readings)
+    → role_of b ≡ Measurement → read b ≡ Ok None → tells_set_up b ≡ false
+    → new.station ≡ old.station → new.marking ≡ old.marking
+    → new.sights.items ≡ old.sights.items
+    → new.blocks ≡ number → Adds beginnings b number old new
+adds_passed beginnings b number old new role e tells station marking sights blocks =
+    adds_none beginnings b number old new (no_sight b role e)
+    (measurement_names_none beginnings b role tells) station marking sights blocks
+
+-- A block that is neither a measurement nor of code 10, 20 or 30 has no fault where no code is
+-- stated.
+pub other_clean : (beginnings : Beginnings) (ss : List SetUp) (number : ℕ) (b : GsiBlock)
+    → is_two_lines b ≡ false → role_of b ≡ Other → beginnings.code ≡ None
+    → block_fault beginnings ss number b ≡ None
+other_clean beginnings ss number b one role code = rw (one, role)
+    (no_set_up_fault beginnings number b (other_names_none beginnings b role code))
+
+-- What is kept with such a block more.
+pub adds_other : (beginnings : Beginnings) (b : GsiBlock) (number : ℕ) (old new : Readings)
+    → role_of b ≡ Other → beginnings.code ≡ None
+    → new.station ≡ old.station → new.marking ≡ old.marking
+    → new.sights.items ≡ old.sights.items
+    → new.blocks ≡ number → Adds beginnings b number old new
+adds_other beginnings b number old new role code station marking sights blocks =
+    adds_none beginnings b number old new (rw role refl)
+    (other_names_none beginnings b role code) station marking sights blocks

@@ -6,11 +6,12 @@ use Rattle.std.specs.List.{AllByRecursion}
 use Rattle.std.proofs.lemmas.Bool.{cases_Bool, false≢true}
 use Rattle.std.proofs.lemmas.List.{append-nil, length-append, drop-drop, take-append-drop}
 use Rattle.gsi_word.specs.Blocks.{GsiBlock}
-use Rattle.station_book.specs.Blocks.{has_direction, target}
+use Rattle.station_book.specs.Blocks.{has_direction}
 use Rattle.station_book.specs.Places.{History, is_empty}
+use Rattle.set_marks.specs.declared.beginnings.Beginnings.{Beginnings}
 use Rattle.set_marks.specs.declared.sight.Sight.{Sight}
-use Rattle.set_marks.specs.Stations.{SetUp, sets_up, sight_in, sights_of, set_up_in, set_ups_of}
-use Rattle.set_marks.specs.Stations.{occupations, begun, stations_of}
+use Rattle.set_marks.specs.Stations.{SetUp, sight_in, sights_of, begins_after, set_up_of, open_name}
+use Rattle.set_marks.specs.Stations.{set_ups_of, occupations, stated_or, begun, stations_of}
 use Rattle.set_marks.proofs.MarkedStations.{all_sights}
 
 -- each begins no later than the next
@@ -49,56 +50,68 @@ record AreInOrder (ss : List SetUp) (rs : List Sight) : Type 0 where
   pub first : BeginFirst ss rs
 
 -- A reading stands after the begin of a station.
-abbrev pub HasStation : Option (List ℕ) → History → GsiBlock → Type 0
-HasStation station past b = has_direction b ≡ true → is_empty (begun station past) ≡ false
+abbrev pub HasStation : Beginnings → History → GsiBlock → Type 0
+HasStation beginnings past b = has_direction b ≡ true → is_empty (begun beginnings past) ≡ false
 
 -- each reading does
-abbrev pub HaveStations : Option (List ℕ) → History → Type 0
-HaveStations station [] = ⊤
-HaveStations station (b ∷ past) = HasStation station past b × HaveStations station past
+abbrev pub HaveStations : Beginnings → History → Type 0
+HaveStations beginnings [] = ⊤
+HaveStations beginnings (b ∷ past) = HasStation beginnings past b × HaveStations beginnings past
 
-in_order : (h : History) → HaveStations None h → AreInOrder (set_ups_of h) (sights_of h)
-in_order [] have = record { up = tt; by = tt; first = refl }
-in_order (b ∷ past) have =
-    let old = in_order past have.1 in
+in_order : (beginnings : Beginnings) (h : History) → beginnings.station ≡ None
+    → HaveStations beginnings h → AreInOrder (set_ups_of beginnings h) (sights_of h)
+in_order beginnings [] unstated have = record { up = tt; by = tt; first = refl }
+in_order beginnings (b ∷ past) unstated have =
+    let old = in_order beginnings past unstated have.1 in
     let rs = sights_of past in
     let more = sight_in (length past + 1) b in
-    let ss = set_ups_of past in
+    let ss = set_ups_of beginnings past in
     let long : length rs ≤ length (rs ++ more) = omega (arith, length-append rs more) in
-    elim (cases_Bool (sets_up b)) [
-      | inl h ↦
-          let new : SetUp = record { name = target b; from = length rs } in
-          let one : set_up_in (length rs) b ≡ new ∷ [] = rw h refl in
-          subst (λ (ts : List SetUp). AreInOrder (ss ++ ts) (rs ++ more)) (sym one) (record {
-            up = one_more ss new old.up old.by;
-            by = by_both (length (rs ++ more)) ss (new ∷ [])
-                (by_more (length rs) (length (rs ++ more)) ss long old.by) (long, tt);
-            first = begins ss new (ap (λ (xs : List Sight). length xs)) old.first;
-          })
-      | inr h ↦
-          let none : set_up_in (length rs) b ≡ [] = rw h refl in
-          subst (λ (ts : List SetUp). AreInOrder (ss ++ ts) (rs ++ more)) (sym none)
-          (subst (λ (ts : List SetUp). AreInOrder ts (rs ++ more)) (sym (append-nil ss)) (record {
-            up = old.up;
-            by = by_more (length rs) (length (rs ++ more)) ss long old.by;
-            first = stays ss refl old.first;
-          }))
-    ] where
+    next (begins_after beginnings (open_name ss) b) old long where
       begins : (ss : List SetUp) (new : SetUp)
           → (sights_of past ≡ [] → length (sights_of past) ≡ length {A = Sight} [])
-          → BeginFirst ss (sights_of past)
-          → BeginFirst (ss ++ record { name = target b; from = length (sights_of past) } ∷ [])
-          (sights_of past ++ sight_in (length past + 1) b)
-      begins [] new count first = count first
-      begins (s ∷ ss) new count first = first
+          → BeginFirst ss (sights_of past) → new.from ≡ length (sights_of past)
+          → BeginFirst (ss ++ new ∷ []) (sights_of past ++ sight_in (length past + 1) b)
+      begins [] new count first from = from ∙ count first
+      begins (s ∷ ss) new count first from = first
 
-      stays : (ss : List SetUp) → set_ups_of past ≡ ss → BeginFirst ss (sights_of past)
+      stays : (ss : List SetUp) → set_ups_of beginnings past ≡ ss
+          → BeginFirst ss (sights_of past)
           → BeginFirst ss (sights_of past ++ sight_in (length past + 1) b)
       stays [] is first = elim (cases_Bool (has_direction b)) [
-        | inl h ↦ absurd (false≢true (sym (have.0 h) ∙ ap (λ (ts : List SetUp). is_empty ts) is))
+        | inl h ↦ absurd (false≢true (sym (have.0 h)
+            ∙ ap (λ (s : Option (List ℕ)).
+            is_empty (stated_or s (set_ups_of beginnings past))) unstated
+            ∙ ap (λ (ts : List SetUp). is_empty ts) is))
         | inr h ↦ rw (first, h) refl
       ]
       stays (s ∷ ss) is first = first
+
+      next : (name : Option (List ℕ))
+          → AreInOrder (set_ups_of beginnings past) (sights_of past)
+          → length (sights_of past) ≤ length (sights_of past ++ sight_in (length past + 1) b)
+          → AreInOrder (set_ups_of beginnings past ++ set_up_of (length (sights_of past)) name)
+          (sights_of past ++ sight_in (length past + 1) b)
+      next (Some name) old long =
+          let rs = sights_of past in
+          let more = sight_in (length past + 1) b in
+          let ss = set_ups_of beginnings past in
+          let new : SetUp = record { name = name; from = length rs } in
+          record {
+            up = one_more ss new old.up old.by;
+            by = by_both (length (rs ++ more)) ss (new ∷ [])
+                (by_more (length rs) (length (rs ++ more)) ss long old.by) (long, tt);
+            first = begins ss new (ap (λ (xs : List Sight). length xs)) old.first refl;
+          }
+      next None old long =
+          let rs = sights_of past in
+          let more = sight_in (length past + 1) b in
+          let ss = set_ups_of beginnings past in
+          subst (λ (ts : List SetUp). AreInOrder ts (rs ++ more)) (sym (append-nil ss)) (record {
+            up = old.up;
+            by = by_more (length rs) (length (rs ++ more)) ss long old.by;
+            first = stays ss refl old.first;
+          })
 
 all_from : (s : SetUp) (later : List SetUp) (rs : List Sight) → AreAscending (s ∷ later)
     → all_sights (occupations (s ∷ later) rs) ≡ drop s.from rs
@@ -118,7 +131,12 @@ all_of (s ∷ later) rs is = all_from s later rs is.up
     ∙ ap (λ (k : ℕ). drop k rs) is.first
 
 -- Where each reading stands after the begin of a station, the readings of the stations are all.
-pub all_are_read : (station : Option (List ℕ)) (h : History) → HaveStations station h
-    → all_sights (stations_of station h) ≡ sights_of h
-all_are_read (Some name) h have = append-nil (sights_of h)
-all_are_read None h have = all_of (set_ups_of h) (sights_of h) (in_order h have)
+pub all_are_read : (beginnings : Beginnings) (h : History) → HaveStations beginnings h
+    → all_sights (stations_of beginnings h) ≡ sights_of h
+all_are_read beginnings h have = by beginnings.station refl where
+  by : (station : Option (List ℕ)) → beginnings.station ≡ station
+      → all_sights (occupations (stated_or station (set_ups_of beginnings h)) (sights_of h))
+      ≡ sights_of h
+  by (Some name) e = append-nil (sights_of h)
+  by None e =
+      all_of (set_ups_of beginnings h) (sights_of h) (in_order beginnings h e have)

@@ -17,12 +17,12 @@ use Rattle.gsi_file.specs.declared.file_fault.FileKind.TheVariants.{FileTooLong,
 use Rattle.gsi_file.specs.declared.file_fault.FileFault.TheVariants as file
 use Rattle.gsi_file.proofs.FirstBytes.{with_line, answers_line, answers_end}
 use Rattle.gsi_file.proofs.Finding.{file_too_long, line_too_long}
+use Rattle.set_marks.specs.declared.beginnings.Beginnings.{Beginnings}
 use Rattle.set_marks.specs.declared.fault.MarkFault.{MarkFault}
 use Rattle.set_marks.specs.declared.fault.MarkFault.TheVariants.{File, Reading, At, Memory}
 use Rattle.set_marks.specs.declared.readings.Readings.{Readings}
 use Rattle.set_marks.specs.Numbers.{Said}
 use Rattle.set_marks.specs.declared.walk.Walk.{Walk}
-use Rattle.set_marks.specs.Stations.{is_stated}
 use Rattle.set_marks.specs.Keeping.{AnswersReadings}
 use Rattle.set_marks.specs.LinePlaces.{IsUsedUp}
 use Rattle.set_marks.specs.Taking.{TakesPart, IsLineRefusal}
@@ -76,14 +76,14 @@ over_part left n used rest fails first short lt (inr two) inside fits =
     ∙ ap (λ (k : ℕ). answers_within (left - used) (drop k rest) fails) (omega (arith, e)))
 
 -- A part is taken.
-pub part_taken : (b : Bool) (station : Option (List ℕ)) (stated : Said)
+pub part_taken : (b : Bool) (beginnings : Beginnings) (stated : Said)
     (first answers next : FileAnswers)
     (at : ℕ) (part : List ℕ) (old new : Walk) → is_line part ≡ b
-    → TakesPart b (is_stated station) at part old new → new.number ≤ LONGEST_FILE
+    → TakesPart b beginnings at part old new → new.number ≤ LONGEST_FILE
     → answers ≡ with_line part next
-    → AreTaken station stated first (coming old.number answers) old.readings old.fault
-    → AreTaken station stated first (coming new.number next) new.readings new.fault
-part_taken true station stated first answers next at part old new line takes fits is taken =
+    → AreTaken beginnings stated first (coming old.number answers) old.readings old.fault
+    → AreTaken beginnings stated first (coming new.number next) new.readings new.fault
+part_taken true beginnings stated first answers next at part old new line takes fits is taken =
     let gives : GivesLine (coming old.number answers) (coming new.number next) new.number
     takes.block = record {
       line = part;
@@ -96,17 +96,17 @@ part_taken true station stated first answers next at part old new line takes fit
       limited = fits;
       after = refl;
     } in
-    line_taken station stated first (coming old.number answers)
+    line_taken beginnings stated first (coming old.number answers)
     (coming new.number next) old.readings
     new.readings old.fault new.fault new.number takes.block taken gives takes.fault takes.adds
-part_taken false station stated first answers next at part old new line takes fits is taken =
+part_taken false beginnings stated first answers next at part old new line takes fits is taken =
     let same : answers ≡ next = is ∙ ap (λ (t : Bool). record {
       lines = cond t (part ∷ next.lines) next.lines;
       last = next.last;
     }) line in
-    subst (λ (w : Walk). AreTaken station stated first (coming w.number next) w.readings w.fault)
+    subst (λ (w : Walk). AreTaken beginnings stated first (coming w.number next) w.readings w.fault)
     (sym takes)
-    (subst (λ (a : FileAnswers). AreTaken station stated first (coming old.number a) old.readings
+    (subst (λ (a : FileAnswers). AreTaken beginnings stated first (coming old.number a) old.readings
     old.fault) same taken)
 
 -- The last part of a file that ends.
@@ -118,64 +118,66 @@ last_part left rest plain short fits = answers_end left rest plain short fits
 at_end : (number : ℕ) → GivesEnd (coming number (only None)) (coming number (only None))
 at_end number = record { here = refl; after = refl }
 
-pub whole_taken : (station : Option (List ℕ)) (stated : Said) (first : FileAnswers) (number : ℕ)
+pub whole_taken : (beginnings : Beginnings) (stated : Said) (first : FileAnswers) (number : ℕ)
     (r : Readings)
-    → AreTaken station stated first (coming number (only None)) r None
-    → AnswersReadings station stated first (Ok r)
-whole_taken station stated first number r taken = all_taken station stated first (coming number
-    (only None))
+    → AreTaken beginnings stated first (coming number (only None)) r None
+    → AnswersReadings beginnings stated first (Ok r)
+whole_taken beginnings stated first number r taken =
+    all_taken beginnings stated first (coming number (only None))
     (coming number (only None)) r taken (at_end number)
 
-pub fault_found : (station : Option (List ℕ)) (stated : Said) (first : FileAnswers) (number : ℕ)
+pub fault_found : (beginnings : Beginnings) (stated : Said) (first : FileAnswers) (number : ℕ)
     (r : Readings)
-    (e : MarkFault) → AreTaken station stated first (coming number (only None)) r (Some e)
-    → AnswersReadings station stated first (Err e)
-fault_found station stated first number r e taken = fault_taken station stated first (coming number
-    (only None))
+    (e : MarkFault) → AreTaken beginnings stated first (coming number (only None)) r (Some e)
+    → AnswersReadings beginnings stated first (Err e)
+fault_found beginnings stated first number r e taken =
+    fault_taken beginnings stated first (coming number (only None))
     (coming number (only None)) r e taken (at_end number)
 
 -- A fault of the file comes.
-pub refused_for : (station : Option (List ℕ)) (stated : Said) (first answers : FileAnswers)
+pub refused_for : (beginnings : Beginnings) (stated : Said) (first answers : FileAnswers)
     (number : ℕ)
     (r : Readings) (f : Option MarkFault) (kind : FileKind) → number + 1 ≤ LONGEST_FILE
-    → answers ≡ only (Some kind) → AreTaken station stated first (coming number answers) r f
-    → AnswersReadings station stated first (Err (File (file.At (number + 1) kind)))
-refused_for station stated first answers number r f kind fits is taken =
-    file_fault station stated first (coming number answers) (coming number (only (Some kind))) r f
-    (number + 1) kind taken
+    → answers ≡ only (Some kind) → AreTaken beginnings stated first (coming number answers) r f
+    → AnswersReadings beginnings stated first (Err (File (file.At (number + 1) kind)))
+refused_for beginnings stated first answers number r f kind fits is taken =
+    file_fault beginnings stated first (coming number answers) (coming number (only (Some kind)))
+    r f (number + 1) kind taken
     (record { here = inl is; counted = refl; limited = fits; after = refl })
 
 -- The next line has a fault.
-pub refused_at : (station : Option (List ℕ)) (stated : Said) (first answers next : FileAnswers)
+pub refused_at : (beginnings : Beginnings) (stated : Said) (first answers next : FileAnswers)
     (number : ℕ)
     (part : List ℕ) (r : Readings) (f : Option MarkFault) (e : MarkFault)
     → number + 1 ≤ LONGEST_FILE → is_line part ≡ true → answers ≡ with_line part next
-    → IsLineRefusal part (number + 1) e → AreTaken station stated first (coming number answers) r f
-    → AnswersReadings station stated first (Err e)
-refused_at station stated first answers next number part r f (File
+    → IsLineRefusal part (number + 1) e
+    → AreTaken beginnings stated first (coming number answers) r f
+    → AnswersReadings beginnings stated first (Err e)
+refused_at beginnings stated first answers next number part r f (File
     (file.At n kind)) fits line is fault
     taken =
     let lines : answers.lines ≡ part ∷ next.lines =
     ap (λ (a : FileAnswers). a.lines) is
     ∙ ap (λ (t : Bool). cond t (part ∷ next.lines) next.lines) line in
-    subst (λ (k : ℕ). AnswersReadings station stated first (Err (File (file.At k kind))))
+    subst (λ (k : ℕ). AnswersReadings beginnings stated first (Err (File (file.At k kind))))
     (sym fault.0)
-    (file_fault station stated first (coming number answers) (coming number (only (Some kind))) r f
-    (number + 1) kind taken (record {
+    (file_fault beginnings stated first (coming number answers) (coming number (only (Some kind)))
+    r f (number + 1) kind taken (record {
       here = inr (part, next.lines, lines, fault.1);
       counted = refl;
       limited = fits;
       after = refl;
     }))
-refused_at station stated first answers next number part r f (File file.Memory) fits line is fault
+refused_at beginnings stated first answers next number part r f (File file.Memory) fits line is
+    fault taken =
+    absurd fault
+refused_at beginnings stated first answers next number part r f (Reading n kind) fits line is fault
     taken =
     absurd fault
-refused_at station stated first answers next number part r f (Reading n kind) fits line is fault
+refused_at beginnings stated first answers next number part r f (At n kind) fits line is fault
     taken =
     absurd fault
-refused_at station stated first answers next number part r f (At n kind) fits line is fault taken =
-    absurd fault
-refused_at station stated first answers next number part r f Memory fits line is fault taken = tt
+refused_at beginnings stated first answers next number part r f Memory fits line is fault taken = tt
 
 -- A limit is broken.
 abbrev told : Bool → Told
@@ -241,13 +243,14 @@ some_byte zero rest e = let f : false ≡ true = e in cc
 some_byte (suc n) rest e = omega arith
 
 -- A line takes two bytes.
-pub few_lines : (b stated : Bool) (at n used : ℕ) (rest : List ℕ) (old new : Walk)
-    → is_line (take n rest) ≡ b → TakesPart b stated at (take n rest) old new → n < used
+pub few_lines : (b : Bool) (beginnings : Beginnings) (at n used : ℕ) (rest : List ℕ)
+    (old new : Walk)
+    → is_line (take n rest) ≡ b → TakesPart b beginnings at (take n rest) old new → n < used
     → 2 * old.number ≤ at → 2 * new.number ≤ at + used
-few_lines true stated at n used rest old new line takes lt few =
+few_lines true beginnings at n used rest old new line takes lt few =
     let some = some_byte n rest line in
     let more = takes.number in
     omega (arith, some, more, lt, few)
-few_lines false stated at n used rest old new line takes lt few =
+few_lines false beginnings at n used rest old new line takes lt few =
     let same : new.number ≡ old.number = ap (λ (w : Walk). w.number) takes in
     omega (arith, same, lt, few)

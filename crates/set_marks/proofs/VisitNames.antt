@@ -57,8 +57,11 @@ read_so_is_name bytes e =
 pub name_is_read_so : (bytes : List ℕ) → IsName bytes
     → is_read_so bytes ≡ bytes_eq (name_of bytes) bytes
 name_is_read_so bytes is =
-    rw (le-leb 1 (length bytes) is.some, le-leb (length bytes) LONGEST_NAME is.short,
-    all_pass bytes is.printable) refl
+    rw (
+      le-leb 1 (length bytes) is.some,
+      le-leb (length bytes) LONGEST_NAME is.short,
+      all_pass bytes is.printable,
+    ) refl
 
 -- What is no name isn't read so.
 pub no_name_is_read_so : (bytes : List ℕ) → (IsName bytes → ⊥) → is_read_so bytes ≡ false

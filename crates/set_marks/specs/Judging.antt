@@ -5,6 +5,7 @@ use Rattle.std.specs.Prelude.{if◌then◌else◌, Option, Some, None, nat_le, n
 use Rattle.station_book.specs.declared.bounds.TheConstants.{MOST_STATIONS}
 use Rattle.station_book.specs.Places.{History, is_among, with_new}
 use Rattle.station_book.specs.Faults.{first_of}
+use Rattle.set_marks.specs.declared.beginnings.Beginnings.{Beginnings}
 use Rattle.set_marks.specs.declared.flaw.Flaw.{Flaw}
 use Rattle.set_marks.specs.declared.fault.MarkKind.TheVariants as kinds
 use Rattle.set_marks.specs.declared.division.Divided.{Divided}
@@ -149,5 +150,5 @@ judged_from stated before (s ∷ ss) =
     ∷ judged_from stated (names_past stated before s) ss
 
 -- The stations of a file, in its order, and what each is judged to be.
-abbrev pub judged_of : Option (List ℕ) → Said → History → List Judged
-judged_of station stated h = judged_from stated none_before (stations_of station h)
+abbrev pub judged_of : Beginnings → Said → History → List Judged
+judged_of beginnings stated h = judged_from stated none_before (stations_of beginnings h)

@@ -1,10 +1,10 @@
 -- What the code keeps of the blocks of a file, and what it answers on the way.
-use Rattle.std.specs.Prelude.{◌≡◌, ℕ, List, [], ◌∷◌, ◌++◌, length, Bool, true, false, not, ◌&&◌}
-use Rattle.std.specs.Prelude.{Option, Some, None, Result, Ok, Err, ⊤}
+use Rattle.std.specs.Prelude.{◌≡◌, ℕ, List, [], ◌∷◌, ◌++◌, length, false, if◌then◌else◌, Option}
+use Rattle.std.specs.Prelude.{Some, None, is_some, Result, Ok, Err, ⊤}
 use Rattle.gsi_word.specs.Blocks.{GsiBlock}
 use Rattle.gsi_file.specs.FileAnswers.{FileAnswers}
-use Rattle.station_book.specs.Blocks.{target}
-use Rattle.station_book.specs.Places.{History, is_empty}
+use Rattle.station_book.specs.Places.{History}
+use Rattle.set_marks.specs.declared.beginnings.Beginnings.{Beginnings}
 use Rattle.set_marks.specs.declared.fault.MarkFault.{MarkFault}
 use Rattle.set_marks.specs.declared.fault.MarkFault.TheVariants.{File, Reading, At, Memory}
 use Rattle.set_marks.specs.declared.readings.Readings.{Readings}
@@ -13,8 +13,8 @@ use Rattle.set_marks.specs.declared.marking.Marking.{Marking}
 use Rattle.set_marks.specs.declared.division.Divided.{Divided}
 use Rattle.set_marks.specs.declared.sight.Sight.{Sight}
 use Rattle.set_marks.specs.Numbers.{Said, said_in}
-use Rattle.set_marks.specs.Stations.{SetUp, Occupation, begun, sets_up, sight_in, fault_of_blocks}
-use Rattle.set_marks.specs.Stations.{stations_of}
+use Rattle.set_marks.specs.Stations.{SetUp, Occupation, begun, open_name, begins_after, sight_in}
+use Rattle.set_marks.specs.Stations.{fault_of_blocks, stations_of}
 use Rattle.set_marks.specs.Judging.{Before, none_before, names_after, judged_from}
 use Rattle.set_marks.specs.Marking.{marks_from, recognized_from, station_marks, is_open_after}
 use Rattle.set_marks.specs.Marking.{recognized}
@@ -64,9 +64,9 @@ Ends old new = (stated : Said) (ended : List Occupation)
     → AreMarkedFirst stated ended old.marking
     → AreMarkedFirst stated (ended ++ open_in old) new.marking
 
--- A block begins a station, and ends the one that was open.
-pub record BeginsStation (b : GsiBlock) (old new : Readings) : Type 0 where
-  pub station : new.station ≡ Some (target b)
+-- A block begins a station of this name, and ends the one that was open.
+pub record BeginsStation (name : List ℕ) (old new : Readings) : Type 0 where
+  pub station : new.station ≡ Some name
   pub sights : new.sights.items ≡ []
   pub ends : Ends old new
 
@@ -76,39 +76,45 @@ pub record AddsReading (b : GsiBlock) (number : ℕ) (old new : Readings) : Type
   pub sights : new.sights.items ≡ old.sights.items ++ sight_in number b
   pub marking : new.marking ≡ old.marking
 
--- the one or the other
-abbrev pub AddsTo : Bool → GsiBlock → ℕ → Readings → Readings → Type 0
-AddsTo true b number old new = BeginsStation b old new
-AddsTo false b number old new = AddsReading b number old new
+-- the one, where a block begins a station of this name, or the other
+abbrev pub AddsTo : Option (List ℕ) → GsiBlock → ℕ → Readings → Readings → Type 0
+AddsTo (Some name) b number old new = BeginsStation name old new
+AddsTo None b number old new = AddsReading b number old new
 
--- A block more is kept: the station that it sets up, unless one is stated, or its reading.
-pub record Adds (stated : Bool) (b : GsiBlock) (number : ℕ) (old new : Readings) : Type 0 where
-  pub adds : AddsTo (not stated && sets_up b) b number old new
+-- the name of the station that a block begins where one of this name is open, unless one is stated
+abbrev pub begins_in : Beginnings → Option (List ℕ) → GsiBlock → Option (List ℕ)
+begins_in beginnings current b =
+    if is_some beginnings.station then None else begins_after beginnings current b
+
+-- A block more is kept: the station that it begins, or its reading.
+pub record Adds (beginnings : Beginnings) (b : GsiBlock) (number : ℕ) (old new : Readings)
+    : Type 0 where
+  pub adds : AddsTo (begins_in beginnings old.station b) b number old new
   pub blocks : new.blocks ≡ number
 
 -- These blocks are kept: the stations that have ended, of whose sets this is stated, and the one
 -- that is open.
-pub record Keeps (station : Option (List ℕ)) (stated : Said) (h : History) (r : Readings)
+pub record Keeps (beginnings : Beginnings) (stated : Said) (h : History) (r : Readings)
     : Type 0 where
   pub ended : List Occupation
-  pub stations : stations_of station h ≡ ended ++ open_in r
+  pub stations : stations_of beginnings h ≡ ended ++ open_in r
   pub are_ended : AreMarkedFirst stated ended r.marking
-  pub begun : is_empty (begun_in r.station) ≡ is_empty (begun station h)
+  pub station : r.station ≡ open_name (begun beginnings h)
   pub blocks : r.blocks ≡ length h
 
 -- The blocks of the file are kept, and none has a fault by itself.
-pub record AreReadings (station : Option (List ℕ)) (stated : Said) (answers : FileAnswers)
+pub record AreReadings (beginnings : Beginnings) (stated : Said) (answers : FileAnswers)
     (r : Readings) : Type 0 where
   pub blocks : History
   pub are_blocks : AreBlocks answers blocks
-  pub clean : fault_of_blocks station blocks ≡ None
-  pub kept : Keeps station stated blocks r
+  pub clean : fault_of_blocks beginnings blocks ≡ None
+  pub kept : Keeps beginnings stated blocks r
 
 -- What is answered of the readings of a file.
-abbrev pub AnswersReadings : Option (List ℕ) → Said → FileAnswers → Result Readings MarkFault
+abbrev pub AnswersReadings : Beginnings → Said → FileAnswers → Result Readings MarkFault
     → Type 0
-AnswersReadings station stated answers (Ok r) = AreReadings station stated answers r
-AnswersReadings station stated answers (Err fault) = IsFault station answers fault
+AnswersReadings beginnings stated answers (Ok r) = AreReadings beginnings stated answers r
+AnswersReadings beginnings stated answers (Err fault) = IsFault beginnings answers fault
 
 -- A station more, which was set up under this name, is marked and told.
 pub record TakesStation (line : List ℕ) (s : Occupation) (d : Divided) (old new : Marking)

@@ -7,6 +7,7 @@ use Rattle.gsi_file.specs.Parts.{numbered_lines}
 use Rattle.station_book.specs.Limits.{FaceLimits}
 use Rattle.station_book.specs.Places.{History}
 use Rattle.station_book.specs.Faults.{fault_at_end}
+use Rattle.set_marks.specs.declared.beginnings.Beginnings.{Beginnings}
 use Rattle.set_marks.specs.declared.division.Divided.{Divided}
 use Rattle.set_marks.specs.declared.division.Divided.TheVariants.{Sets}
 use Rattle.set_marks.specs.declared.mark.BlockMark.{BlockMark}
@@ -30,12 +31,12 @@ with_codes marks n [] = []
 with_codes marks n (b ∷ bs) = codes_before marks n ++ (b ∷ with_codes marks (suc n) bs)
 
 -- the blocks of the copy of a file, in their order
-abbrev pub copy_blocks : Option (List ℕ) → Said → History → List GsiBlock
-copy_blocks station stated h = with_codes (marks_of station stated h) 1 (reverse h)
+abbrev pub copy_blocks : Beginnings → Said → History → List GsiBlock
+copy_blocks beginnings stated h = with_codes (marks_of beginnings stated h) 1 (reverse h)
 
 -- the history of the copy, whose newest block comes first
-abbrev pub copy_history : Option (List ℕ) → Said → History → History
-copy_history station stated h = grown [] (copy_blocks station stated h)
+abbrev pub copy_history : Beginnings → Said → History → History
+copy_history beginnings stated h = grown [] (copy_blocks beginnings stated h)
 
 -- one place for each of these readings
 abbrev pub for_each : Option Found → List Sight → List (Option Found)
@@ -56,9 +57,9 @@ in_station s (Sets leading) =
 in_station s d = for_each None s.sights
 
 -- where the readings of a file are to be found, in the file's order
-abbrev pub in_file : Option (List ℕ) → Said → History → List (Option Found)
-in_file station stated h =
-    flat_map (λ j. in_station j.station j.division) (judged_of station stated h)
+abbrev pub in_file : Beginnings → Said → History → List (Option Found)
+in_file beginnings stated h =
+    flat_map (λ j. in_station j.station j.division) (judged_of beginnings stated h)
 
 -- These are the blocks of the numbered lines of some bytes, the newest first.
 abbrev pub AreBlocksOf : List ℕ → History → Type 0
@@ -69,8 +70,8 @@ AreBlocksOf bytes h = AllZip IsBlock (numbered_lines bytes) (reverse h)
 -- of a station with a fault too. No
 -- block, and not the end, has a fault that comes of the code lines: so no set is empty, and each
 -- has its readings in both faces.
-pub record IsFoundAsDivided (station : Option (List ℕ)) (stated : Said) (h copy : History)
+pub record IsFoundAsDivided (beginnings : Beginnings) (stated : Said) (h copy : History)
     : Type 0 where
-  pub found : found_in copy ≡ in_file station stated h
+  pub found : found_in copy ≡ in_file beginnings stated h
   pub faults : (limits : FaceLimits) → HasNoFaultOfCodes limits copy
   pub end : fault_at_end copy ≡ None

@@ -7,6 +7,7 @@ use Rattle.std.specs.List.{list_all, list_any}
 use Rattle.std.specs.Str.{bytes_eq}
 use Rattle.station_book.specs.Places.{History, is_empty}
 use Rattle.station_book.specs.Faults.{first_of}
+use Rattle.set_marks.specs.declared.beginnings.Beginnings.{Beginnings}
 use Rattle.set_marks.specs.declared.flaw.Flaw.{Flaw}
 use Rattle.set_marks.specs.declared.fault.MarkKind.{MarkKind}
 use Rattle.set_marks.specs.declared.fault.MarkKind.TheVariants as kinds
@@ -69,8 +70,8 @@ marks_from in_set (j ∷ js) =
 
 -- The code lines of a file, each with the number of the block before which it stands. A station
 -- with a fault has none of its own, as one without sets.
-abbrev pub marks_of : Option (List ℕ) → Said → History → List BlockMark
-marks_of station stated h = marks_from false (judged_of station stated h)
+abbrev pub marks_of : Beginnings → Said → History → List BlockMark
+marks_of beginnings stated h = marks_from false (judged_of beginnings stated h)
 
 -- what is told of a station of which all readings stand outside, with its fault, if it has one
 abbrev pub outside : Occupation → Option Flaw → Recognized
@@ -107,8 +108,8 @@ recognized_from [] = []
 recognized_from (j ∷ js) = recognized j.station j.division ∷ recognized_from js
 
 -- What is told of a file: of each station, in the file's order.
-abbrev pub recognized_of : Option (List ℕ) → Said → History → List Recognized
-recognized_of station stated h = recognized_from (judged_of station stated h)
+abbrev pub recognized_of : Beginnings → Said → History → List Recognized
+recognized_of beginnings stated h = recognized_from (judged_of beginnings stated h)
 
 -- the fault of the first of these stations that has one
 abbrev pub first_fault : List Recognized → Option Flaw

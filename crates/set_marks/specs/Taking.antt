@@ -12,6 +12,7 @@ use Rattle.station_book.specs.Readings.{read}
 use Rattle.station_book.specs.declared.role.Role.TheVariants.{Measurement}
 use Rattle.station_book.specs.declared.angles.Reading.{Reading}
 use Rattle.station_book.specs.declared.fault.BookKind.{BookKind}
+use Rattle.set_marks.specs.declared.beginnings.Beginnings.{Beginnings}
 use Rattle.set_marks.specs.declared.fault.MarkFault.{MarkFault}
 use Rattle.set_marks.specs.declared.fault.MarkFault.TheVariants as fault
 use Rattle.set_marks.specs.declared.line_end.Tested.{Tested}
@@ -37,19 +38,20 @@ IsKnown (Some said) b =
 
 -- A line that begins at this place is taken: a block, which is kept where no block up to it has a
 -- fault by itself.
-pub record TakesLine (stated : Bool) (at : ℕ) (line : List ℕ) (old new : Walk) : Type 0 where
+pub record TakesLine (beginnings : Beginnings) (at : ℕ) (line : List ℕ) (old new : Walk)
+    : Type 0 where
   pub block : GsiBlock
   pub is_block : IsBlock line block
   pub number : new.number ≡ old.number + 1
   pub begins : new.begins.items ≡ old.begins.items ++ at ∷ []
   pub fault : new.fault ≡ first_of (old.fault
-      ∷ block_fault stated (begun_in old.readings.station) new.number block ∷ [])
-  pub adds : new.fault ≡ None → Adds stated block new.number old.readings new.readings
+      ∷ block_fault beginnings (begun_in old.readings.station) new.number block ∷ [])
+  pub adds : new.fault ≡ None → Adds beginnings block new.number old.readings new.readings
 
 -- A part is taken where it is a line, and else passed over.
-abbrev pub TakesPart : Bool → Bool → ℕ → List ℕ → Walk → Walk → Type 0
-TakesPart true stated at part old new = TakesLine stated at part old new
-TakesPart false stated at part old new = new ≡ old
+abbrev pub TakesPart : Bool → Beginnings → ℕ → List ℕ → Walk → Walk → Type 0
+TakesPart true beginnings at part old new = TakesLine beginnings at part old new
+TakesPart false beginnings at part old new = new ≡ old
 
 -- Why a line of this number is not taken: it is no block, and this is its fault; or there was no
 -- memory.

@@ -4,8 +4,9 @@
 //! its readings are dropped. So no more than one station's readings lie in memory, and they are
 //! still near at hand when they are divided into sets.
 
-ghost use Rattle.std.specs.Prelude.{◌≡◌, [], ℕ, All, IfOk, List, OnOk, Option};
+ghost use Rattle.std.specs.Prelude.{◌≡◌, [], All, IfOk, List, OnOk};
 ghost use Rattle.station_book.specs.Places.{History};
+ghost use Rattle.set_marks.specs.declared.beginnings.Beginnings.{Beginnings};
 ghost use Rattle.set_marks.specs.Numbers.{Said, said_in};
 ghost use Rattle.set_marks.specs.Marks.{IsRoomy};
 ghost use Rattle.set_marks.specs.Stations.{stations_of};
@@ -67,9 +68,9 @@ impl Readings {
     pub(crate) fn finish(self, alloc: Global) -> Result<Marking, AllocError>
         requires room { All IsRoomy self.marking.marks.items }
         ensures room { IfOk result (λ m. All IsRoomy m.marks.items) }
-        ensures marked { IfOk result (λ m. (station : Option (List ℕ)) (stated : Said)
-            (h : History) → Keeps station stated h self
-            → AreMarked stated (stations_of station h) m) }
+        ensures marked { IfOk result (λ m. (beginnings : Beginnings) (stated : Said)
+            (h : History) → Keeps beginnings stated h self
+            → AreMarked stated (stations_of beginnings h) m) }
     {
         let mut readings = self;
         readings.end_station(alloc)?;

@@ -6,6 +6,7 @@ ghost use Rattle.std.specs.List.{list_any};
 ghost use Rattle.gsi_file.specs.FileAnswers.{file_answers};
 ghost use Rattle.adjust_kernel.specs.Names.{IsName};
 ghost use Rattle.station_book.specs.Places.{History};
+ghost use Rattle.set_marks.specs.declared.beginnings.Beginnings.{Beginnings};
 ghost use Rattle.set_marks.specs.declared.marked.Marked.{Marked};
 ghost use Rattle.set_marks.specs.Numbers.{Said};
 ghost use Rattle.set_marks.specs.Markings.{IsMarking, copy_of};
@@ -17,23 +18,23 @@ ghost use Rattle.set_marks.specs.MarkedFile.{AreBlocksOf, copy_history, IsFoundA
 /// set, and no fault that comes of the code lines. Without the lines that begin with four points
 /// after `41` the copy is the file, byte for byte, where the file has no such line.
 pub fn copy_is_read()
-    ensures blocks { (station : Option (List ℕ)) (stated : Said) (bytes : List ℕ) (fails : Bool)
+    ensures blocks { (beginnings : Beginnings) (stated : Said) (bytes : List ℕ) (fails : Bool)
         (m : Marked)
-        → IfSome station IsName
-        → (marking : IsMarking station stated bytes
+        → IfSome beginnings.station IsName
+        → (marking : IsMarking beginnings stated bytes
         (file_answers (record { bytes = bytes; fails = fails })) m)
-        → AreBlocksOf (copy_of bytes m) (copy_history station stated marking.blocks) }
-    ensures found { (station : Option (List ℕ)) (stated : Said) (bytes : List ℕ) (fails : Bool)
+        → AreBlocksOf (copy_of bytes m) (copy_history beginnings stated marking.blocks) }
+    ensures found { (beginnings : Beginnings) (stated : Said) (bytes : List ℕ) (fails : Bool)
         (m : Marked)
-        → IfSome station IsName
-        → (marking : IsMarking station stated bytes
+        → IfSome beginnings.station IsName
+        → (marking : IsMarking beginnings stated bytes
         (file_answers (record { bytes = bytes; fails = fails })) m)
         → (copy : History) → AreBlocksOf (copy_of bytes m) copy
-        → IsFoundAsDivided station stated marking.blocks copy }
-    ensures back { (station : Option (List ℕ)) (stated : Said) (bytes : List ℕ) (fails : Bool)
+        → IsFoundAsDivided beginnings stated marking.blocks copy }
+    ensures back { (beginnings : Beginnings) (stated : Said) (bytes : List ℕ) (fails : Bool)
         (m : Marked)
-        → IfSome station IsName
-        → IsMarking station stated bytes
+        → IfSome beginnings.station IsName
+        → IsMarking beginnings stated bytes
         (file_answers (record { bytes = bytes; fails = fails })) m
         → list_any is_put_in (whole_lines bytes) ≡ false → unmarked (copy_of bytes m) ≡ bytes }
 {}

@@ -4,13 +4,13 @@ ghost use Rattle.gsi_file.specs.FileAnswers.{file_answers};
 ghost use Rattle.set_marks.specs.Markings.{AnswersMark};
 ghost use Rattle.set_marks.specs.Numbers.{said_in};
 
+use crate::beginnings::Beginnings;
 use crate::mark::Mark;
 use crate::placing::placed;
 use crate::recognized::Recognized;
 use crate::refused::{Refused, refusal};
 use crate::stated::Stated;
 use crate::walk::readings_of;
-use adjust_kernel::Name;
 use std::alloc::Global;
 
 /// The code lines that are put into a field file, and what is told of its stations. The copy is the
@@ -26,9 +26,9 @@ pub struct Marked {
 /// Finds where codes are put into a field file: 10 where a station begins, 20 where a set begins,
 /// 30 before the first reading after a set that is in none.
 ///
-/// `bytes` are those of the file; where `fails`, a read failed after them. `station` is the name of
-/// the file's one station, where its lines set none up. `stated` is what is stated of the file:
-/// where sets are read by targets, nothing else shows where they begin.
+/// `bytes` are those of the file; where `fails`, a read failed after them. `beginnings` is what is
+/// stated of how its stations begin, `stated` what is stated of their sets: where sets are read by
+/// targets, nothing else shows where they begin.
 ///
 /// # Errors
 ///
@@ -40,13 +40,13 @@ pub fn mark_file(
     alloc: Global,
     bytes: &[u8],
     fails: bool,
-    station: Option<Name>,
+    beginnings: Beginnings,
     stated: Stated,
 ) -> Result<Marked, Refused>
-    ensures { AnswersMark station (said_in stated) bytes.now
+    ensures { AnswersMark beginnings (said_in stated) bytes.now
         (file_answers (record { bytes = bytes.now; fails = fails })) result }
 {
-    let walk = readings_of(alloc, bytes, fails, station, stated)?;
+    let walk = readings_of(alloc, bytes, fails, beginnings, stated)?;
     let end = walk.readings.blocks + 1;
     let marking = walk.readings.finish(alloc)?;
     if let Some(flaw) = refusal(&marking.stated, end, &marking.stations) {

@@ -7,8 +7,8 @@ ghost use Rattle.station_book.specs.declared.bounds.TheConstants.{CIRCLE, HALF_C
 ghost use Rattle.gsi_word.specs.BlockViews.{block_of};
 ghost use Rattle.gsi_file.specs.declared.bounds.TheConstants.{LONGEST_FILE};
 ghost use Rattle.set_marks.specs.declared.fault.MarkFault.TheVariants.{Memory};
-ghost use Rattle.station_book.specs.Blocks.{lacks, role_of};
-ghost use Rattle.station_book.specs.declared.role.Role.TheVariants.{Measurement};
+ghost use Rattle.station_book.specs.Blocks.{has_direction, lacks, role_of};
+ghost use Rattle.station_book.specs.declared.role.Role.TheVariants.{Measurement, Other};
 ghost use Rattle.station_book.specs.Faults.{first_of};
 ghost use Rattle.station_book.specs.Readings.{read};
 ghost use Rattle.adjust_kernel.specs.Names.{IsName};
@@ -16,16 +16,21 @@ ghost use Rattle.gsi_word.specs.Names.{name_of};
 ghost use Rattle.set_marks.specs.Marks.{IsRoomy};
 ghost use Rattle.set_marks.specs.Numbers.{said_in};
 ghost use Rattle.set_marks.specs.Stations.{begins_line, is_two_lines, block_fault, fault_as};
-ghost use Rattle.set_marks.specs.Stations.{has_set_up_word, tells_set_up};
+ghost use Rattle.set_marks.specs.Stations.{has_set_up_word, tells_set_up, has_code, information};
+ghost use Rattle.set_marks.specs.Stations.{begins_named, is_open_as, set_up_fault};
 ghost use Rattle.set_marks.specs.Taking.{IsKnown};
 ghost use Rattle.set_marks.specs.Keeping.{Adds, Ends, IsMemoryOr, Keeps, begun_in};
 
+use crate::beginnings::Beginnings;
 use crate::fault::{MarkFault, MarkKind};
 use crate::readings::Readings;
 use crate::sight::Sight;
 use crate::stated::Stated;
 use adjust_kernel::Name;
-use gsi_word::{Block, CODE_NUMBER, Found, GSI_16, POINT_NUMBER, VERTICAL_ANGLE, Word};
+use gsi_word::{
+    Block, CODE_INFORMATION, CODE_NUMBER, Found, GSI_16, HORIZONTAL_DIRECTION, POINT_NUMBER,
+    VERTICAL_ANGLE, Word,
+};
 use station_book::{BookKind, CIRCLE, HALF_CIRCLE, Reading, Role, read, role_of, target};
 use std::alloc::{AllocError, Global};
 
@@ -135,13 +140,67 @@ pub fn bare_name(name: &Name) -> Name
     bare_of(name.bytes())
 }
 
+/// Whether it is stated that blocks of a code begin stations, and a block that is no measurement
+/// has this code.
+fn has_code(code: &Option<Name>, block: &Block<'_>) -> bool
+    requires { role_of (block_of block.now) ≡ Other }
+    ensures { result ≡ has_code code.now (block_of block.now) }
+{
+    match code {
+        Some(code) => target(block).is_same(&bare_name(code)),
+        None => false,
+    }
+}
+
+/// The name that a word holds.
+fn name_in(word: &Word<'_>) -> Name
+    ensures { result ≡ name_of word.now.content }
+{
+    Name::of_end(word.content(), word.zeros())
+}
+
+/// The name in the first word 42 of a block, if it has one.
+fn information(block: &Block<'_>) -> Option<Name>
+    ensures { result ≡ information (block_of block.now) }
+{
+    for word in block.words() {
+        if word.index() == CODE_INFORMATION {
+            return Some(name_in(&word));
+        }
+    }
+    None
+}
+
+/// The name of the station that a block begins, if it does: of a set-up line the name in its first
+/// word, of a block of the stated code that in its first word 42.
+#[tactic(auto, using(crate::proofs::SetUps::names))]
+fn begins_named(beginnings: &Beginnings, block: &Block<'_>) -> Option<Name>
+    ensures { result ≡ begins_named beginnings.now (block_of block.now) }
+{
+    match role_of(block) {
+        Role::Measurement => {
+            if has_word(block, HORIZONTAL_DIRECTION) || !tells_set_up(block) {
+                return None;
+            }
+            Some(target(block))
+        }
+        Role::Other => {
+            if !has_code(&beginnings.code, block) {
+                return None;
+            }
+            information(block)
+        }
+        Role::Station | Role::Set | Role::Close => None,
+    }
+}
+
 /// No readings: of a station, where its name is stated.
 #[tactic(auto, using(crate::proofs::EndedStations::none_kept))]
-pub(crate) fn no_readings(alloc: Global, station: Option<Name>, stated: Stated) -> Readings
-    ensures keeps { Keeps station (said_in stated) [] result }
+pub(crate) fn no_readings(alloc: Global, beginnings: &Beginnings, stated: Stated) -> Readings
+    ensures keeps { Keeps beginnings.now (said_in stated) [] result }
     ensures room { All IsRoomy result.marking.marks.items }
 {
-    match station {
+    match beginnings.station {
         Some(name) => Readings::new(alloc, Some(bare_name(&name)), stated),
         None => Readings::new(alloc, None, stated),
     }
@@ -158,22 +217,24 @@ impl Readings {
         number: u32,
         block: &Block<'_>,
         known: Option<Said>,
-        stated: bool,
+        beginnings: &Beginnings,
     ) -> Result<(), MarkFault>
         requires bound { number ≤ LONGEST_FILE }
         requires known { IsKnown known (block_of block.now) }
         requires room { All IsRoomy self.old.marking.marks.items }
         ensures room { All IsRoomy self.new.marking.marks.items }
         ensures fault { OnOk result (fault.new ≡ first_of (fault.old
-            ∷ block_fault stated (begun_in self.old.station) number (block_of block.now) ∷ [])) }
+            ∷ block_fault beginnings.now (begun_in self.old.station) number (block_of block.now)
+            ∷ [])) }
         ensures adds { OnOk result
-            (fault.new ≡ None → Adds stated (block_of block.now) number self.old self.new) }
+            (fault.new ≡ None
+            → Adds beginnings.now (block_of block.now) number self.old self.new) }
         ensures memory { IfErr result (λ e. e ≡ Memory) }
     {
         if fault.is_some() {
             return Ok(());
         }
-        match self.take(alloc, number, block, known, stated) {
+        match self.take(alloc, number, block, known, beginnings) {
             Ok(()) => Ok(()),
             Err(MarkFault::Memory) => Err(MarkFault::Memory),
             Err(first) => {
@@ -191,21 +252,22 @@ impl Readings {
         number: u32,
         block: &Block<'_>,
         known: Option<Said>,
-        stated: bool,
+        beginnings: &Beginnings,
     ) -> Result<(), MarkFault>
         requires bound { number ≤ LONGEST_FILE }
         requires known { IsKnown known (block_of block.now) }
         requires room { All IsRoomy self.old.marking.marks.items }
         ensures room { All IsRoomy self.new.marking.marks.items }
-        ensures clean { OnOk result
-            (block_fault stated (begun_in self.old.station) number (block_of block.now) ≡ None) }
-        ensures adds { OnOk result (Adds stated (block_of block.now) number self.old self.new) }
+        ensures clean { OnOk result (block_fault beginnings.now
+            (begun_in self.old.station) number (block_of block.now) ≡ None) }
+        ensures adds { OnOk result
+            (Adds beginnings.now (block_of block.now) number self.old self.new) }
         ensures fault { IfErr result (IsMemoryOr
-            (block_fault stated (begun_in self.old.station) number (block_of block.now))) }
+            (block_fault beginnings.now (begun_in self.old.station) number (block_of block.now))) }
     {
         match known {
-            Some(said) => self.take_measurement(alloc, number, block, said, stated),
-            None => self.take_any(alloc, number, block, stated),
+            Some(said) => self.take_measurement(alloc, number, block, said, beginnings),
+            None => self.take_any(alloc, number, block, beginnings),
         }
     }
 
@@ -217,16 +279,17 @@ impl Readings {
         alloc: Global,
         number: u32,
         block: &Block<'_>,
-        stated: bool,
+        beginnings: &Beginnings,
     ) -> Result<(), MarkFault>
         requires bound { number ≤ LONGEST_FILE }
         requires room { All IsRoomy self.old.marking.marks.items }
         ensures room { All IsRoomy self.new.marking.marks.items }
-        ensures clean { OnOk result
-            (block_fault stated (begun_in self.old.station) number (block_of block.now) ≡ None) }
-        ensures adds { OnOk result (Adds stated (block_of block.now) number self.old self.new) }
+        ensures clean { OnOk result (block_fault beginnings.now
+            (begun_in self.old.station) number (block_of block.now) ≡ None) }
+        ensures adds { OnOk result
+            (Adds beginnings.now (block_of block.now) number self.old self.new) }
         ensures fault { IfErr result (IsMemoryOr
-            (block_fault stated (begun_in self.old.station) number (block_of block.now))) }
+            (block_fault beginnings.now (begun_in self.old.station) number (block_of block.now))) }
     {
         if is_two_lines(block) {
             return Err(MarkFault::At(number, MarkKind::TwoLines));
@@ -235,10 +298,15 @@ impl Readings {
             Role::Station | Role::Set | Role::Close => {
                 Err(MarkFault::At(number, MarkKind::HasCodes))
             }
-            Role::Measurement => self.take_measurement(alloc, number, block, read(block), stated),
+            Role::Measurement => {
+                self.take_measurement(alloc, number, block, read(block), beginnings)
+            }
             Role::Other => {
-                self.blocks = number;
-                Ok(())
+                if beginnings.code.is_none() {
+                    self.blocks = number;
+                    return Ok(());
+                }
+                self.take_beginning(alloc, number, block, beginnings)
             }
         }
     }
@@ -251,17 +319,18 @@ impl Readings {
         number: u32,
         block: &Block<'_>,
         said: Said,
-        stated: bool,
+        beginnings: &Beginnings,
     ) -> Result<(), MarkFault>
         requires bound { number ≤ LONGEST_FILE }
         requires measurement { role_of (block_of block.now) ≡ Measurement }
         requires said { said ≡ read (block_of block.now) }
         requires room { All IsRoomy self.old.marking.marks.items }
         ensures room { All IsRoomy self.new.marking.marks.items }
-        ensures clean { OnOk result (fault_as Measurement stated
+        ensures clean { OnOk result (fault_as Measurement beginnings.now
             (begun_in self.old.station) number (block_of block.now) ≡ None) }
-        ensures adds { OnOk result (Adds stated (block_of block.now) number self.old self.new) }
-        ensures fault { IfErr result (IsMemoryOr (fault_as Measurement stated
+        ensures adds { OnOk result
+            (Adds beginnings.now (block_of block.now) number self.old self.new) }
+        ensures fault { IfErr result (IsMemoryOr (fault_as Measurement beginnings.now
             (begun_in self.old.station) number (block_of block.now))) }
     {
         match said {
@@ -270,11 +339,7 @@ impl Readings {
                     self.blocks = number;
                     return Ok(());
                 }
-                if stated {
-                    return Err(MarkFault::At(number, MarkKind::HasSetUp));
-                }
-                self.begin_station(alloc, number, target(block))?;
-                Ok(())
+                self.take_beginning(alloc, number, block, beginnings)
             }
             Ok(Some(reading)) => {
                 if self.station.is_none() {
@@ -289,6 +354,52 @@ impl Readings {
                 }
                 Err(MarkFault::Reading(number, kind))
             }
+        }
+    }
+
+    /// Takes a block that is no reading: it begins a station, or nothing.
+    // Apart from its callers, which need it for few blocks.
+    #[inline(never)]
+    fn take_beginning(
+        &mut self,
+        alloc: Global,
+        number: u32,
+        block: &Block<'_>,
+        beginnings: &Beginnings,
+    ) -> Result<(), MarkFault>
+        requires bound { number ≤ LONGEST_FILE }
+        requires no_reading { has_direction (block_of block.now) ≡ false }
+        requires room { All IsRoomy self.old.marking.marks.items }
+        ensures room { All IsRoomy self.new.marking.marks.items }
+        ensures clean { OnOk result
+            (set_up_fault beginnings.now number (block_of block.now) ≡ None) }
+        ensures adds { OnOk result
+            (Adds beginnings.now (block_of block.now) number self.old self.new) }
+        ensures fault { IfErr result (IsMemoryOr
+            (set_up_fault beginnings.now number (block_of block.now))) }
+    {
+        let Some(name) = begins_named(beginnings, block) else {
+            self.blocks = number;
+            return Ok(());
+        };
+        if beginnings.station.is_some() {
+            return Err(MarkFault::At(number, MarkKind::HasSetUp));
+        }
+        if beginnings.same_set_up && self.is_open_as(&name) {
+            self.blocks = number;
+            return Ok(());
+        }
+        self.begin_station(alloc, number, name)?;
+        Ok(())
+    }
+
+    /// Whether a station is open, and has this name.
+    fn is_open_as(&self, name: &Name) -> bool
+        ensures { result ≡ is_open_as name.now self.now.station }
+    {
+        match &self.station {
+            Some(current) => current.is_same(name),
+            None => false,
         }
     }
 

@@ -3,6 +3,7 @@
 ghost use Rattle.std.specs.Prelude.{◌≡◌, ◌≤◌, ℕ, All, List, None, Option, false};
 ghost use Rattle.adjust_kernel.specs.declared.bounds.TheConstants.{MOST_TARGETS};
 ghost use Rattle.gsi_file.specs.FileAnswers.{FileAnswers};
+ghost use Rattle.set_marks.specs.declared.beginnings.Beginnings.{Beginnings};
 ghost use Rattle.set_marks.specs.declared.marked.Marked.{Marked};
 ghost use Rattle.set_marks.specs.Numbers.{Said};
 ghost use Rattle.set_marks.specs.Judging.{judged_of};
@@ -14,17 +15,17 @@ ghost use Rattle.set_marks.specs.Stated.{AreAsStated, IsByFaces};
 /// has more targets than the 100 that it may have. Where it isn't stated that stations with a fault
 /// stay outside, no station has one.
 pub fn marked_as_stated()
-    ensures numbers { (station : Option (List ℕ)) (stated : Said) (bytes : List ℕ)
+    ensures numbers { (beginnings : Beginnings) (stated : Said) (bytes : List ℕ)
         (answers : FileAnswers) (m : Marked)
-        → IsMarking station stated bytes answers m → AreAsStated stated m.stations.items }
-    ensures by_faces { (station : Option (List ℕ)) (stated : Said) (bytes : List ℕ)
+        → IsMarking beginnings stated bytes answers m → AreAsStated stated m.stations.items }
+    ensures by_faces { (beginnings : Beginnings) (stated : Said) (bytes : List ℕ)
         (answers : FileAnswers) (m : Marked)
-        → (marking : IsMarking station stated bytes answers m)
-        → All (IsByFaces stated) (judged_of station stated marking.blocks) }
-    ensures few_targets { (station : Option (List ℕ)) (stated : Said) (bytes : List ℕ)
-        (answers : FileAnswers) (m : Marked) → IsMarking station stated bytes answers m
+        → (marking : IsMarking beginnings stated bytes answers m)
+        → All (IsByFaces stated) (judged_of beginnings stated marking.blocks) }
+    ensures few_targets { (beginnings : Beginnings) (stated : Said) (bytes : List ℕ)
+        (answers : FileAnswers) (m : Marked) → IsMarking beginnings stated bytes answers m
         → All (λ r. r.targets ≤ MOST_TARGETS) m.stations.items }
-    ensures faultless { (station : Option (List ℕ)) (stated : Said) (bytes : List ℕ)
-        (answers : FileAnswers) (m : Marked) → IsMarking station stated bytes answers m
+    ensures faultless { (beginnings : Beginnings) (stated : Said) (bytes : List ℕ)
+        (answers : FileAnswers) (m : Marked) → IsMarking beginnings stated bytes answers m
         → stated.others ≡ false → All (λ r. r.fault ≡ None) m.stations.items }
 {}

@@ -24,12 +24,12 @@ ghost use Rattle.set_marks.specs.LinePlaces.{AreBegins, IsUsedUp};
 ghost use Rattle.set_marks.specs.Taking.{IsKnown, IsLineRefusal, IsTested, TakesLine, TakesPart};
 ghost use Rattle.set_marks.specs.Taking.{readings_in};
 
+use crate::beginnings::Beginnings;
 use crate::fault::MarkFault;
 use crate::line_end::{Tested, part_end};
 use crate::reading::{Said, no_readings};
 use crate::readings::Readings;
 use crate::stated::Stated;
-use adjust_kernel::Name;
 use gsi_file::{FileFault, FileKind, LINE_FEED, LONGEST_FILE, LONGEST_LINE, is_blank};
 use gsi_word::Block;
 use gsi_word::steps::{block_in, check_printable, read_words, reading_block};
@@ -114,16 +114,16 @@ fn after(count: usize, bytes: &[u8]) -> &[u8]
 }
 
 impl Walk {
-    /// Nothing was taken. A station of this name may be open.
-    fn new(alloc: Global, station: Option<Name>, stated: Stated) -> Walk
-        ensures keeps { Keeps station (said_in stated) [] result.readings }
+    /// Nothing was taken. A station whose name is stated is open.
+    fn new(alloc: Global, beginnings: &Beginnings, stated: Stated) -> Walk
+        ensures keeps { Keeps beginnings.now (said_in stated) [] result.readings }
         ensures room { All IsRoomy result.readings.marking.marks.items }
         ensures fault { result.fault ≡ None }
         ensures begins { result.begins.items ≡ [] }
         ensures number { result.number ≡ 0 }
     {
         Walk {
-            readings: no_readings(alloc, station, stated),
+            readings: no_readings(alloc, beginnings, stated),
             fault: None,
             begins: Vec::new(alloc),
             number: 0,
@@ -153,7 +153,7 @@ impl Walk {
         at: usize,
         block: &Block<'_>,
         known: Option<Said>,
-        stated: bool,
+        beginnings: &Beginnings,
     ) -> Result<(), MarkFault>
         requires place { at ≤ LONGEST_FILE }
         requires bound { self.old.number < LONGEST_FILE }
@@ -161,12 +161,18 @@ impl Walk {
         requires room { All IsRoomy self.old.readings.marking.marks.items }
         ensures room { All IsRoomy self.new.readings.marking.marks.items }
         ensures takes { OnOk result ((line : List ℕ) → IsBlock line (block_of block.now)
-            → TakesLine stated at line self.old self.new) }
+            → TakesLine beginnings.now at line self.old self.new) }
         ensures memory { IfErr result (λ e. e ≡ Memory) }
     {
         self.count_line(at)?;
-        self.readings
-            .take_unless(alloc, &mut self.fault, self.number, block, known, stated)
+        self.readings.take_unless(
+            alloc,
+            &mut self.fault,
+            self.number,
+            block,
+            known,
+            beginnings,
+        )
     }
 
     /// Takes a part that begins at this place, of which at most is known that its bytes are
@@ -178,7 +184,7 @@ impl Walk {
         at: usize,
         part: &[u8],
         printable: bool,
-        stated: bool,
+        beginnings: &Beginnings,
     ) -> Result<(), MarkFault>
         requires place { at ≤ LONGEST_FILE }
         requires bound { self.old.number + length part.now ≤ LONGEST_FILE }
@@ -186,7 +192,7 @@ impl Walk {
         requires room { All IsRoomy self.old.readings.marking.marks.items }
         ensures room { All IsRoomy self.new.readings.marking.marks.items }
         ensures takes { OnOk result
-            (TakesPart (is_line part.now) stated at part.now self.old self.new) }
+            (TakesPart (is_line part.now) beginnings.now at part.now self.old self.new) }
         ensures count { OnOk result (self.new.number ≤ self.old.number + 1) }
         ensures line { IfErr result (λ _. is_line part.now ≡ true) }
         ensures fault { IfErr result (IsLineRefusal part.now (self.old.number + 1)) }
@@ -195,7 +201,7 @@ impl Walk {
             return Ok(());
         }
         match read_line(part, printable) {
-            Ok(block) => self.take_block(alloc, at, &block, None, stated),
+            Ok(block) => self.take_block(alloc, at, &block, None, beginnings),
             Err(kind) => Err(at_line(self.number + 1, kind)),
         }
     }
@@ -207,18 +213,18 @@ impl Walk {
         alloc: Global,
         at: usize,
         line: &[u8],
-        stated: bool,
+        beginnings: &Beginnings,
     ) -> Result<(), MarkFault>
         requires place { at ≤ LONGEST_FILE }
         requires bound { self.old.number < LONGEST_FILE }
         requires plain { is_plain_reading line.now ≡ true }
         requires room { All IsRoomy self.old.readings.marking.marks.items }
         ensures room { All IsRoomy self.new.readings.marking.marks.items }
-        ensures takes { OnOk result (TakesLine stated at line.now self.old self.new) }
+        ensures takes { OnOk result (TakesLine beginnings.now at line.now self.old self.new) }
         ensures memory { IfErr result (λ e. e ≡ Memory) }
     {
         let said = read_plain(line);
-        self.take_block(alloc, at, &reading_block(line), Some(said), stated)
+        self.take_block(alloc, at, &reading_block(line), Some(said), beginnings)
     }
 
     /// Takes a part that begins at this place, if it is a line, or answers its fault.
@@ -230,7 +236,7 @@ impl Walk {
         at: usize,
         part: &[u8],
         tested: Tested,
-        stated: bool,
+        beginnings: &Beginnings,
     ) -> Result<(), MarkFault>
         requires place { at ≤ LONGEST_FILE }
         requires bound { self.old.number + length part.now ≤ LONGEST_FILE }
@@ -238,15 +244,15 @@ impl Walk {
         requires room { All IsRoomy self.old.readings.marking.marks.items }
         ensures room { All IsRoomy self.new.readings.marking.marks.items }
         ensures takes { OnOk result
-            (TakesPart (is_line part.now) stated at part.now self.old self.new) }
+            (TakesPart (is_line part.now) beginnings.now at part.now self.old self.new) }
         ensures count { OnOk result (self.new.number ≤ self.old.number + 1) }
         ensures line { IfErr result (λ _. is_line part.now ≡ true) }
         ensures fault { IfErr result (IsLineRefusal part.now (self.old.number + 1)) }
     {
         match tested {
-            Tested::Plain => self.take_plain(alloc, at, part, stated),
-            Tested::Printable => self.take_any(alloc, at, part, true, stated),
-            Tested::No => self.take_any(alloc, at, part, false, stated),
+            Tested::Plain => self.take_plain(alloc, at, part, beginnings),
+            Tested::Printable => self.take_any(alloc, at, part, true, beginnings),
+            Tested::No => self.take_any(alloc, at, part, false, beginnings),
         }
     }
 }
@@ -257,15 +263,15 @@ pub(crate) fn readings_of(
     alloc: Global,
     bytes: &[u8],
     fails: bool,
-    station: Option<Name>,
+    beginnings: Beginnings,
     stated: Stated,
 ) -> Result<Walk, MarkFault>
-    ensures answers { AnswersReadings station (said_in stated)
+    ensures answers { AnswersReadings beginnings (said_in stated)
         (file_answers (record { bytes = bytes.now; fails = fails })) (readings_in result) }
     ensures room { IfOk result (λ w. All IsRoomy w.readings.marking.marks.items) }
     ensures begins { IfOk result (λ w. AreBegins bytes.now w.begins.items) }
 {
-    let mut walk = Walk::new(alloc, station, stated);
+    let mut walk = Walk::new(alloc, &beginnings, stated);
     let mut at = 0;
     let mut rest = bytes;
     'parts: while let Some(end) = part_end(rest) {
@@ -274,7 +280,7 @@ pub(crate) fn readings_of(
             return Err(at_line(walk.number + 1, broken_limit(left)));
         }
         let part = &rest[..end.place];
-        walk.take_part(alloc, at, part, end.tested, station.is_some())?;
+        walk.take_part(alloc, at, part, end.tested, &beginnings)?;
         let next = next_part(rest, end.place, left);
         at += next;
         rest = after(next, rest);
@@ -286,7 +292,7 @@ pub(crate) fn readings_of(
     if fails {
         return Err(at_line(walk.number + 1, FileKind::Read));
     }
-    walk.take_part(alloc, at, rest, Tested::No, station.is_some())?;
+    walk.take_part(alloc, at, rest, Tested::No, &beginnings)?;
     match walk.fault {
         Some(fault) => Err(fault),
         None => Ok(walk),

@@ -1,9 +1,10 @@
 -- The answer of `mark` is one.
-use Rattle.std.proofs.Common.{◌≡◌, ℕ, ◌+◌, List, [], length, Option, Some, None, Result, Ok, Err}
+use Rattle.std.proofs.Common.{◌≡◌, ℕ, ◌+◌, List, [], length, Some, None, Result, Ok, Err}
 use Rattle.std.proofs.Common.{sym, ap, ◌∙◌}
 use Rattle.gsi_file.specs.FileAnswers.{FileAnswers}
 use Rattle.gsi_file.specs.declared.file_fault.FileFault.TheVariants as file
 use Rattle.station_book.specs.Places.{History}
+use Rattle.set_marks.specs.declared.beginnings.Beginnings.{Beginnings}
 use Rattle.set_marks.specs.declared.flaw.Flaw.{Flaw}
 use Rattle.set_marks.specs.declared.recognized.Recognized.{Recognized}
 use Rattle.set_marks.specs.declared.refused.Refused.{Refused}
@@ -23,11 +24,11 @@ use Rattle.station_mark.specs.Notes.{notes_of, notes_text}
 use Rattle.station_mark.specs.OneAnswer.{IsSettled, printed_of}
 use Rattle.station_mark.specs.declared.fault.PrintFault.TheVariants.{Mark}
 
-module _ (station : Option (List ℕ)) (stated : Said) (bytes : List ℕ) (answers : FileAnswers)
+module _ (beginnings : Beginnings) (stated : Said) (bytes : List ℕ) (answers : FileAnswers)
   where
     -- What is answered.
     abbrev Tells : Result Marked Refused → Type 0
-    Tells r = AnswersMark station stated bytes answers r
+    Tells r = AnswersMark beginnings stated bytes answers r
 
     -- Two markings print the same.
     one_marking : (m n : Marked) → Tells (Ok m) → Tells (Ok n)
@@ -35,46 +36,47 @@ module _ (station : Option (List ℕ)) (stated : Said) (bytes : List ℕ) (answe
     one_marking m n p h =
         let same = one_history answers p.blocks h.blocks p.are_blocks h.are_blocks in
         let copies : copy_of bytes m ≡ copy_of bytes n =
-        p.copy ∙ ap (λ (g : History). woven 0 bytes (placed bytes (marks_of station stated g))) same
+        p.copy
+        ∙ ap (λ (g : History). woven 0 bytes (placed bytes (marks_of beginnings stated g))) same
         ∙ sym h.copy in
         let told : notes_of m ≡ notes_of n =
-        ap notes_text (p.told ∙ ap (recognized_of station stated) same ∙ sym h.told) in
+        ap notes_text (p.told ∙ ap (recognized_of beginnings stated) same ∙ sym h.told) in
         (λ i. Ok (record { copy = copies i; notes = told i }))
 
     -- What is told of two refusals of stations is one, and so is the fault.
     one_refusal : (a b : Flaw) (told more : List Recognized)
-        → IsRefused station stated answers a told → IsRefused station stated answers b more
+        → IsRefused beginnings stated answers a told → IsRefused beginnings stated answers b more
         → (told ≡ more) × (a ≡ b)
     one_refusal a b told more p h =
         let same = one_history answers p.blocks h.blocks p.are_blocks h.are_blocks in
         let list : told ≡ more =
-        p.told_is ∙ ap (recognized_of station stated) same ∙ sym h.told_is in
+        p.told_is ∙ ap (recognized_of beginnings stated) same ∙ sym h.told_is in
         let e : Some a ≡ Some b = sym p.fault_is
         ∙ (λ i. refusal stated (length (same i) + 1) (list i)) ∙ h.fault_is in
         (list, cc)
 
     -- Of one file stations aren't both refused and not.
     never_refused : (m : Marked) (flaw : Flaw) (told : List Recognized) → Tells (Ok m)
-        → IsRefused station stated answers flaw told → ⊥
+        → IsRefused beginnings stated answers flaw told → ⊥
     never_refused m flaw told p h =
         let same = one_history answers p.blocks h.blocks p.are_blocks h.are_blocks in
         let list : m.stations.items ≡ told =
-        p.told ∙ ap (recognized_of station stated) same ∙ sym h.told_is in
+        p.told ∙ ap (recognized_of beginnings stated) same ∙ sym h.told_is in
         let e : None ≡ Some flaw = sym p.unrefused
         ∙ (λ i. refusal stated (length (same i) + 1) (list i)) ∙ h.fault_is in cc
 
     -- Two faults of blocks are one.
-    of_blocks : (a b : MarkFault) → IsBlockFault station answers a → IsBlockFault station answers b
-        → a ≡ b
+    of_blocks : (a b : MarkFault) → IsBlockFault beginnings answers a
+        → IsBlockFault beginnings answers b → a ≡ b
     of_blocks a b p h =
         let e : Some a ≡ Some b = sym p.fault_is
-        ∙ ap (fault_of_blocks station)
+        ∙ ap (fault_of_blocks beginnings)
         (one_history answers p.blocks h.blocks p.are_blocks h.are_blocks) ∙ h.fault_is in cc
 
     -- Two faults of lines or blocks are one.
     one_of_faults : (a b : MarkFault) → IsSettled (Err (refused.File a))
-        → IsSettled (Err (refused.File b)) → IsFault station answers a → IsFault station answers b
-        → a ≡ b
+        → IsSettled (Err (refused.File b)) → IsFault beginnings answers a
+        → IsFault beginnings answers b → a ≡ b
     one_of_faults Memory b set also p h = absurd set
     one_of_faults (File file.Memory) b set also p h = absurd p
     one_of_faults a Memory set also p h = absurd also
@@ -97,15 +99,16 @@ module _ (station : Option (List ℕ)) (stated : Said) (bytes : List ℕ) (answe
     one_of_faults (At n a) (At m b) set also p h = of_blocks (At n a) (At m b) p h
 
     clean_or_not : (g : History) (e : MarkFault) → AreBlocks answers g
-        → fault_of_blocks station g ≡ None → IsBlockFault station answers e → ⊥
+        → fault_of_blocks beginnings g ≡ None → IsBlockFault beginnings answers e → ⊥
     clean_or_not g e blocks clean h =
         let f : None ≡ Some e = sym clean
-        ∙ ap (fault_of_blocks station) (one_history answers g h.blocks blocks h.are_blocks)
+        ∙ ap (fault_of_blocks beginnings) (one_history answers g h.blocks blocks h.are_blocks)
         ∙ h.fault_is in cc
 
     -- A file whose stations are judged has no fault of its lines and blocks.
     never_faulty : (g : History) (e : MarkFault) → IsSettled (Err (refused.File e))
-        → AreBlocks answers g → fault_of_blocks station g ≡ None → IsFault station answers e → ⊥
+        → AreBlocks answers g → fault_of_blocks beginnings g ≡ None
+        → IsFault beginnings answers e → ⊥
     never_faulty g Memory set blocks clean h = absurd set
     never_faulty g (File file.Memory) set blocks clean h = absurd h
     never_faulty g (File (file.At n kind)) set blocks clean h =

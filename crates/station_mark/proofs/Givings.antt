@@ -13,6 +13,7 @@ use Rattle.gsi_file.specs.declared.bounds.TheConstants.{LONGEST_FILE}
 use Rattle.gsi_file.specs.declared.file_fault.FileKind.{FileKind}
 use Rattle.gsi_file.specs.declared.file_fault.FileFault.TheVariants as file
 use Rattle.gsi_file.specs.declared.file_fault.FileKind.TheVariants as kind
+use Rattle.set_marks.specs.declared.beginnings.Beginnings.{Beginnings}
 use Rattle.set_marks.specs.Copies.{AreOrdered}
 use Rattle.set_marks.specs.Markings.{AnswersMark, IsFileFault}
 use Rattle.set_marks.specs.Numbers.{Said}
@@ -76,33 +77,34 @@ read_is_last a number h = ap (λ (b : FileAnswers). b.last) h.split ∙ next h.l
     next left (inl e) = ap (λ (b : FileAnswers). b.last) e
     next left (inr (line, rest, e, none)) = absurd none
 
-leaves : (reader : ReaderChange) (bytes : List ℕ) (fails : Bool) (station : Option (List ℕ))
+leaves : (reader : ReaderChange) (bytes : List ℕ) (fails : Bool) (beginnings : Beginnings)
     (stated : Said) (r : Result MarkedFile Refused)
     → IsLeft LONGEST_FILE (length bytes) fails reader
-    → AnswersMark station stated bytes (file_answers (told_of bytes fails)) (marking_in r)
+    → AnswersMark beginnings stated bytes (file_answers (told_of bytes fails)) (marking_in r)
     → Leaves marked_left r reader
-leaves reader bytes fails station stated (Ok m) h a = ends reader bytes fails h a.are_blocks.ended
-leaves reader bytes fails station stated (Err (refused.Stations flaw told)) h a =
+leaves reader bytes fails beginnings stated (Ok m) h a =
     ends reader bytes fails h a.are_blocks.ended
-leaves reader bytes fails station stated (Err (refused.File (Reading number what))) h a =
+leaves reader bytes fails beginnings stated (Err (refused.Stations flaw told)) h a =
     ends reader bytes fails h a.are_blocks.ended
-leaves reader bytes fails station stated (Err (refused.File (At number what))) h a =
+leaves reader bytes fails beginnings stated (Err (refused.File (Reading number what))) h a =
     ends reader bytes fails h a.are_blocks.ended
-leaves reader bytes fails station stated (Err (refused.File (File
+leaves reader bytes fails beginnings stated (Err (refused.File (At number what))) h a =
+    ends reader bytes fails h a.are_blocks.ended
+leaves reader bytes fails beginnings stated (Err (refused.File (File
     (file.At number kind.Read)))) h a =
     breaks_off reader bytes fails h (read_is_last _ number a)
-leaves reader bytes fails station stated
+leaves reader bytes fails beginnings stated
     (Err (refused.File (File (file.At number kind.FileTooLong)))) h a = tt
-leaves reader bytes fails station stated
+leaves reader bytes fails beginnings stated
     (Err (refused.File (File (file.At number kind.LineTooLong)))) h a = tt
-leaves reader bytes fails station stated
+leaves reader bytes fails beginnings stated
     (Err (refused.File (File (file.At number (kind.Byte at))))) h a = tt
-leaves reader bytes fails station stated
+leaves reader bytes fails beginnings stated
     (Err (refused.File (File (file.At number (kind.Word nth))))) h a = tt
-leaves reader bytes fails station stated
+leaves reader bytes fails beginnings stated
     (Err (refused.File (File (file.At number kind.FirstWord)))) h a = tt
-leaves reader bytes fails station stated (Err (refused.File (File file.Memory))) h a = tt
-leaves reader bytes fails station stated (Err (refused.File Memory)) h a = tt
+leaves reader bytes fails beginnings stated (Err (refused.File (File file.Memory))) h a = tt
+leaves reader bytes fails beginnings stated (Err (refused.File Memory)) h a = tt
 
 -- A reader of which all is kept was read whole.
 read_whole : (reader : ReaderChange) (bytes : List ℕ) (fails : Bool)
@@ -122,26 +124,27 @@ read_for (Err (refused.File (At number what))) count reader h = h
 read_for (Err (refused.File Memory)) count reader h = tt
 
 -- What is answered of the bytes that were kept is the answer on what the reader gave.
-pub answered : (station : Option (List ℕ)) (stated : Said) (reader : ReaderChange)
+pub answered : (beginnings : Beginnings) (stated : Said) (reader : ReaderChange)
     (bytes : List ℕ) (fails : Bool) (r : Result MarkedFile Refused)
     → IsAllGiven LONGEST_FILE reader bytes fails
-    → AnswersMark station stated bytes (file_answers (told_of bytes fails)) (marking_in r)
-    → IfOk r (λ file. file.bytes.items ≡ bytes) → IsMarkAnswer station stated reader r
-answered station stated reader bytes fails r h a kept = record {
+    → AnswersMark beginnings stated bytes (file_answers (told_of bytes fails)) (marking_in r)
+    → IfOk r (λ file. file.bytes.items ≡ bytes) → IsMarkAnswer beginnings stated reader r
+answered beginnings stated reader bytes fails r h a kept = record {
   bytes = bytes;
   reads = h.reads;
-  marks = λ left may. subst (λ (f : FileAnswers). AnswersMark station stated bytes f (marking_in r))
+  marks = λ left may.
+      subst (λ (f : FileAnswers). AnswersMark beginnings stated bytes f (marking_in r))
       (sym (same_answers reader bytes fails h.left left may)) a;
   kept = kept;
   whole = read_for r (length bytes) reader (read_whole reader bytes fails h.left);
-  reader = leaves reader bytes fails station stated r h.left a;
+  reader = leaves reader bytes fails beginnings stated r h.left a;
 }
 
 -- Where memory ran out, nothing is said of the bytes that the reader gave.
-pub out_of_memory : (station : Option (List ℕ)) (stated : Said) (reader : ReaderChange)
+pub out_of_memory : (beginnings : Beginnings) (stated : Said) (reader : ReaderChange)
     (bytes : List ℕ) → HasGiven reader bytes
-    → IsMarkAnswer station stated reader (Err (refused.File Memory))
-out_of_memory station stated reader bytes h = record {
+    → IsMarkAnswer beginnings stated reader (Err (refused.File Memory))
+out_of_memory beginnings stated reader bytes h = record {
   bytes = bytes;
   reads = h;
   marks = λ left may. tt;
@@ -151,10 +154,10 @@ out_of_memory station stated reader bytes h = record {
 }
 
 -- The code lines of a marked file stand in order.
-pub in_order : (station : Option (List ℕ)) (stated : Said) (reader : ReaderChange)
-    (file : MarkedFile) → IsMarkAnswer station stated reader (Ok file)
+pub in_order : (beginnings : Beginnings) (stated : Said) (reader : ReaderChange)
+    (file : MarkedFile) → IsMarkAnswer beginnings stated reader (Ok file)
     → AreOrdered 0 (length file.bytes.items) file.marked.marks.items
-in_order station stated reader file a =
+in_order beginnings stated reader file a =
     let may : MayGive reader.told' ended =
     subst (λ (o : Option Told). MayGive o ended) (sym a.reader.ended) refl in
     subst (λ (b : List ℕ). AreOrdered 0 (length b) file.marked.marks.items) (sym a.kept)

@@ -1,5 +1,5 @@
 -- What is answered of a field file into which codes are to be put, and how its reader is left.
-use Rattle.std.specs.Prelude.{◌≡◌, ◌⊎◌, ℕ, ◌<◌, List, length, Option, Result, Ok, Err, IfOk, ⊤}
+use Rattle.std.specs.Prelude.{◌≡◌, ◌⊎◌, ℕ, ◌<◌, List, length, Result, Ok, Err, IfOk, ⊤}
 use Rattle.byte_ends.specs.Came.{IsReadOut, HasBroken, NoReadFailed}
 use Rattle.byte_ends.specs.Came.{Leaves, Leaving, ReadOut, BrokenOff, Unknown}
 use Rattle.byte_ends.specs.Source.{Told, ReaderChange, MayGive, HasGiven, given_then}
@@ -7,6 +7,7 @@ use Rattle.gsi_file.specs.FileAnswers.{file_answers}
 use Rattle.gsi_file.specs.declared.bounds.TheConstants.{LONGEST_FILE}
 use Rattle.gsi_file.specs.declared.file_fault.FileFault.TheVariants as file
 use Rattle.gsi_file.specs.declared.file_fault.FileKind.TheVariants as kind
+use Rattle.set_marks.specs.declared.beginnings.Beginnings.{Beginnings}
 use Rattle.set_marks.specs.Markings.{AnswersMark}
 use Rattle.set_marks.specs.declared.fault.MarkFault.TheVariants as fault
 use Rattle.set_marks.specs.declared.refused.Refused.{Refused}
@@ -41,9 +42,9 @@ marked_left (File (fault.At number what)) = ReadOut
 marked_left (File (fault.File (file.At number kind.Read))) = BrokenOff
 marked_left refused = Unknown
 
--- The answer on what a reader gave, whatever it is, and how it is left. `station` is the name of
--- the file's one station, where it is stated, and `stated` is what is stated of the file.
-pub record IsMarkAnswer (station : Option (List ℕ)) (stated : Said) (gsi : ReaderChange)
+-- The answer on what a reader gave, whatever it is, and how it is left. `beginnings` is what is
+-- stated of how the file's stations begin, and `stated` what is stated of their sets.
+pub record IsMarkAnswer (beginnings : Beginnings) (stated : Said) (gsi : ReaderChange)
     (r : Result MarkedFile Refused) : Type 0 where
   -- The field file's reader gave these bytes.
   pub bytes : List ℕ
@@ -51,7 +52,7 @@ pub record IsMarkAnswer (station : Option (List ℕ)) (stated : Said) (gsi : Rea
   -- Of these bytes, and whatever may be left in the reader after them, this is the answer; and a
   -- marked file is of these very bytes.
   pub marks : (left : Told) → MayGive gsi.told' left
-      → AnswersMark station stated bytes (file_answers (given_then bytes left)) (marking_in r)
+      → AnswersMark beginnings stated bytes (file_answers (given_then bytes left)) (marking_in r)
   pub kept : IfOk r (λ file. file.bytes.items ≡ bytes)
   -- The reader was read whole, whatever its lines are.
   pub whole : WasReadFor r (length bytes) gsi

@@ -1,7 +1,8 @@
 -- What the answer of a run says, and what `out` got.
-use Rattle.std.specs.Prelude.{◌≡◌, ℕ, true, List, Option, Result, Ok, Err}
+use Rattle.std.specs.Prelude.{◌≡◌, ℕ, true, List, Result, Ok, Err}
 use Rattle.byte_ends.specs.Sink.{WriterChange}
 use Rattle.byte_ends.specs.Source.{ReaderChange}
+use Rattle.set_marks.specs.declared.beginnings.Beginnings.{Beginnings}
 use Rattle.set_marks.specs.Markings.{copy_of}
 use Rattle.set_marks.specs.declared.refused.Refused.{Refused}
 use Rattle.set_marks.specs.Numbers.{Said}
@@ -31,8 +32,8 @@ PrintsCopy (Ok file) (Err u) out = (u ≡ untold Write) × IsCutShort (copy_in f
 PrintsCopy (Err refused) r out = (r ≡ Err (unmarked refused)) × out.is_unasked
 
 -- A run that puts codes in: all that is promised of the marking, and how its copy was printed.
-pub record IsMarkRun (station : Option (List ℕ)) (stated : Said) (gsi : ReaderChange)
+pub record IsMarkRun (beginnings : Beginnings) (stated : Said) (gsi : ReaderChange)
     (r : Result MarkedFile Unprinted) (out : WriterChange) : Type 0 where
   pub marking : Result MarkedFile Refused
-  pub answers : IsMarkAnswer station stated gsi marking
+  pub answers : IsMarkAnswer beginnings stated gsi marking
   pub printed : PrintsCopy marking r out

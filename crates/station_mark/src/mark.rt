@@ -9,16 +9,15 @@ ghost use Rattle.station_mark.specs.Answers.{IsMarkAnswer, marking_in};
 
 use crate::given::{Given, all_given};
 use crate::marked_file::MarkedFile;
-use adjust_kernel::Name;
 use byte_ends::Source;
 use gsi_file::LONGEST_FILE;
-use set_marks::{MarkFault, Refused, Stated, mark_file};
+use set_marks::{Beginnings, MarkFault, Refused, Stated, mark_file};
 use std::alloc::Global;
 
 /// Finds where codes are put into a field file: 10 where a station begins, 20 where a set begins,
-/// 30 before the first reading after a set that is in none. `station` is the name of the file's one
-/// station, where its lines set none up. `stated` is what is stated of the file: where sets are
-/// read by targets, nothing else shows where they begin.
+/// 30 before the first reading after a set that is in none. `beginnings` is what is stated of how
+/// the file's stations begin, `stated` what is stated of their sets: where sets are read by
+/// targets, nothing else shows where they begin.
 ///
 /// The file is read whole first, whatever its lines are.
 ///
@@ -31,13 +30,13 @@ use std::alloc::Global;
 pub fn mark_bytes<R: Source>(
     alloc: Global,
     gsi: R,
-    station: Option<Name>,
+    beginnings: Beginnings,
     stated: Stated,
 ) -> Result<MarkedFile, Refused>
     ensures { UntilDropped R.told R.failed R.gave gsi
-        (λ gsi. IsMarkAnswer station (said_in stated) gsi result) }
+        (λ gsi. IsMarkAnswer beginnings (said_in stated) gsi result) }
 {
-    let (answer, _gsi) = mark_source(alloc, gsi, station, stated);
+    let (answer, _gsi) = mark_source(alloc, gsi, beginnings, stated);
     answer
 }
 
@@ -48,15 +47,15 @@ pub fn mark_bytes<R: Source>(
 pub fn mark_source<R: Source>(
     alloc: Global,
     gsi: R,
-    station: Option<Name>,
+    beginnings: Beginnings,
     stated: Stated,
 ) -> (Result<MarkedFile, Refused>, R)
-    ensures { IsMarkAnswer station (said_in stated)
+    ensures { IsMarkAnswer beginnings (said_in stated)
         (reader_change R.told R.failed R.gave gsi result.1) result.0 }
 {
     let mut reader = gsi;
     match all_given(alloc, &mut reader, LONGEST_FILE) {
-        Ok(given) => (mark_given(alloc, given, station, stated), reader),
+        Ok(given) => (mark_given(alloc, given, beginnings, stated), reader),
         Err(_) => (Err(Refused::File(MarkFault::Memory)), reader),
     }
 }
@@ -65,15 +64,15 @@ pub fn mark_source<R: Source>(
 fn mark_given(
     alloc: Global,
     given: Given,
-    station: Option<Name>,
+    beginnings: Beginnings,
     stated: Stated,
 ) -> Result<MarkedFile, Refused>
-    ensures answers { AnswersMark station (said_in stated) given.bytes.items
+    ensures answers { AnswersMark beginnings (said_in stated) given.bytes.items
         (file_answers (record { bytes = given.bytes.items; fails = given.fails }))
         (marking_in result) }
     ensures kept { IfOk result (λ file. file.bytes.items ≡ given.bytes.items) }
 {
-    let marked = mark_file(alloc, &given.bytes, given.fails, station, stated)?;
+    let marked = mark_file(alloc, &given.bytes, given.fails, beginnings, stated)?;
     Ok(MarkedFile {
         bytes: given.bytes,
         marked,

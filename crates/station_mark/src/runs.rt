@@ -16,9 +16,8 @@ use crate::fault::PrintFault;
 use crate::mark::mark_bytes;
 use crate::notes::notes_text;
 use crate::refused::{refusal_line, refusal_text};
-use adjust_kernel::Name;
 use byte_ends::{Sink, Source};
-use set_marks::{MarkFault, Refused, Stated};
+use set_marks::{Beginnings, MarkFault, Refused, Stated};
 use station_check::{ACCEPTED, refuse_by};
 use std::alloc::Global;
 
@@ -31,17 +30,17 @@ use std::alloc::Global;
 pub fn run_mark<R: Source, W: Sink, E: Sink>(
     alloc: Global,
     gsi: R,
-    station: Option<Name>,
+    beginnings: Beginnings,
     stated: Stated,
     out: &mut W,
     err: &mut E,
 ) -> u8
     ensures { UntilDropped R.told R.failed R.gave gsi (λ gsi. RunWithNotes notes_in refusal_text
-        (IsMarkRun station (said_in stated) gsi)
+        (IsMarkRun beginnings (said_in stated) gsi)
         result (writer_change W.Sink out.old out.new)
         (writer_change E.Sink err.old err.new)) }
 {
-    let file = match mark_bytes(alloc, gsi, station, stated) {
+    let file = match mark_bytes(alloc, gsi, beginnings, stated) {
         Ok(file) => file,
         Err(refused) => return refuse_marking(alloc, &refused, err),
     };

@@ -1,15 +1,16 @@
 use adjust_kernel::Name;
 use set_marks::{
-    MarkFault, MarkKind, NamedNumber, Recognized, Refused, Stated, StatedNumber, mark_file,
-    marked_copy,
+    Beginnings, MarkFault, MarkKind, NamedNumber, Recognized, Refused, Stated, StatedNumber,
+    mark_file, marked_copy,
 };
 use station_book::BookKind;
 use std::alloc::Global;
 
 /// The bytes of a field file of GSI-8, one block for each pair of bytes: the name of a target, and
 /// `1` or `2` for the face in which it is read, or `h` for its height alone; the name of a station
-/// and `p` for its set-up line; or `c` and a code's first digit; or `++` where the block before has
-/// no line end, so that it and the one after it are one line.
+/// and `p` for its set-up line; or `c` and a code's first digit; or `k` and what code 47 has in
+/// word 42, or `-` where it has none; or `++` where the block before has no line end, so that it
+/// and the one after it are one line.
 fn file(alloc: Global, text: &[u8]) -> Option<Vec<u8>> {
     let mut bytes = Vec::new(alloc);
     for pair in 0..text.len() / 2 {
@@ -19,7 +20,13 @@ fn file(alloc: Global, text: &[u8]) -> Option<Vec<u8>> {
             bytes.push(b' ').ok()?;
             continue;
         }
-        if named == b'c' {
+        if named == b'k' {
+            bytes.extend_from_slice(b"41....+00000047").ok()?;
+            if kind != b'-' {
+                bytes.extend_from_slice(b" 42....+0000000").ok()?;
+                bytes.push(kind).ok()?;
+            }
+        } else if named == b'c' {
             bytes.extend_from_slice(b"41....+000000").ok()?;
             bytes.push(kind).ok()?;
             bytes.extend_from_slice(b"0 42....+00000001").ok()?;
@@ -63,14 +70,30 @@ fn others(alloc: Global) -> Stated {
     }
 }
 
+/// That nothing is stated of how stations begin.
+const BY_SET_UPS: Beginnings = Beginnings {
+    station: None,
+    same_set_up: false,
+    code: None,
+};
+
+/// That the name of the one station is stated, if it is.
+fn named(station: Option<Name>) -> Beginnings {
+    Beginnings {
+        station,
+        same_set_up: false,
+        code: None,
+    }
+}
+
 /// The copy of a file, or why there is none.
 fn copy_of(
     alloc: Global,
     bytes: &[u8],
-    station: Option<Name>,
+    beginnings: Beginnings,
     stated: Stated,
 ) -> Result<Vec<u8>, Refused> {
-    let marked = mark_file(alloc, bytes, false, station, stated)?;
+    let marked = mark_file(alloc, bytes, false, beginnings, stated)?;
     let copy = marked_copy(alloc, bytes, &marked.marks)?;
     Ok(copy)
 }
@@ -82,7 +105,7 @@ fn marked(alloc: Global, text: &[u8], stated: Stated) -> Option<Result<Vec<u8>, 
         Some(b'p') => None,
         _ => Name::new(b"P7"),
     };
-    Some(copy_of(alloc, &bytes, station, stated))
+    Some(copy_of(alloc, &bytes, named(station), stated))
 }
 
 fn fault(alloc: Global, text: &[u8], stated: Stated) -> Option<MarkFault> {
@@ -268,10 +291,28 @@ fn a_number_of_one_station_stands_in_the_place_of_that_of_each(rt: HostRuntime) 
         (TWO_AND_ONE, b'2', 1, Some(2), None),
         (TWO_AND_ONE, b'1', 2, None, Some((11, MarkKind::ByTargets))),
         (TWO_AND_ONE, b'1', 3, Some(1), Some((2, MarkKind::SetCount))),
-        (TWO_AND_ONE, b'1', 2, Some(2), Some((11, MarkKind::SetCount))),
+        (
+            TWO_AND_ONE,
+            b'1',
+            2,
+            Some(2),
+            Some((11, MarkKind::SetCount)),
+        ),
         (TWO_AND_ONE, b'3', 1, Some(1), Some((2, MarkKind::SetCount))),
-        (b"1pA1B1B2A2", b'3', 1, Some(1), Some((6, MarkKind::NoSuchStation))),
-        (b"1pA1B1B2A22pC1", b'2', 1, Some(1), Some((8, MarkKind::NoSuchStation))),
+        (
+            b"1pA1B1B2A2",
+            b'3',
+            1,
+            Some(1),
+            Some((6, MarkKind::NoSuchStation)),
+        ),
+        (
+            b"1pA1B1B2A22pC1",
+            b'2',
+            1,
+            Some(1),
+            Some((8, MarkKind::NoSuchStation)),
+        ),
     ];
     for (text, name, own, each, refused) in rows {
         let Some(stated) = own_number(a, name, own, each) else {
@@ -341,7 +382,8 @@ fn each_station_is_told_where_one_has_a_fault(rt: HostRuntime) {
     let Some(bytes) = file(a, THREE) else {
         return;
     };
-    let Err(Refused::Stations(flaw, stations)) = mark_file(a, &bytes, false, None, nothing(a)) else {
+    let Err(Refused::Stations(flaw, stations)) = mark_file(a, &bytes, false, BY_SET_UPS, nothing(a))
+    else {
         assert!(rt; false);
         return;
     };
@@ -355,7 +397,7 @@ fn a_station_with_a_fault_stays_outside_where_that_is_stated(rt: HostRuntime) {
     let Some(bytes) = file(a, THREE) else {
         return;
     };
-    let Ok(marked) = mark_file(a, &bytes, false, None, others(a)) else {
+    let Ok(marked) = mark_file(a, &bytes, false, BY_SET_UPS, others(a)) else {
         assert!(rt; false);
         return;
     };
@@ -389,7 +431,7 @@ fn a_reading_before_any_set_up_line_is_of_no_station(rt: HostRuntime) {
     };
     assert!(rt;
         matches!(
-            mark_file(a, &bytes, false, None, nothing(a)),
+            mark_file(a, &bytes, false, BY_SET_UPS, nothing(a)),
             Err(Refused::File(MarkFault::At(1, MarkKind::NoSetUp)))
         )
     );
@@ -447,6 +489,94 @@ fn the_copy_has_whole_lines_more(rt: HostRuntime) {
     for part in expected {
         assert!(rt; copy.extend_from_slice(part).is_ok());
     }
-    let made = copy_of(a, &bytes, Some(name), nothing(a));
+    let made = copy_of(a, &bytes, named(Some(name)), nothing(a));
     assert!(rt; made.is_ok_and(|made| made.as_slice() == copy.as_slice()));
+}
+
+/// How stations begin: as one of this name, if it is stated; where this is so, not anew by a
+/// set-up line of the open station's name; and by the blocks of this code, if one is stated.
+fn stated_so(station: &[u8], same_set_up: bool, code: &[u8]) -> Beginnings {
+    Beginnings {
+        station: Name::new(station),
+        same_set_up,
+        code: Name::new(code),
+    }
+}
+
+// The answers are those of a plain program of the rule.
+#[test]
+fn stations_begin_as_is_stated(rt: HostRuntime) {
+    let a = rt.alloc();
+    let face_missing = |block| Some((block, MarkKind::FaceMissing));
+    let rows: [(&[u8], (&[u8], bool, &[u8]), Option<(u32, MarkKind)>); 17] = [
+        (b"1pA1B11pB2A2", (b"", false, b""), face_missing(6)),
+        (b"1pA1B11pB2A2", (b"", true, b""), None),
+        (b"1p1pA1B1B2A2", (b"", true, b""), None),
+        (b"1pA1B12p1pB2A2", (b"", true, b""), face_missing(7)),
+        (
+            b"1pA1B1B2A22pA1B1B2A21pA1B1B2A2",
+            (b"", true, b""),
+            Some((12, MarkKind::StationTwice)),
+        ),
+        (
+            b"A1B17pB2A2",
+            (b"7", true, b""),
+            Some((3, MarkKind::HasSetUp)),
+        ),
+        (b"k1A1B1B2A2k2A1B1B2A2", (b"", false, b"47"), None),
+        (b"k1A1B1B2A2k2A1B1B2A2", (b"", false, b"0047"), None),
+        (
+            b"k1A1B1B2A2k2A1B1B2A2",
+            (b"", false, b"48"),
+            Some((2, MarkKind::NoSetUp)),
+        ),
+        (
+            b"k1A1B1B2A2k2A1B1B2A2",
+            (b"", false, b""),
+            Some((2, MarkKind::NoSetUp)),
+        ),
+        (b"k1A1B1k-B2A2", (b"", false, b"47"), None),
+        (b"k1A1B1k1B2A2", (b"", false, b"47"), face_missing(6)),
+        (b"k1A1B1k1B2A2", (b"", true, b"47"), None),
+        (b"1pA1B1k1B2A2", (b"", true, b"47"), None),
+        (
+            b"A1B1k2B2A2",
+            (b"P7", false, b"47"),
+            Some((3, MarkKind::HasSetUp)),
+        ),
+        (b"A1B1k-B2A2", (b"P7", false, b"47"), None),
+        (
+            b"c1A1B1B2A2",
+            (b"", false, b"10"),
+            Some((1, MarkKind::HasCodes)),
+        ),
+    ];
+    for (text, (station, same_set_up, code), refused) in rows {
+        let beginnings = stated_so(station, same_set_up, code);
+        let Some(bytes) = file(a, text) else {
+            return;
+        };
+        match refused {
+            Some((block, kind)) => {
+                let answer = copy_of(a, &bytes, beginnings, NOTHING).err();
+                let fault = answer.map(|refused| refused.fault());
+                assert!(rt; fault == Some(MarkFault::At(block, kind)));
+            }
+            None => assert!(rt; copy_of(a, &bytes, beginnings, NOTHING).is_ok()),
+        }
+    }
+}
+
+#[test]
+fn a_code_block_names_the_station_that_it_begins(rt: HostRuntime) {
+    let a = rt.alloc();
+    let Some(bytes) = file(a, b"1pA1B1B2A2k-k2A1B1B2A2") else {
+        return;
+    };
+    let beginnings = stated_so(b"", false, b"47");
+    let Ok(marked) = mark_file(a, &bytes, false, beginnings, NOTHING) else {
+        assert!(rt; false);
+        return;
+    };
+    assert!(rt; told(&marked.stations) == [(b'1', 0), (b'2', 0), (0, 0)]);
 }

@@ -3,7 +3,7 @@
 use adjust_kernel::Name;
 use byte_ends::{Held, OfWrite, Script};
 use gsi_file::{FileFault, FileKind};
-use set_marks::{Flaw, MarkFault, MarkKind, Recognized, Remarks, Stated, StatedNumber};
+use set_marks::{Beginnings, Flaw, MarkFault, MarkKind, Recognized, Remarks, Stated, StatedNumber};
 use station_book::BookKind;
 use station_mark::{PrintFault, notes_text, refusal_line, run_mark};
 use std::alloc::Global;
@@ -73,6 +73,13 @@ fn nothing(alloc: Global) -> Stated {
     numbers(alloc, None, None)
 }
 
+/// That nothing is stated of how stations begin.
+const BY_SET_UPS: Beginnings = Beginnings {
+    station: None,
+    same_set_up: false,
+    code: None,
+};
+
 /// A run over these bytes, given in pieces, prints and tells this.
 fn expect_run(
     rt: &impl Abort,
@@ -99,7 +106,12 @@ fn expect_run_as_stated(
     let gsi = Script::new(job, 7, fails);
     let mut out = Held::new(alloc, AMPLE, AMPLE, false).map_err(|_| "no memory")?;
     let mut err = Held::new(alloc, AMPLE, AMPLE, false).map_err(|_| "no memory")?;
-    let status = run_mark(alloc, gsi, station, stated, &mut out, &mut err);
+    let beginnings = Beginnings {
+        station,
+        same_set_up: false,
+        code: None,
+    };
+    let status = run_mark(alloc, gsi, beginnings, stated, &mut out, &mut err);
     assert_eq!(rt; err.bytes(), want.2);
     assert_eq!(rt; out.bytes(), want.1);
     assert_eq!(rt; status, want.0);
@@ -450,7 +462,7 @@ fn an_output_that_failed_once_is_not_written_on(rt: HostRuntime) -> Result<(), F
         let mut out = OfWrite::new(&mut writer);
         let mut err = Held::new(alloc, AMPLE, AMPLE, false).map_err(|_| "no memory")?;
         let gsi = Script::new(JOB, AMPLE, false);
-        let status = run_mark(alloc, gsi, None, nothing(alloc), &mut out, &mut err);
+        let status = run_mark(alloc, gsi, BY_SET_UPS, nothing(alloc), &mut out, &mut err);
         drop(out);
         assert_eq!(rt; status, 1);
         assert_eq!(rt; err.bytes(), b"refused: write failed\n".as_slice());
@@ -468,7 +480,7 @@ fn notes_that_are_lost_leave_the_status(rt: HostRuntime) -> Result<(), Fail> {
         let mut err = OfWrite::new(&mut writer);
         let mut out = Held::new(alloc, AMPLE, AMPLE, false).map_err(|_| "no memory")?;
         let gsi = Script::new(JOB, AMPLE, false);
-        let status = run_mark(alloc, gsi, None, nothing(alloc), &mut out, &mut err);
+        let status = run_mark(alloc, gsi, BY_SET_UPS, nothing(alloc), &mut out, &mut err);
         drop(err);
         assert_eq!(rt; (status, out.bytes()), (0, COPY));
         let bytes = calls.saturating_mul(STEP);

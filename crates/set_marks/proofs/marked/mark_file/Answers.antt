@@ -16,7 +16,7 @@ returns c =
     search rules in
     let is : c.in_ok-marks.marks.items ≡ placed c.args.bytes.now marking.marks.items =
     search rules in
-    is_marking c.args.station (said_in c.args.stated) c.args.bytes.now answers walk.readings marking
+    is_marking c.args.beginnings (said_in c.args.stated) c.args.bytes.now answers walk.readings marking
     c.in_ok-marks.marks.items
     (record { marks = c.in_ok-marks.marks; stations = marking.stations }) end
     c.in_ok-walk.ensures.answers c.in_ok-marking.ensures.marked refl none

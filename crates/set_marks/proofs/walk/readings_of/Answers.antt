@@ -40,11 +40,11 @@ parts-init c =
     let told = file_answers (record { bytes = c.args.bytes.now; fails = c.args.fails }) in
     let walk = c.new-walk.result in
     record {
-      taken = subst (λ (o : Option _). AreTaken c.args.station (said_in c.args.stated) told
+      taken = subst (λ (o : Option _). AreTaken c.args.beginnings (said_in c.args.stated) told
           (coming walk.number told)
           walk.readings o) (sym c.new-walk.ensures.fault)
-          (none_taken c.args.station (said_in c.args.stated) told (coming walk.number told) walk.readings refl
-          c.new-walk.ensures.number c.new-walk.ensures.keeps);
+          (none_taken c.args.beginnings (said_in c.args.stated) told (coming walk.number told) walk.readings
+          refl c.new-walk.ensures.number c.new-walk.ensures.keeps);
       room = c.new-walk.ensures.room;
       place = omega arith;
       rest = refl;
@@ -80,9 +80,9 @@ returns-then-end-gt-LONGEST_LINE-clause-answers c =
       | then-end-gt-LONGEST_LINE-via-else-end-gt-LONGEST_LINE+then-end-left w ↦
           let le = w.if-end-left.true in omega (arith, le, long)
     ] in
-    subst (λ (e : _). AnswersReadings c.args.station (said_in c.args.stated) told (Err e))
+    subst (λ (e : _). AnswersReadings c.args.beginnings (said_in c.args.stated) told (Err e))
     (sym c.at_line.ensures)
-    (refused_for c.args.station (said_in c.args.stated) told (answers_within left rest c.args.fails)
+    (refused_for c.args.beginnings (said_in c.args.stated) told (answers_within left rest c.args.fails)
     c.parts.walk.number
     c.parts.walk.readings c.parts.walk.fault c.broken_limit.result (omega (arith, few, room))
     (broken left n rest c.args.fails c.broken_limit.result first.plain (omega (arith, inside)) low
@@ -105,8 +105,8 @@ returns-in_err-take_part-clause-answers c =
     let lt = c.if-end-left.false in
     let fault = c.in_err-take_part.field-0.0 in
     let is_its : Err fault ≡ c.from_residual.result = search rules in
-    subst (λ (r : _). AnswersReadings c.args.station (said_in c.args.stated) told (readings_in r)) is_its
-    (refused_at c.args.station (said_in c.args.stated) told (answers_within left rest c.args.fails)
+    subst (λ (r : _). AnswersReadings c.args.beginnings (said_in c.args.stated) told (readings_in r)) is_its
+    (refused_at c.args.beginnings (said_in c.args.stated) told (answers_within left rest c.args.fails)
     (answers_within (left - (n + 1)) (drop (n + 1) rest) c.args.fails) c.parts.walk.number
     (take n rest) c.parts.walk.readings c.parts.walk.fault fault (omega (arith, few, room))
     c.in_err-take_part.ensures.line
@@ -141,27 +141,27 @@ parts-preserved c =
     let place = inv.place in
     let left : length next ≡ length rest - used =
     ap (λ (l : List ℕ). length l) is_next ∙ length-drop used rest in
-    let stated = c.is_some.result in
-    let takes : TakesPart (is_line part) stated at part old new =
+    let beginnings = c.args.beginnings in
+    let takes : TakesPart (is_line part) beginnings at part old new =
     c.in_ok-take_part.ensures.takes in
     record {
-      taken = part_taken (is_line part) c.args.station (said_in c.args.stated) told
+      taken = part_taken (is_line part) c.args.beginnings (said_in c.args.stated) told
           (answers_within (LONGEST_FILE - at) rest c.args.fails)
           (answers_within (LONGEST_FILE - (at + used)) next c.args.fails) at part old new refl
-          (rw c.is_some.ensures at takes) (omega (arith, count, few, room))
+          takes (omega (arith, count, few, room))
           (next_answers at n used rest next c.args.fails is_next first (omega (arith, short))
           (omega (arith, lt)) up inside fits) inv.taken;
       room = c.in_ok-take_part.ensures.room;
       place = omega (arith, left, inside, place);
       rest = is_next ∙ rest_next c.args.bytes.now rest at used inv.rest;
       fits = omega (arith, fits, room);
-      few = few_lines (is_line part) stated at n used rest old new refl takes more few;
+      few = few_lines (is_line part) beginnings at n used rest old new refl takes more few;
       line = begins_next c.args.bytes.now rest at n used inv.rest first.end up;
-      places = rw is_next (next_places stated at n used rest _ old new first up inside takes
+      places = rw is_next (next_places beginnings at n used rest _ old new first up inside takes
           inv.places);
-      ordered = in_order (is_line part) stated at (at + used) part old new takes inv.ordered
+      ordered = in_order (is_line part) beginnings at (at + used) part old new takes inv.ordered
           (omega arith);
-      begin = all_begin (is_line part) stated at part c.args.bytes.now old new takes inv.begin
+      begin = all_begin (is_line part) beginnings at part c.args.bytes.now old new takes inv.begin
           inv.line;
     }
 
@@ -186,9 +186,9 @@ returns-then-rest-gt-LONGEST_LINE-clause-answers c =
           let lt = w.if-rest-left.true in
           (λ long. omega (arith, lt, long), λ short. omega (arith, lt, short))
     ] in
-    subst (λ (e : _). AnswersReadings c.args.station (said_in c.args.stated) told (Err e))
+    subst (λ (e : _). AnswersReadings c.args.beginnings (said_in c.args.stated) told (Err e))
     (sym c.at_line-then-rest-gt-LONGEST_LINE.ensures)
-    (refused_for c.args.station (said_in c.args.stated) told (answers_within left rest c.args.fails)
+    (refused_for c.args.beginnings (said_in c.args.stated) told (answers_within left rest c.args.fails)
     c.parts.walk.number
     c.parts.walk.readings c.parts.walk.fault c.broken_limit-then-rest-gt-LONGEST_LINE.result
     (omega (arith, few, room))
@@ -208,9 +208,9 @@ returns-then-fails-clause-answers c =
     let few = inv.few in
     let room = inv.fits in
     let plain : HasNoEnd rest = no_end rest c.in_default.ensures.place in
-    subst (λ (e : _). AnswersReadings c.args.station (said_in c.args.stated) told (Err e))
+    subst (λ (e : _). AnswersReadings c.args.beginnings (said_in c.args.stated) told (Err e))
     (sym c.at_line-then-fails.ensures)
-    (refused_for c.args.station (said_in c.args.stated) told (answers_within left rest c.args.fails)
+    (refused_for c.args.beginnings (said_in c.args.stated) told (answers_within left rest c.args.fails)
     c.parts.walk.number
     c.parts.walk.readings c.parts.walk.fault Read (omega (arith, few, room))
     (ap (λ (fails : Bool). answers_within left rest fails) c.if-fails.true
@@ -232,8 +232,8 @@ returns-in_err-take_part-2-clause-answers c =
     ∙ last_part left rest plain c.if-rest-gt-LONGEST_LINE.false c.if-rest-left.false in
     let fault = c.in_err-take_part-2.field-0.0 in
     let is_its : Err fault ≡ c.from_residual-in_err-take_part-2.result = search rules in
-    subst (λ (r : _). AnswersReadings c.args.station (said_in c.args.stated) told (readings_in r)) is_its
-    (refused_at c.args.station (said_in c.args.stated) told (answers_within left rest c.args.fails)
+    subst (λ (r : _). AnswersReadings c.args.beginnings (said_in c.args.stated) told (readings_in r)) is_its
+    (refused_at c.args.beginnings (said_in c.args.stated) told (answers_within left rest c.args.fails)
     (only None)
     c.parts.walk.number rest c.parts.walk.readings c.parts.walk.fault fault
     (omega (arith, few, room)) c.in_err-take_part-2.ensures.line ends
@@ -254,13 +254,13 @@ returns-in-Some-fault-clause-answers c =
     ∙ last_part left rest plain c.if-rest-gt-LONGEST_LINE.false c.if-rest-left.false in
     let old = c.parts.walk in
     let new = c.take_part-2.new.self in
-    let takes = rw c.is_some-2.ensures at c.in_ok-take_part-2.ensures.takes in
+    let takes = c.in_ok-take_part-2.ensures.takes in
     let count = c.in_ok-take_part-2.ensures.count in
-    let taken = part_taken (is_line rest) c.args.station (said_in c.args.stated) told
+    let taken = part_taken (is_line rest) c.args.beginnings (said_in c.args.stated) told
     (answers_within left rest c.args.fails) (only None) at rest old new refl takes
     (omega (arith, count, few, room)) ends inv.taken in
-    fault_found c.args.station (said_in c.args.stated) told new.number new.readings c.in-Some-fault.fault
-    (subst (λ (f : _). AreTaken c.args.station (said_in c.args.stated) told (coming new.number
+    fault_found c.args.beginnings (said_in c.args.stated) told new.number new.readings c.in-Some-fault.fault
+    (subst (λ (f : _). AreTaken c.args.beginnings (said_in c.args.stated) told (coming new.number
     (only None)) new.readings f)
     c.in-Some-fault.is taken)
 
@@ -279,13 +279,13 @@ returns-in-None-clause-answers c =
     ∙ last_part left rest plain c.if-rest-gt-LONGEST_LINE.false c.if-rest-left.false in
     let old = c.parts.walk in
     let new = c.take_part-2.new.self in
-    let takes = rw c.is_some-2.ensures at c.in_ok-take_part-2.ensures.takes in
+    let takes = c.in_ok-take_part-2.ensures.takes in
     let count = c.in_ok-take_part-2.ensures.count in
-    let taken = part_taken (is_line rest) c.args.station (said_in c.args.stated) told
+    let taken = part_taken (is_line rest) c.args.beginnings (said_in c.args.stated) told
     (answers_within left rest c.args.fails) (only None) at rest old new refl takes
     (omega (arith, count, few, room)) ends inv.taken in
-    whole_taken c.args.station (said_in c.args.stated) told new.number new.readings
-    (subst (λ (f : _). AreTaken c.args.station (said_in c.args.stated) told (coming new.number
+    whole_taken c.args.beginnings (said_in c.args.stated) told new.number new.readings
+    (subst (λ (f : _). AreTaken c.args.beginnings (said_in c.args.stated) told (coming new.number
     (only None)) new.readings f)
     c.in-None.is taken)
 
@@ -298,14 +298,14 @@ returns-in-None-clause-begins c =
     let plain : HasNoEnd rest = no_end rest c.in_default.ensures.place in
     let old = c.parts.walk in
     let new = c.take_part-2.new.self in
-    let stated = c.is_some-2.result in
-    let takes : TakesPart (is_line rest) stated at rest old new =
+    let beginnings = c.args.beginnings in
+    let takes : TakesPart (is_line rest) beginnings at rest old new =
     c.in_ok-take_part-2.ensures.takes in
     let place = inv.place in
     record {
-      places = last_places stated at rest _ old new (slice_split_none is_line_end rest plain) takes
-          inv.places;
-      ordered = in_order (is_line rest) stated at (length bytes) rest old new takes inv.ordered
+      places = last_places beginnings at rest _ old new (slice_split_none is_line_end rest plain)
+          takes inv.places;
+      ordered = in_order (is_line rest) beginnings at (length bytes) rest old new takes inv.ordered
           (omega (arith, place));
-      begin = all_begin (is_line rest) stated at rest bytes old new takes inv.begin inv.line;
+      begin = all_begin (is_line rest) beginnings at rest bytes old new takes inv.begin inv.line;
     }

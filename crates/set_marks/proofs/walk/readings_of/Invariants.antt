@@ -12,7 +12,7 @@ use Rattle.set_marks.proofs.walk.readings_of.Given as goal
 
 abbrev pub invariant-parts : goal.invariant-parts
 invariant-parts l = record {
-  taken : AreTaken l.station (said_in l.fn.stated)
+  taken : AreTaken l.beginnings (said_in l.fn.stated)
       (file_answers (record { bytes = l.bytes; fails = l.fails }))
       (coming l.walk.number (answers_within (LONGEST_FILE - l.at) l.rest l.fails))
       l.walk.readings l.walk.fault;

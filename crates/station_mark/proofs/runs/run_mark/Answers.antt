@@ -32,7 +32,7 @@ returns-in-Err g c = (
       answer = Err (untold (Mark Memory));
       so = record {
         marking = Err (File Memory);
-        answers = out_of_memory c.args.station (said_in c.args.stated) _ c.in-Err.ensures.1.bytes
+        answers = out_of_memory c.args.beginnings (said_in c.args.stated) _ c.in-Err.ensures.1.bytes
             c.in-Err.ensures.1.reads;
         printed = (refl, refl);
       };
@@ -49,7 +49,7 @@ returns-in_default g c = (
     answer = Err (untold (Mark Memory));
     so = record {
       marking = Err (File Memory);
-      answers = out_of_memory c.args.station (said_in c.args.stated) _ c.in-Ok.ensures.1.bytes
+      answers = out_of_memory c.args.beginnings (said_in c.args.stated) _ c.in-Ok.ensures.1.bytes
           c.in-Ok.ensures.1.reads;
       printed = (refl, refl);
     };
@@ -115,4 +115,4 @@ returns g c = (
 pub write_copy-requires : goal.write_copy-requires
 write_copy-requires g c =
     rw (c.deref-2.ensures.value, c.deref-3.ensures.value)
-    (in_order c.args.station (said_in c.args.stated) _ c.in-Ok.file c.in-Ok.ensures.1)
+    (in_order c.args.beginnings (said_in c.args.stated) _ c.in-Ok.file c.in-Ok.ensures.1)
