@@ -225,7 +225,7 @@ no_reading beginnings current number b name e =
     rw none refl
 
 -- Where a station is open, some have begun.
-pub keeps_open : (beginnings : Beginnings) (stated : Stated) (h : History) (r : Readings)
+pub keeps_open : (beginnings : Beginnings) (stated : Said) (h : History) (r : Readings)
     → Keeps beginnings stated h r
     → is_empty (begun_in r.station) ≡ is_empty (begun beginnings h)
 keeps_open beginnings stated h r kept =
@@ -315,7 +315,7 @@ begins_next beginnings stated h b name r r' unstated begins kept adds blocks =
     }
 
 -- What is kept with a block more, where no station is stated.
-next_unstated : (beginnings : Beginnings) (stated : Stated) (h : History) (b : GsiBlock)
+next_unstated : (beginnings : Beginnings) (stated : Said) (h : History) (b : GsiBlock)
     (r r' : Readings) (name : Option (List ℕ)) → beginnings.station ≡ None
     → begins_after beginnings (open_name (set_ups_of beginnings h)) b ≡ name
     → Keeps beginnings stated h r → AddsTo name b (length h + 1) r r'

@@ -1,6 +1,7 @@
 -- The definitions on small files.
-use Rattle.std.proofs.Common.{◌≡◌, ℕ, false, List, [], ◌∷◌, Option, Some, None, refl}
-use Rattle.std.specs.Prelude.{codes, map, true, Bool}
+use Rattle.std.proofs.Common.{◌≡◌, ℕ, false, List, [], ◌∷◌, Option, Some, None, refl, arith}
+use Rattle.std.specs.Prelude.{codes, decimal, map, true, Bool}
+use Rattle.std.proofs.lemmas.Fmt.{decimal_digit}
 use Rattle.gsi_word.specs.Words.{GsiWord}
 use Rattle.gsi_word.specs.Blocks.{GsiBlock}
 use Rattle.station_book.specs.Blocks.{role_of, target, named, number, angles, angle_fault}
@@ -248,6 +249,10 @@ record AreExamples : Type 0 where
   not_there : refusal (of_p1 1) 10 (recognized (station (codes "P2") one_set) (Sets 0) ∷ [])
       ≡ Some (record { block = 10; kind = kinds.NoSuchStation })
 
+-- The digit of a second set-up.
+second_digit : decimal 2 ≡ 50 ∷ []
+second_digit = decimal_digit 2 (omega arith)
+
 examples : AreExamples
 unfolding role_of target named number angles angle_fault is_of_face has_two lacks
     tells_set_up begins_named
@@ -284,9 +289,9 @@ examples = record {
   no_blocks = refl;
   its_own = refl;
   that_of_each = refl;
-  visits = refl;
-  itself_again = refl;
-  zero = refl;
-  no_room = refl;
+  visits = rw (second_digit, decimal_digit 3 (omega arith)) refl;
+  itself_again = rw second_digit refl;
+  zero = rw second_digit refl;
+  no_room = rw second_digit refl;
   not_there = refl;
 }

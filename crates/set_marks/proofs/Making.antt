@@ -1,11 +1,14 @@
 -- From what is kept and found to what is answered.
 use Rattle.std.proofs.Common.{◌≡◌, ℕ, ◌+◌, List, length, None, Some, sym, ap, subst}
 use Rattle.std.proofs.Common.{◌∙◌, All}
-use Rattle.std.specs.Prelude.{Err}
+use Rattle.std.specs.Prelude.{Err, IsErr, Ok, Result}
+use Rattle.std.specs.Result.{IsErrAnd}
 use Rattle.gsi_file.specs.FileAnswers.{FileAnswers}
 use Rattle.station_book.specs.Places.{History}
 use Rattle.set_marks.specs.declared.beginnings.Beginnings.{Beginnings}
 use Rattle.set_marks.specs.declared.fault.MarkFault.{MarkFault}
+use Rattle.set_marks.specs.declared.fault.MarkFault.TheVariants.{Memory}
+use Rattle.set_marks.specs.declared.refused.Refused.{Refused}
 use Rattle.set_marks.specs.declared.readings.Readings.{Readings}
 use Rattle.set_marks.specs.declared.marking.Marking.{Marking}
 use Rattle.set_marks.specs.declared.marked.Marked.{Marked}
@@ -80,6 +83,14 @@ is_refused beginnings stated answers r m flaw end are all last is =
           (sym (last_is beginnings stated h r end are.kept last))
           ∙ ap (λ (st : Said). refusal st end m.stations.items) (sym marked.same) ∙ is;
     }
+
+-- There was no memory for the places of the code lines.
+pub no_memory : (beginnings : Beginnings) (stated : Said) (bytes : List ℕ)
+    (answers : FileAnswers) (r : Result Marked Refused) → IsErr r
+    → IsErrAnd r (λ e. e ≡ refused.File Memory) → AnswersMark beginnings stated bytes answers r
+no_memory beginnings stated bytes answers (Ok m) err is = cc
+no_memory beginnings stated bytes answers (Err e) err is =
+    subst (λ (f : Refused). AnswersMark beginnings stated bytes answers (Err f)) (sym is) tt
 
 -- A fault of the lines or of a block.
 pub refused_before : (beginnings : Beginnings) (stated : Said) (bytes : List ℕ)

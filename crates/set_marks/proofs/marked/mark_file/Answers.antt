@@ -3,7 +3,7 @@ use Rattle.gsi_file.specs.FileAnswers.{file_answers}
 use Rattle.set_marks.specs.Placing.{placed}
 use Rattle.set_marks.specs.Marking.{refusal}
 use Rattle.set_marks.specs.Numbers.{said_in}
-use Rattle.set_marks.proofs.Making.{is_marking}
+use Rattle.set_marks.proofs.Making.{is_marking, no_memory}
 use Rattle.set_marks.proofs.marked.mark_file.Goals as goal
 
 pub returns : goal.returns
@@ -21,3 +21,10 @@ returns c =
     (record { marks = c.in_ok-marks.marks; stations = marking.stations }) end
     c.in_ok-walk.ensures.answers c.in_ok-marking.ensures.marked refl none
     is c.in_ok-marks.ensures.ordered c.in_ok-marks.ensures.begin refl refl
+
+pub returns-in_err-marks : goal.returns-in_err-marks
+returns-in_err-marks c =
+    no_memory c.args.beginnings (said_in c.args.stated) c.args.bytes.now
+    (file_answers (record { bytes = c.args.bytes.now; fails = c.args.fails }))
+    c.from_residual-in_err-marks.result c.from_residual-in_err-marks.ensures.0
+    c.from_residual-in_err-marks.ensures.1

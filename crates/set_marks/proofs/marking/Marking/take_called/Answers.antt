@@ -29,7 +29,8 @@ returns-in-None-sets_fault-clause-takes c =
     let wanted = divided_unless (targets_fault s n) n in
     subst (λ (d : Divided). OnOk c.take_sets.result (TakesStation c.args.line.now s d old new))
     (sym (with_sets (said_in old.stated) (before_in old.names) c.args.line.now s n divides none))
-    (subst (λ (names : StationNames). OnOk c.take_sets.result (TakesStation s wanted (record {
+    (subst (λ (names : StationNames). OnOk c.take_sets.result
+    (TakesStation c.args.line.now s wanted (record {
       stated = old.stated;
       marks = old.marks;
       stations = old.stations;
