@@ -37,7 +37,7 @@ use Rattle.page_calls.specs.Explained.{AnswersLine, explanation_or_refusal}
 use Rattle.page_calls.specs.HandedOut.{HandsOut, verdict_line, text_or_refusal, refusal_text}
 use Rattle.page_calls.specs.HandedOut.{comparison_line, table_or_refusal, copy_text}
 use Rattle.page_calls.specs.HandedOut.{notes_or_refusal}
-use Rattle.page_calls.specs.Limits.{States, stated_limit, stated_file, stated_name}
+use Rattle.page_calls.specs.Limits.{States, stated_limit, stated_file, stated_beginnings}
 use Rattle.page_calls.specs.declared.explain.Unexplained.{Unexplained}
 
 -- The status and the line are those of the verdict on these bytes, of which the whole promise is
@@ -151,7 +151,7 @@ pub record IsDifferencesOf (two_c two_i : ℕ) (gsi table name : List ℕ) (room
 pub record IsMarkOf (gsi name : List ℕ) (sets targets : ℕ) (others : Bool) (notes_room : ℕ)
     (notes : List ℕ) (room answered : ℕ) (shown : List ℕ) : Type 0 where
   pub answer : Result Marked Refused
-  pub marks : AnswersMark (stated_name name) (stated_file sets targets others) gsi
+  pub marks : AnswersMark (stated_beginnings name) (stated_file sets targets others) gsi
       (file_answers (source_of gsi)) answer
   pub status : ℕ
   pub hands_copy_out : HandsOut (status_of answer) (copy_text gsi answer) room status shown

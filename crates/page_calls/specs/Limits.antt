@@ -4,6 +4,7 @@ use Rattle.std.specs.Prelude.{None, ⊤, if◌then◌else◌}
 use Rattle.adjust_kernel.specs.declared.bounds.TheConstants.{LARGEST_RESIDUAL_LIMIT}
 use Rattle.adjust_kernel.specs.Names.{IsName}
 use Rattle.direction_table.specs.declared.limit.TheConstants.{LARGEST_WITHIN}
+use Rattle.set_marks.specs.declared.beginnings.Beginnings.{Beginnings}
 use Rattle.set_marks.specs.Numbers.{Said}
 use Rattle.station_book.specs.Limits.{FaceLimits}
 use Rattle.station_book.specs.declared.limits.TheConstants.{LARGEST_LIMIT}
@@ -42,6 +43,14 @@ MayBeStated (byte ∷ bytes) = IsName (byte ∷ bytes)
 abbrev pub stated_name : List ℕ → Option (List ℕ)
 stated_name [] = None
 stated_name (byte ∷ bytes) = Some (byte ∷ bytes)
+
+-- what is stated of how the stations begin: this name, or nothing
+abbrev pub stated_beginnings : List ℕ → Beginnings
+stated_beginnings name = record {
+  station = stated_name name;
+  same_set_up = false;
+  code = None;
+}
 
 -- the number that is stated, where 0 says that none is
 abbrev pub stated_number : ℕ → Option ℕ

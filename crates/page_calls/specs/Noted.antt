@@ -1,7 +1,8 @@
 -- A copy with codes in memory, and what is told of it.
-use Rattle.std.specs.Prelude.{◌≡◌, ℕ, List, [], Option, Result, Ok, Err}
+use Rattle.std.specs.Prelude.{◌≡◌, ℕ, List, [], Result, Ok, Err}
 use Rattle.gsi_file.specs.FileAnswers.{file_answers}
 use Rattle.set_marks.specs.Markings.{AnswersMark, copy_of}
+use Rattle.set_marks.specs.declared.beginnings.Beginnings.{Beginnings}
 use Rattle.set_marks.specs.declared.fault.MarkFault.TheVariants.{Memory}
 use Rattle.set_marks.specs.declared.marked.Marked.{Marked}
 use Rattle.set_marks.specs.declared.refused.Refused.{Refused}
@@ -24,10 +25,10 @@ Notes gsi (Err refused) noted.OutOfMemory = refused ≡ File Memory
 Notes gsi marking n = ⊥
 
 -- It is so of the marking of these bytes.
-pub record IsNoted (station : Option (List ℕ)) (stated : Said) (gsi : List ℕ) (n : Noted)
+pub record IsNoted (beginnings : Beginnings) (stated : Said) (gsi : List ℕ) (n : Noted)
     : Type 0 where
   pub marking : Result Marked Refused
-  pub marks : AnswersMark station stated gsi (file_answers (source_of gsi)) marking
+  pub marks : AnswersMark beginnings stated gsi (file_answers (source_of gsi)) marking
   pub notes : Notes gsi marking n
 
 -- the status: 1 for a refusal of any kind, and else 0

@@ -9,7 +9,7 @@ ghost use Rattle.page_calls.specs.Noted.{IsNoted, copy_in, notes_in, status_in};
 
 use crate::hand_out::{OUT_OF_RANGE, hand_out};
 use adjust_kernel::Name;
-use set_marks::{MarkFault, Stated, StatedNumber, mark_file, marked_copy};
+use set_marks::{Beginnings, MarkFault, Stated, StatedNumber, mark_file, marked_copy};
 use station_check::{ACCEPTED, REFUSED};
 use station_mark::{PrintFault, notes_text, refusal_line, refusal_text};
 use std::alloc::{AllocError, Global};
@@ -47,7 +47,12 @@ pub fn page_mark(
         return OUT_OF_RANGE;
     };
     let stated = stated_file(alloc, sets, targets, others);
-    let noted = with_notes(alloc, gsi, station, stated);
+    let beginnings = Beginnings {
+        station,
+        same_set_up: false,
+        code: None,
+    };
+    let noted = with_notes(alloc, gsi, beginnings, stated);
     let status = hand_out(noted.status(), noted.copy(), out, written);
     hand_out_notes(&noted, status, notes, notes_written)
 }
@@ -139,10 +144,10 @@ fn stated_file(alloc: Global, sets: u32, targets: u32, others: bool) -> Stated
 }
 
 /// The copy of a field file with codes put in, and its notes; or the text of the refusal.
-fn with_notes(alloc: Global, gsi: &[u8], station: Option<Name>, stated: Stated) -> Noted
-    ensures { IsNoted station (said_in stated) gsi.now result }
+fn with_notes(alloc: Global, gsi: &[u8], beginnings: Beginnings, stated: Stated) -> Noted
+    ensures { IsNoted beginnings (said_in stated) gsi.now result }
 {
-    match try_notes(alloc, gsi, station, stated) {
+    match try_notes(alloc, gsi, beginnings, stated) {
         Ok(noted) => noted,
         Err(_) => Noted::OutOfMemory,
     }
@@ -152,12 +157,12 @@ fn with_notes(alloc: Global, gsi: &[u8], station: Option<Name>, stated: Stated) 
 fn try_notes(
     alloc: Global,
     gsi: &[u8],
-    station: Option<Name>,
+    beginnings: Beginnings,
     stated: Stated,
 ) -> Result<Noted, AllocError>
-    ensures { IfOk result (IsNoted station (said_in stated) gsi.now) }
+    ensures { IfOk result (IsNoted beginnings (said_in stated) gsi.now) }
 {
-    match mark_file(alloc, gsi, false, station, stated) {
+    match mark_file(alloc, gsi, false, beginnings, stated) {
         Ok(marked) => {
             let copy = marked_copy(alloc, gsi, &marked.marks)?;
             let notes = notes_text(alloc, &marked.stations)?;

@@ -140,8 +140,8 @@ pub fn bare_name(name: &Name) -> Name
     bare_of(name.bytes())
 }
 
-/// Whether it is stated that blocks of a code begin stations, and a block that is no measurement
-/// has this code.
+/// Whether it is stated that the blocks of a code begin stations, and this block, which is no
+/// measurement, has the code; zeros before a code do not count.
 fn has_code(code: &Option<Name>, block: &Block<'_>) -> bool
     requires { role_of (block_of block.now) ≡ Other }
     ensures { result ≡ has_code code.now (block_of block.now) }
@@ -171,8 +171,8 @@ fn information(block: &Block<'_>) -> Option<Name>
     None
 }
 
-/// The name of the station that a block begins, if it does: of a set-up line the name in its first
-/// word, of a block of the stated code that in its first word 42.
+/// The name of which a block begins a station, if it does: at a set-up line the name in its first
+/// word, at a block of the stated code that in its first word 42.
 #[tactic(auto, using(crate::proofs::SetUps::names))]
 fn begins_named(beginnings: &Beginnings, block: &Block<'_>) -> Option<Name>
     ensures { result ≡ begins_named beginnings.now (block_of block.now) }
