@@ -48,6 +48,10 @@ class Option(NamedTuple):
     def where_none_is_stated(self) -> str:
         return f"It is {self.usual} where none is stated." if self.usual else ""
 
+    def is_repeated(self) -> bool:
+        """Whether it may stand several times, as its help says."""
+        return "several times" in self.text
+
     def wanted(self) -> str:
         """What its value is, as a completion says."""
         found = RANGE.search(self.text)
@@ -203,7 +207,8 @@ def fish_part(found: list[Command]) -> Iterator[str]:
 def zsh_option(option: Option) -> str:
     said = f"[{lowered(option.summary()).replace(':', ',')}]"
     action = ":_files" if option.value in PATHS else ""
-    return f"'{option.name}={said}:{option.wanted()}{action}'" if option.value else f"'{option.name}{said}'"
+    name = "*" * option.is_repeated() + option.name
+    return f"'{name}={said}:{option.wanted()}{action}'" if option.value else f"'{name}{said}'"
 
 
 def zsh_operand(place: int, name: str, text: str) -> str:

@@ -330,6 +330,9 @@ class CommandLineTest(ProgramTest):
             ["report", "--within=1", "a", "b"],
             ["report", "--degrees", "a", "b"],
             ["mark", "--station=", "a"],
+            ["mark", "--sets=41", "a"],
+            ["mark", "--targets=P7=1", "--targets=P7=1", "a"],
+            ["mark", "--station-code=10", "a"],
             ["explain", "nonsense"],
             ["explain", "FaceTwise"],
         ]:

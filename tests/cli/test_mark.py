@@ -184,6 +184,40 @@ class MarkTest(AgainstModel):
             self.assertEqual(6 + (faulty > 0), len(re.findall(rb"(?m)^41[.]{4}", copy)))
 
 
+NO_NAME = "the name of a station has 1 to 16 characters of ASCII, from the blank to '~'"
+NO_CODE = "a code has 1 to 16 characters of ASCII, and is none of 10, 20 and 30, which 'mark' puts in"
+
+# Of an option's values the one that can't stand where it does, and why.
+WRONG_VALUES = [
+    (["--sets=x=y"], "x=y", "state a whole number from 1 to 40, or NAME=N for one station"),
+    (["--sets="], "", "state a whole number from 1 to 40, or NAME=N for one station"),
+    (["--targets=P7="], "P7=", "state a whole number from 1 to 100, or NAME=N for one station"),
+    (["--sets=P7=-1"], "P7=-1", "state a whole number from 1 to 40, or NAME=N for one station"),
+    (["--sets=P7=0"], "P7=0", "0 is not in 1..=40"),
+    (["--sets=P7=41"], "P7=41", "41 is not in 1..=40"),
+    (["--targets=a=b=101"], "a=b=101", "101 is not in 1..=100"),
+    (["--sets==3"], "=3", NO_NAME),
+    (["--sets=\u00e9=3"], "\u00e9=3", NO_NAME),
+    (["--targets=SEVENTEEN OF BYTE=3"], "SEVENTEEN OF BYTE=3", NO_NAME),
+    (["--sets=2", "--sets=2"], "2", "another number is stated for all stations before it"),
+    (["--sets=4", "--sets=P7=3", "--sets=5"], "5", "another number is stated for all stations before it"),
+    (["--sets=P7=3", "--sets=00P7=3"], "00P7=3", "another number is stated for this station before it"),
+    (["--targets=a=b=3", "--targets=a=b=4"], "a=b=4", "another number is stated for this station before it"),
+    (["--sets=P7=3", "--sets=0", "--sets=P7=3"], "0", "0 is not in 1..=40"),
+    (["--targets=0", "--sets=41"], "41", "41 is not in 1..=40"),
+    (["--station-code=10", "--targets=0"], "0", "0 is not in 1..=100"),
+    *(([f"--station-code={code}"], code, NO_CODE) for code in ["10", "20", "0030", "", "SEVENTEEN OF BYTE"]),
+]
+
+
+def wrong_values():
+    """The words of `mark` with a wrong value, and the line that says so."""
+    for options, value, why in WRONG_VALUES:
+        # Numbers are told before the code, those of sets first.
+        named = min((option.split("=")[0] for option in options), key=["--sets", "--targets", "--station-code"].index)
+        yield [*options, "a"], f"error: invalid value '{value}' for '{named} <N>': {why}\n".encode()
+
+
 class CommandTest(ProgramTest):
     """The command as users meet it."""
 
@@ -226,7 +260,9 @@ class CommandTest(ProgramTest):
             (["--sets=41", "a"], b"error: invalid value '41' for '--sets <N>': 41 is not in 1..=40\n"),
             (["--targets=101", "a"], b"error: invalid value '101' for '--targets <N>': 101 is not in 1.."),
             (["--sets=two", "a"], b"error: invalid value 'two' for '--sets <N>': "),
-            (["--sets=2", "--sets=2", "a"], b"error: the argument '--sets <N>' cannot"),
+            (["--station-code=40", "--station-code=40", "a"], b"error: the argument '--station-code <N>' cannot"),
+            (["--same-set-up=1", "a"], b"error: unexpected value '1' for '--same-set-up' found"),
+            *wrong_values(),
         ]:
             with self.subTest(args):
                 status, stdout, stderr = answer_of(["mark", *args])
@@ -240,6 +276,7 @@ class CommandTest(ProgramTest):
         status, stdout, stderr = answer_of(["mark", "--help"])
         self.assertEqual((0, b""), (status, stderr))
         parts = [b"--station <NAME>", b"--sets <N>", b"--targets <N>", b"--others", b"<GSI>"]
+        parts += [b"--same-set-up", b"--station-code <N>", b"--sets P7=3"]
         for part in [*parts, b"Example:\n  station_check mark "]:
             self.assertIn(part, stdout)
         self.assertLessEqual(max(map(len, stdout.splitlines())), 100)

@@ -1,13 +1,22 @@
--- The options whose limits are looked at, one after the other.
-use Rattle.std.proofs.Common.{◌≡◌, ◌+◌, ◌≤◌, ◌<◌, ℕ, arith, get_or, lit<, lit≤, refl, subst}
+-- The mistakes that are looked for, one after the other.
+use Rattle.std.proofs.Common.{◌≡◌, ◌+◌, ◌≤◌, ◌<◌, ℕ, arith, get_or, inl, inr, lit<, lit≤, refl}
+use Rattle.std.proofs.Common.{subst}
+use Rattle.std.proofs.lemmas.Bool.{cases_lt}
 use borrow.Author.Count.{below_more}
 use Rattle.clap.specs.declared.parser.matches.Found.{Found}
+use Rattle.set_marks.specs.declared.stated.StatedNumber.{StatedNumber}
+use Rattle.command_line.specs.CountOptions.{count_largest, count_name}
 use Rattle.command_line.specs.LimitOptions.{option_largest, place}
-use Rattle.command_line.specs.Mistakes.{IsRightLimit}
+use Rattle.command_line.specs.Mistakes.{HasRightCounts, IsMistakeAmong, IsMistakeFrom}
+use Rattle.command_line.specs.Mistakes.{IsRightLimit, NoneIsBefore, rank}
+use Rattle.command_line.specs.StatedNumbers.{IsStatedBy, texts_of}
+use Rattle.command_line.specs.declared.count_option.CountOption.{CountOption}
 use Rattle.command_line.specs.declared.limit_option.LimitOption.{LimitOption}
 use Rattle.command_line.specs.declared.limit_option.LimitOption.TheVariants.{TwoC, TwoI, Residual}
 use Rattle.command_line.specs.declared.limit_option.LimitOption.TheVariants.{Within}
 use Rattle.command_line.specs.declared.limit_option.TheConstants.{LIMIT_OPTIONS}
+use Rattle.command_line.specs.declared.mistakes.Mistake.{Mistake}
+use Rattle.command_line.proofs.NumberLaws.{no_numbers}
 
 -- 32 bits hold each limit that may be stated.
 pub small-largest : (option : LimitOption) → option_largest option < 4_294_967_296
@@ -52,3 +61,22 @@ next-right found n before right =
     below_more IsRightAt n
     (λ k less other at. before other (omega (arith, less, at)))
     (here found n right) (place option) small option refl
+
+-- Where texts state numbers, none of them is wrong.
+pub right-counts : (found : Found) (option : CountOption) (stated : StatedNumber)
+    → IsStatedBy (count_largest option) (texts_of found (count_name option)) stated
+    → HasRightCounts found option
+right-counts found option stated is =
+    λ text why wrong.
+    no_numbers (count_largest option) (texts_of found (count_name option)) text why wrong is.0 is.1
+
+-- The first mistake from a place on is the first of all, where none is before that place.
+pub first-of-all : (place : ℕ) (found : Found) (mistake : Mistake) → NoneIsBefore place found
+    → IsMistakeFrom place found mistake → IsMistakeAmong found mistake
+first-of-all place found mistake none is = record {
+  there = is.there;
+  first = λ other before. elim (cases_lt (rank other) place) [
+    | inl early ↦ none other early
+    | inr late ↦ is.first other late before
+  ];
+}

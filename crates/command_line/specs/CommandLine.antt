@@ -9,17 +9,19 @@ use Rattle.clap.specs.declared.error.Error.{Error}
 use Rattle.clap.specs.declared.error.kind.ErrorKind.TheVariants.{InvalidValue, OutOfMemory}
 use Rattle.clap.specs.declared.error.kind.ErrorKind.TheVariants.{ValueValidation}
 use Rattle.clap.specs.declared.parser.matches.Found.{Found}
-use Rattle.adjust_kernel.specs.declared.bounds.TheConstants.{MOST_SETS, MOST_TARGETS}
+use Rattle.set_marks.specs.declared.beginnings.Beginnings.{Beginnings}
+use Rattle.set_marks.specs.declared.stated.StatedNumber.{StatedNumber}
 use Rattle.station_book.specs.Limits.{FaceLimits}
 use Rattle.station_book.specs.declared.result_limits.ResultLimits.{ResultLimits}
 use Rattle.station_explain.specs.Naming.{Names, IsMeant, IsNoNameInAnyCase}
 use Rattle.station_explain.specs.Table.{Explanation}
 use Rattle.command_line.specs.Commands.{the_program}
 use Rattle.command_line.specs.Stated.{HoldsResiduals, IsGiven, IsMissing, StatesDigests, StatesForm}
-use Rattle.command_line.specs.Stated.{StatesCount, StatesLimits, StatesNoCount, StatesOthers}
-use Rattle.command_line.specs.Stated.{StatesName, StatesNoLimits, StatesNoName, StatesNoNumber}
+use Rattle.command_line.specs.Stated.{StatesBeginnings, StatesFlag, StatesLimits}
+use Rattle.command_line.specs.Stated.{StatesNoBeginnings, StatesNoLimits, StatesNoNumber}
 use Rattle.command_line.specs.Stated.{StatesNoResidual, StatesNoWithin, StatesNumber}
 use Rattle.command_line.specs.Stated.{StatesResidual, StatesUnit, StatesWithin}
+use Rattle.command_line.specs.StatedNumbers.{StatesNoNumbers, StatesNumbers}
 use Rattle.command_line.specs.declared.request.Digests.{Digests}
 use Rattle.command_line.specs.declared.request.Digests.TheVariants.{Omitted, Printed}
 use Rattle.command_line.specs.declared.request.ListForm.TheVariants.{Lines, Rows}
@@ -99,17 +101,17 @@ pub record AsksToCheck (found : Found) (gsi sheet : List ℕ) (limits : FaceLimi
   pub of_residual : StatesResidual found residual
   pub of_digests : StatesDigests found digests
 
--- What `mark` asks for: the path of the field file and that of its copy or none, the name of its one
--- station or none, how many sets were read to the end and how many targets they have, where that is
--- stated, and whether stations with a fault stay outside.
-pub record AsksToMark (found : Found) (gsi : List ℕ) (copy station : Option (List ℕ))
-    (sets targets : Option ℕ) (others : Bool) : Type 0 where
+-- What `mark` asks for: the path of the field file and that of its copy or none, how its stations
+-- begin, how many sets were read to the end and how many targets they have, at most 40 and 100, and
+-- whether stations with a fault stay outside.
+pub record AsksToMark (found : Found) (gsi : List ℕ) (copy : Option (List ℕ))
+    (beginnings : Beginnings) (sets targets : StatedNumber) (others : Bool) : Type 0 where
   pub field_file : IsGiven found (codes "GSI") gsi
   pub of_copy : first_value found (codes "COPY") ≡ copy
-  pub of_name : StatesName found station
-  pub of_sets : StatesCount found (codes "sets") sets
-  pub of_targets : StatesCount found (codes "targets") targets
-  pub of_others : StatesOthers found others
+  pub of_beginnings : StatesBeginnings found beginnings
+  pub of_sets : StatesNumbers found (codes "sets") 40 sets
+  pub of_targets : StatesNumbers found (codes "targets") 100 targets
+  pub of_others : StatesFlag found (codes "others") others
 
 -- What a subcommand of this name asks for, by what is found of the words after it: each its own
 -- request.
@@ -136,9 +138,9 @@ AsksFor name found (request.Check gsi sheet limits residual digests) =
     (name ≡ codes "check") × AsksToCheck found gsi.now sheet.now limits residual digests
 AsksFor name found (request.Means gsi station limits) =
     (name ≡ codes "means") × AsksOfStation found gsi.now station.now limits
-AsksFor name found (request.Mark gsi copy station sets targets others) =
+AsksFor name found (request.Mark gsi copy beginnings sets targets others) =
     (name ≡ codes "mark")
-    × AsksToMark found gsi.now (option_map (λ path. path.now) copy) station sets targets others
+    × AsksToMark found gsi.now (option_map (λ path. path.now) copy) beginnings sets targets others
 AsksFor name found (request.List gsi limits form) =
     (name ≡ codes "list") × IsGiven found (codes "GSI") gsi.now
     × StatesLimits found limits × StatesForm found form
@@ -197,9 +199,8 @@ LacksToCheck found = IsMissing found (codes "GSI") ⊎ IsMissing found (codes "S
 
 -- What `mark` needs isn't found.
 abbrev pub LacksToMark : Found → Type 0
-LacksToMark found = IsMissing found (codes "GSI") ⊎ StatesNoName found
-    ⊎ StatesNoCount found (codes "sets") MOST_SETS
-    ⊎ StatesNoCount found (codes "targets") MOST_TARGETS
+LacksToMark found = IsMissing found (codes "GSI") ⊎ StatesNoBeginnings found
+    ⊎ StatesNoNumbers found (codes "sets") 40 ⊎ StatesNoNumbers found (codes "targets") 100
 
 -- What `list` needs isn't found.
 abbrev pub LacksForList : Found → Type 0

@@ -1,7 +1,6 @@
 -- The grammar of the command line: the commands, and the arguments and options of each, in the
 -- order in which they are read.
-use Rattle.std.specs.Prelude.{◌∷◌, [], ℕ, pos, true, false, List, Some, codes}
-use Rattle.adjust_kernel.specs.declared.bounds.TheConstants.{MOST_SETS, MOST_TARGETS}
+use Rattle.std.specs.Prelude.{◌∷◌, [], pos, true, false, List, Some, codes}
 use Rattle.clap.specs.Lexer.{usize_max}
 use Rattle.clap.specs.Simple.{new_shape}
 use Rattle.clap.specs.Words.{App, Rule, Shape, Text, new_rule}
@@ -56,17 +55,17 @@ decimals_rule = record (text_rule (codes "decimals")) {
   defaults = codes "6" ∷ [];
 }
 
--- An option `--id N`, which may be left out: a whole number from 1 up to a largest.
-abbrev pub count_rule : Text → ℕ → Rule
-count_rule id largest = record (text_rule id) { parser = Some (Signed (pos 1) (pos largest)) }
+-- An option `--id N` or `--id NAME=N`, any number of times.
+abbrev pub numbers_rule : Text → Rule
+numbers_rule id = record (text_rule id) { action = Some Append }
 
--- The option `--sets N`: how many sets were read to the end.
+-- The option `--sets`: how many sets were read to the end.
 abbrev pub sets_rule : Rule
-sets_rule = count_rule (codes "sets") MOST_SETS
+sets_rule = numbers_rule (codes "sets")
 
--- The option `--targets N`: how many targets they have.
+-- The option `--targets`: how many targets they have.
 abbrev pub targets_rule : Rule
-targets_rule = count_rule (codes "targets") MOST_TARGETS
+targets_rule = numbers_rule (codes "targets")
 
 -- A flag `--id`.
 abbrev pub flag_rule : Text → Rule
@@ -87,6 +86,14 @@ csv_rule = flag_rule (codes "csv")
 -- The option `--station NAME`, which may be left out: the name of the file's one station.
 abbrev pub stated_name_rule : Rule
 stated_name_rule = text_rule (codes "station")
+
+-- The flag `--same-set-up`: a set-up line of the station that is open begins nothing.
+abbrev pub same_set_up_rule : Rule
+same_set_up_rule = flag_rule (codes "same-set-up")
+
+-- The option `--station-code N`, which may be left out: the code whose blocks begin a station.
+abbrev pub station_code_rule : Rule
+station_code_rule = text_rule (codes "station-code")
 
 -- The option `--table TABLE`, which may be left out: the path of a table, which is not empty.
 abbrev pub stated_table_rule : Rule
@@ -141,6 +148,8 @@ rule_for argument.Digests = digests_rule
 rule_for argument.Rows = csv_rule
 rule_for argument.StatedTable = stated_table_rule
 rule_for argument.StatedName = stated_name_rule
+rule_for argument.SameSetUp = same_set_up_rule
+rule_for argument.StationCode = station_code_rule
 rule_for argument.StatedSets = sets_rule
 rule_for argument.StatedTargets = targets_rule
 rule_for argument.Others = others_rule
@@ -197,8 +206,8 @@ means_words =
 -- `mark GSI`, or `mark GSI COPY`
 abbrev pub mark_words : Shape
 mark_words = of_rules (codes "mark")
-    (field_file_rule ∷ copy_rule ∷ stated_name_rule ∷ sets_rule ∷ targets_rule ∷ others_rule
-    ∷ [])
+    (field_file_rule ∷ copy_rule ∷ stated_name_rule ∷ same_set_up_rule ∷ station_code_rule
+    ∷ sets_rule ∷ targets_rule ∷ others_rule ∷ [])
 
 -- `list GSI`
 abbrev pub list_words : Shape

@@ -1,7 +1,10 @@
 -- The public definitions, which public contracts cite, in the order in which a reader needs them.
 pub mod Commands
+pub mod StatedNumbers
 pub mod Stated
 pub mod CommandLine
 -- The inside.
 pub mod LimitOptions
+pub mod CountOptions
+pub mod WrongTexts
 pub mod Mistakes

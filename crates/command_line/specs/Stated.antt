@@ -6,6 +6,8 @@ use Rattle.std.specs.Str.Parse.{IsNumeral, digits_value, without_leading_plus}
 use Rattle.clap.specs.Words.{one_text, matched_of, first_value}
 use Rattle.clap.specs.declared.parser.matches.Found.{Found}
 use Rattle.adjust_kernel.specs.Names.{IsName}
+use Rattle.gsi_word.specs.Names.{name_of}
+use Rattle.set_marks.specs.declared.beginnings.Beginnings.{Beginnings}
 use Rattle.adjust_kernel.specs.declared.bounds.TheConstants.{LARGEST_RESIDUAL_LIMIT}
 use Rattle.limit_texts.specs.Limits.{StatesLimit}
 use Rattle.limit_texts.specs.declared.limit.LimitUnit.{LimitUnit}
@@ -103,11 +105,10 @@ abbrev pub StatesUnit : Found → AngleUnit → Type 0
 StatesUnit found Degrees = one_text found (codes "degrees") ≡ Some (codes "true")
 StatesUnit found Gon = one_text found (codes "degrees") ≢ Some (codes "true")
 
--- Stations with a fault stay outside where the flag stands, and only there: its value is then the
--- text `true`.
-abbrev pub StatesOthers : Found → Bool → Type 0
-StatesOthers found true = one_text found (codes "others") ≡ Some (codes "true")
-StatesOthers found false = one_text found (codes "others") ≢ Some (codes "true")
+-- The flag of this id stands, or doesn't: where it stands, its value is the text `true`.
+abbrev pub StatesFlag : Found → List ℕ → Bool → Type 0
+StatesFlag found id true = one_text found id ≡ Some (codes "true")
+StatesFlag found id false = one_text found id ≢ Some (codes "true")
 
 -- This name of a station is stated, or none.
 abbrev pub StatesName : Found → Option (List ℕ) → Type 0
@@ -118,12 +119,31 @@ StatesName found (Some name) = IsGiven found (codes "station") name × IsName na
 abbrev pub StatesNoName : Found → Type 0
 StatesNoName found = (text : List ℕ) × IsGiven found (codes "station") text × ¬ (IsName text)
 
--- This number is stated by the option of this id, or none is.
-abbrev pub StatesCount : Found → List ℕ → Option ℕ → Type 0
-StatesCount found id None = matched_of found id ≡ None
-StatesCount found id (Some n) = StatesNumber found id n
+-- The codes that are put into a copy, so that no other block has them.
+abbrev pub IsPutIn : List ℕ → Type 0
+IsPutIn code = (code ≡ codes "10") ⊎ (code ≡ codes "20") ⊎ (code ≡ codes "30")
 
--- What is stated by the option of this id is no number from 1 up to a largest.
-abbrev pub StatesNoCount : Found → List ℕ → ℕ → Type 0
-StatesNoCount found id largest =
-    IsSome (matched_of found id) × StatesNoNumber found id 1 largest
+-- This code is stated as one whose blocks begin a station, or none is: a code is a text as a name
+-- is, without the zeros before it, and none of those that are put in.
+abbrev pub StatesCode : Found → Option (List ℕ) → Type 0
+StatesCode found None = IsMissing found (codes "station-code")
+StatesCode found (Some code) =
+    (text : List ℕ) × IsGiven found (codes "station-code") text × IsName text
+    × (code ≡ name_of text) × ¬ (IsPutIn code)
+
+-- A text is stated that is no such code.
+abbrev pub StatesNoCode : Found → Type 0
+StatesNoCode found =
+    (text : List ℕ) × IsGiven found (codes "station-code") text
+    × (¬ (IsName text) ⊎ IsPutIn (name_of text))
+
+-- Stations begin as it is stated: by the name of the file's one station or by set-up lines, of
+-- which one of the station that is open may begin nothing, and by blocks of a code.
+pub record StatesBeginnings (found : Found) (beginnings : Beginnings) : Type 0 where
+  pub of_name : StatesName found beginnings.station
+  pub of_same : StatesFlag found (codes "same-set-up") beginnings.same_set_up
+  pub of_code : StatesCode found beginnings.code
+
+-- A name or a code is stated that may not be.
+abbrev pub StatesNoBeginnings : Found → Type 0
+StatesNoBeginnings found = StatesNoName found ⊎ StatesNoCode found

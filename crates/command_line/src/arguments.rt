@@ -1,15 +1,14 @@
 //! The arguments and options of the commands, as the grammar has them, and their help.
 
-ghost use Rattle.std.specs.Prelude.{◌≡◌, ◌<◌, ◌^◌};
+ghost use Rattle.std.specs.Prelude.{◌≡◌};
 ghost use Rattle.clap.specs.Words.{rule_of};
-ghost use Rattle.command_line.specs.Commands.{copy_rule, count_rule, decimals_rule};
+ghost use Rattle.command_line.specs.Commands.{copy_rule, decimals_rule, numbers_rule};
 ghost use Rattle.command_line.specs.Commands.{face_limit_rule};
 ghost use Rattle.command_line.specs.Commands.{fault_rule};
 ghost use Rattle.command_line.specs.Commands.{flag_rule, given_rule, path_rule, rule_for};
 ghost use Rattle.command_line.specs.Commands.{stated_table_rule, text_rule};
 
 use crate::help;
-use adjust_kernel::{MOST_SETS, MOST_TARGETS};
 use clap::builder::ValueParser;
 use clap::{Arg, ArgAction};
 use direction_table::MOST_WRITTEN;
@@ -62,6 +61,12 @@ pub(crate) const STATED_TABLE: &str = "table";
 
 /// The option of the name of the file's one station.
 pub(crate) const STATED_NAME: &str = "station";
+
+/// The flag that says that a set-up line of the station that is open begins nothing.
+pub(crate) const SAME_SET_UP: &str = "same-set-up";
+
+/// The option of the code whose blocks begin a station.
+pub(crate) const STATION_CODE: &str = "station-code";
 
 /// The option of how many sets were read to the end.
 pub(crate) const SETS: &str = "sets";
@@ -129,6 +134,12 @@ pub(crate) enum Argument {
     /// The name of the file's one station.
     StatedName,
 
+    /// That a set-up line of the station that is open begins nothing.
+    SameSetUp,
+
+    /// The code whose blocks begin a station.
+    StationCode,
+
     /// How many sets were read to the end.
     StatedSets,
 
@@ -170,8 +181,10 @@ impl Argument {
             Argument::Rows => flag(alloc, CSV),
             Argument::StatedTable => stated_table(alloc),
             Argument::StatedName => text_option(alloc, STATED_NAME, "NAME"),
-            Argument::StatedSets => count(alloc, SETS, MOST_SETS),
-            Argument::StatedTargets => count(alloc, TARGETS, MOST_TARGETS),
+            Argument::SameSetUp => flag(alloc, SAME_SET_UP),
+            Argument::StationCode => text_option(alloc, STATION_CODE, "N"),
+            Argument::StatedSets => numbers(alloc, SETS),
+            Argument::StatedTargets => numbers(alloc, TARGETS),
             Argument::Others => flag(alloc, OTHERS),
         }
     }
@@ -197,8 +210,11 @@ impl Argument {
                 "A table of directions, which stands beside the adjusted ones"
             }
             Argument::StatedName => "The name of the station, of a file without set-up lines",
-            Argument::StatedSets => "How many sets were read to the end at each station: 1 to 40",
-            Argument::StatedTargets => "How many targets these sets have: 1 to 100",
+            Argument::SameSetUp => "Go on with a station at a set-up line that has its name again",
+            Argument::StationCode =>
+                "Begin a station at each code block N with a word 42, its name",
+            Argument::StatedSets => help::SETS_HELP,
+            Argument::StatedTargets => help::TARGETS_HELP,
             Argument::Others =>
                 "Leave stations that are not recognized outside, and mark the others",
         }
@@ -218,6 +234,8 @@ impl Argument {
             Argument::StatedTable => help::STATED_TABLE_LONG_HELP,
             Argument::Copy => help::COPY_LONG_HELP,
             Argument::StatedName => help::STATION_LONG_HELP,
+            Argument::SameSetUp => help::SAME_SET_UP_LONG_HELP,
+            Argument::StationCode => help::STATION_CODE_LONG_HELP,
             Argument::StatedSets => help::SETS_LONG_HELP,
             Argument::StatedTargets => help::TARGETS_LONG_HELP,
             Argument::Others => help::OTHERS_LONG_HELP,
@@ -285,12 +303,11 @@ fn decimals<'a>(alloc: Global) -> Arg<'a>
         .default_value(USUAL_DECIMALS)
 }
 
-/// The option of a whole number from 1 up to a largest.
-fn count<'a>(alloc: Global, name: &'a str, largest: usize) -> Arg<'a>
-    requires { largest < 2 ^ 32 }
-    ensures { rule_of result ≡ count_rule name.entry.now largest }
+/// The option of numbers of stations, each with its own `--name`.
+fn numbers<'a>(alloc: Global, name: &'a str) -> Arg<'a>
+    ensures { rule_of result ≡ numbers_rule name.entry.now }
 {
-    text_option(alloc, name, "N").value_parser(ValueParser::Signed(1, largest as i64))
+    text_option(alloc, name, "N").action(ArgAction::Append)
 }
 
 /// An option without a value.

@@ -79,9 +79,10 @@ fn request_named<'a>(
     match matches.subcommand() {
         None => Ok(Request::WordsOfInput),
         Some(("explain", found)) => explanation_asked_for(alloc, table, called, found),
-        Some((name, found)) => match request_after(name, found) {
-            Some(request) => Ok(request),
-            None => Err(mistake_in(alloc, called, name, found)?),
+        Some((name, found)) => match request_after(alloc, name, found) {
+            Ok(Some(request)) => Ok(request),
+            Ok(None) => Err(mistake_in(alloc, called, name, found)?),
+            Err(refused) => Err(Error::from(refused)),
         },
     }
 }

@@ -231,10 +231,12 @@ const MEANS: [Argument; 4] = [
 ];
 
 /// The arguments and options of `mark`.
-const MARK: [Argument; 6] = [
+const MARK: [Argument; 8] = [
     Argument::FieldFile,
     Argument::Copy,
     Argument::StatedName,
+    Argument::SameSetUp,
+    Argument::StationCode,
     Argument::StatedSets,
     Argument::StatedTargets,
     Argument::Others,

@@ -1,22 +1,44 @@
 //! What is read of the words after a subcommand's name.
 
-ghost use Rattle.std.specs.Prelude.{◌≤◌, ◌<◌, ◌^◌, ℕ, IfSome, IfNone, codes};
+ghost use Rattle.std.specs.Prelude.{◌≤◌, ◌<◌, ◌^◌, ℕ, IfErr, IfOk, IfSome, IfNone, codes};
 ghost use Rattle.clap.specs.Words.{found_of};
-ghost use Rattle.command_line.specs.Stated.{LimitIsStated, StatesDigests, StatesForm, StatesLimits};
-ghost use Rattle.command_line.specs.Stated.{StatesName, StatesNoLimits, StatesNoName};
-ghost use Rattle.command_line.specs.Stated.{StatesNoNumber, StatesNoResidual, StatesNoWithin};
-ghost use Rattle.command_line.specs.Stated.{StatesCount, StatesNoCount, StatesOthers};
-ghost use Rattle.command_line.specs.Stated.{StatesNumber, StatesResidual, StatesUnit, StatesWithin};
+ghost use Rattle.command_line.specs.CountOptions.{count_largest, count_name};
+ghost use Rattle.command_line.specs.Stated.{LimitIsStated, StatesBeginnings, StatesCode};
+ghost use Rattle.command_line.specs.Stated.{StatesDigests, StatesFlag, StatesForm, StatesLimits};
+ghost use Rattle.command_line.specs.Stated.{StatesName, StatesNoBeginnings, StatesNoCode};
+ghost use Rattle.command_line.specs.Stated.{StatesNoLimits, StatesNoName, StatesNoNumber};
+ghost use Rattle.command_line.specs.Stated.{StatesNoResidual, StatesNoWithin, StatesNumber};
+ghost use Rattle.command_line.specs.Stated.{StatesResidual, StatesUnit, StatesWithin};
+ghost use Rattle.command_line.specs.StatedNumbers.{IsStatedBy, StatesNoNumbers, StatesNumbers};
+ghost use Rattle.command_line.specs.StatedNumbers.{texts_of};
+ghost use Rattle.command_line.specs.WrongTexts.{IsUnstated};
 
 use crate::arguments::{
-    CSV, DECIMALS, DEGREES, OTHERS, RESIDUAL, SHA256, STATED_NAME, TWO_C, TWO_I, WITHIN,
+    CSV, DECIMALS, DEGREES, RESIDUAL, SAME_SET_UP, SHA256, STATED_NAME, STATION_CODE, TWO_C, TWO_I,
+    WITHIN,
 };
+use crate::count_option::CountOption;
+use crate::numbers::{Unstated, numbers_of};
 use crate::request::{Digests, ListForm};
 use adjust_kernel::{Name, ResidualLimit};
 use clap::ArgMatches;
 use direction_table::{AngleUnit, Decimals, LARGEST_WITHIN, MOST_WRITTEN};
 use limit_texts::{LimitUnit, limit_stated};
+use set_marks::{Beginnings, StatedNumber, bare_name};
 use station_book::Limits;
+use std::alloc::{AllocError, Global};
+
+/// How the stations of a field file begin, unless a name or a code is stated that may not be.
+pub(crate) fn beginnings_of(found: &ArgMatches<'_>) -> Option<Beginnings>
+    ensures stated { IfSome result (StatesBeginnings (found_of found.now)) }
+    ensures none { IfNone result (StatesNoBeginnings (found_of found.now)) }
+{
+    Some(Beginnings {
+        station: stated_name_of(found)?,
+        same_set_up: has_flag(found, SAME_SET_UP),
+        code: stated_code_of(found)?,
+    })
+}
 
 /// The name that is stated of the file's one station, or that there is none, unless no station can
 /// have it.
@@ -30,16 +52,55 @@ pub(crate) fn stated_name_of(found: &ArgMatches<'_>) -> Option<Option<Name>>
     Some(Some(Name::new(name.as_bytes())?))
 }
 
-/// The number that an option states, or that none is, unless what it states is no number.
-pub(crate) fn count_of(found: &ArgMatches<'_>, option: &str, largest: usize) -> Option<Option<u32>>
-    requires { largest < 2 ^ 32 }
-    ensures stated { IfSome result (StatesCount (found_of found.now) option.now) }
-    ensures none { IfNone result (StatesNoCount (found_of found.now) option.now largest) }
+/// The code that is stated as one whose blocks begin a station, or that none is, unless it is none
+/// that may be.
+pub(crate) fn stated_code_of(found: &ArgMatches<'_>) -> Option<Option<Name>>
+    ensures stated { IfSome result (StatesCode (found_of found.now)) }
+    ensures none { IfNone result (StatesNoCode (found_of found.now)) }
 {
-    if !found.contains_id(option) {
+    let Some(text) = found.get_str(STATION_CODE) else {
         return Some(None);
+    };
+    let code = bare_name(&Name::new(text.as_bytes())?);
+    match code.bytes() {
+        b"10" | b"20" | b"30" => None,
+        _ => Some(Some(code)),
     }
-    Some(Some(found.get_one(option)?))
+}
+
+/// What an option states of how many sets or targets there are, unless its texts state none.
+pub(crate) fn count_of(
+    alloc: Global,
+    found: &ArgMatches<'_>,
+    option: CountOption,
+) -> Result<Option<StatedNumber>, AllocError>
+    ensures stated { IfOk result (λ counted. IfSome counted
+        (StatesNumbers (found_of found.now) (count_name option) (count_largest option))) }
+    ensures none { IfOk result (λ counted. IfNone counted
+        (StatesNoNumbers (found_of found.now) (count_name option) (count_largest option))) }
+{
+    match counted(alloc, found, option) {
+        Ok(stated) => Ok(Some(stated)),
+        Err(Unstated::Memory) => Err(AllocError),
+        Err(Unstated::Wrong(_, _)) => Ok(None),
+    }
+}
+
+/// What an option states of how many sets or targets there are, or why it states none.
+pub(crate) fn counted<'a>(
+    alloc: Global,
+    found: &ArgMatches<'a>,
+    option: CountOption,
+) -> Result<StatedNumber, Unstated<'a>>
+    ensures stated { IfOk result (IsStatedBy (count_largest option)
+        (texts_of (found_of found.now) (count_name option))) }
+    ensures why { IfErr result (IsUnstated (count_largest option)
+        (texts_of (found_of found.now) (count_name option))) }
+{
+    match found.get_strs(option.name()) {
+        Some(texts) => numbers_of(alloc, texts, option),
+        None => numbers_of(alloc, &[], option),
+    }
 }
 
 /// The limits of face differences, unless one is missing or out of its range.
@@ -118,11 +179,11 @@ pub(crate) fn form_of(found: &ArgMatches<'_>) -> ListForm
     }
 }
 
-/// Whether stations with a fault stay outside.
-pub(crate) fn others_of(found: &ArgMatches<'_>) -> bool
-    ensures { StatesOthers (found_of found.now) result }
+/// Whether a flag of this name stands.
+pub(crate) fn has_flag(found: &ArgMatches<'_>, flag: &str) -> bool
+    ensures { StatesFlag (found_of found.now) flag.now result }
 {
-    match found.get_one(OTHERS) {
+    match found.get_one(flag) {
         Some(true) => true,
         _ => false,
     }

@@ -258,10 +258,12 @@ Prints a copy of a field file that was recorded without codes, and puts lines wi
 read the copy.
 
 A station begins at each set-up line, as instruments record one: a block that begins with the point
-number and has the word 84, 85, 86 or 88, and no direction, no vertical angle and no distance. A
-file without set-up lines is one station, which --station names. A set begins at the 1st, 3rd, 5th
-.. reading of its first target, which is read once in each face. Readings before the first set and
-after the last stay outside of the sets. What could be read in two ways is refused at a block.
+number and has the word 84, 85, 86 or 88, and no direction, no vertical angle and no distance. With
+--same-set-up a set-up line with the name of the station that is running begins nothing; with
+--station-code N a code block N with a word 42 begins a station of that name. A file without any of
+these is one station, which --station names. A set begins at the 1st, 3rd, 5th .. reading of its
+first target, which is read once in each face. Readings before the first set and after the last
+stay outside of the sets. What could be read in two ways is refused at a block.
 
 Each station is judged by itself. If one isn't recognized, nothing is printed, and each station is
 told with its fault; with --others the readings of these stations stay outside of the sets, and the
@@ -269,7 +271,8 @@ others are marked.
 
 Sets that were read target by target, both faces of each before the next, don't show where they
 begin: state with --sets how many were read to the end, and of a single set with --targets how many
-targets it has. Count them in the field book; another number is refused.
+targets it has, for all stations as --sets 4 or for one as --sets P7=3. Count them in the field
+book; another number is refused.
 
 What was found of each station is told on standard error: compare it with the field book.";
 
@@ -294,13 +297,31 @@ pub const STATION_LONG_HELP: &str = "\
 The name of the station, of a file without set-up lines: 1 to 16 characters of
 ASCII, from the blank to '~'. Zeros on the left are no part of it";
 
+pub const SAME_SET_UP_LONG_HELP: &str = "\
+Go on with a station at a set-up line that has its name again, as where a height or a
+coordinate was mended at the same set-up";
+
+pub const STATION_CODE_LONG_HELP: &str = "\
+Begin a station at each code block N with a word 42, which names the station. Zeros on
+the left of N are no part of it; 10, 20 and 30 are the codes that are put in";
+
+pub const SETS_HELP: &str = "\
+How many sets were read to the end: N at each station, NAME=N at one";
+
 pub const SETS_LONG_HELP: &str = "\
-How many sets were read to the end at each station that has sets: 1 to 40. Sets that were
-read target by target are taken only so. A set that was broken off doesn't count";
+How many sets were read to the end, 1 to 40: N at each station with sets, or NAME=N at
+the station of this name. It may be stated several times: --sets 4 --sets P7=3 --sets P8=2
+is 3 sets at P7, 2 at P8, and 4 at each other station. NAME is all before the last '='.
+Sets that were read target by target are taken only so. A set that was broken off doesn't
+count";
+
+pub const TARGETS_HELP: &str = "\
+How many targets these sets have: N at each station, NAME=N at one";
 
 pub const TARGETS_LONG_HELP: &str = "\
-How many targets these sets have: 1 to 100. A single set that was read target by target is
-taken only so";
+How many targets these sets have, 1 to 100: N at each station with sets, or NAME=N at
+the station of this name. It may be stated several times, as --sets. A single set that was
+read target by target is taken only so";
 
 pub const OTHERS_LONG_HELP: &str = "\
 Leave the readings of stations that are not recognized outside of the sets, and mark the
@@ -314,6 +335,28 @@ pub const WITHIN_ALONE: &str = "\
 
 pub const DEGREES_ALONE: &str = "\
 '--degrees' says in what a table is: name it with '--table <TABLE>'";
+
+/// What is said of a text that is no number of sets.
+pub const SETS_NUMBERS: &str = "state a whole number from 1 to 40, or NAME=N for one station";
+
+/// What is said of a text that is no number of targets.
+pub const TARGETS_NUMBERS: &str = "state a whole number from 1 to 100, or NAME=N for one station";
+
+/// What is said after a number of sets that is none of those.
+pub const NOT_IN_SETS: &str = " is not in 1..=40";
+
+/// What is said after a number of targets that is none of those.
+pub const NOT_IN_TARGETS: &str = " is not in 1..=100";
+
+/// What is said of the second number of each station.
+pub const EACH_TWICE: &str = "another number is stated for all stations before it";
+
+/// What is said of the second number of one station.
+pub const ONE_TWICE: &str = "another number is stated for this station before it";
+
+/// What is said of a code of the stations that may not be one.
+pub const NO_CODE: &str = "\
+a code has 1 to 16 characters of ASCII, and is none of 10, 20 and 30, which 'mark' puts in";
 
 pub const NO_NAME: &str = "\
 the name of a station has 1 to 16 characters of ASCII, from the blank to '~'";

@@ -6,16 +6,21 @@
 //! | `request` | the types of a request |
 //! | `commands`, `arguments`, `help` | the grammar as `clap` builds it, and its help |
 //! | `subcommands`, `found` | the request of each subcommand, by the words after its name |
+//! | `numbers`, `count_option` | the numbers of sets or targets that are stated of stations |
 //! | `mistakes`, `limit_option` | the mistakes of words that the grammar takes, and their texts |
+//! | `laws` | a law of what is stated |
 #![tactic(auto)]
 
 mod arguments;
 mod asked;
 mod commands;
+mod count_option;
 mod found;
 mod help;
+pub mod laws;
 mod limit_option;
 mod mistakes;
+mod numbers;
 mod request;
 mod subcommands;
 

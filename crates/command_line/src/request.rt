@@ -1,7 +1,8 @@
 //! What the program is asked to do.
 
-use adjust_kernel::{Name, ResidualLimit};
+use adjust_kernel::ResidualLimit;
 use direction_table::{AngleUnit, Decimals};
+use set_marks::{Beginnings, StatedNumber};
 use station_book::{Limits, ResultLimits};
 use station_explain::Explanation;
 
@@ -110,16 +111,15 @@ pub enum Request<'a, F, N> {
     },
 
     /// Prints a copy of a field file with codes put in, or writes it to a new file of the path that is
-    /// named. The name is that of the file's one station,
-    /// where its lines set none up; the numbers are how many sets were read to the end at each
-    /// station, and how many targets they have; `others` is whether stations with a fault stay
-    /// outside.
+    /// named. `beginnings` is how its stations begin; the numbers are how many sets were read to the
+    /// end at a station, and how many targets they have; `others` is whether stations with a fault
+    /// stay outside.
     Mark {
         gsi: F,
         copy: Option<N>,
-        station: Option<Name>,
-        sets: Option<u32>,
-        targets: Option<u32>,
+        beginnings: Beginnings,
+        sets: StatedNumber,
+        targets: StatedNumber,
         others: bool,
     },
 

@@ -1,6 +1,6 @@
 //! What each subcommand asks for.
 
-ghost use Rattle.std.specs.Prelude.{◌≡◌, IfSome, IfNone, codes};
+ghost use Rattle.std.specs.Prelude.{◌≡◌, IfOk, IfSome, IfNone, codes};
 ghost use Rattle.clap.specs.Words.{found_of};
 ghost use Rattle.command_line.specs.CommandLine.{AsksFor, AsksForResult, AsksOfStation, Lacks};
 ghost use Rattle.command_line.specs.CommandLine.{LacksForDifferences, LacksResult};
@@ -8,39 +8,45 @@ ghost use Rattle.command_line.specs.CommandLine.{LacksForDirections, LacksForLis
 ghost use Rattle.command_line.specs.CommandLine.{LacksToCheck, LacksToCompare, LacksToMark};
 ghost use Rattle.command_line.specs.CommandLine.{LacksToReport};
 ghost use Rattle.command_line.specs.Stated.{IsMissing};
+ghost use Rattle.command_line.specs.StatedNumbers.{StatesNumbers};
 
-use crate::arguments::{COPY, GSI, SETS, SHEET, STATED_TABLE, STATION, TABLE, TARGETS};
+use crate::arguments::{COPY, GSI, OTHERS, SHEET, STATED_TABLE, STATION, TABLE};
+use crate::count_option::CountOption;
 use crate::found::{
-    count_of, decimals_of, digests_of, form_of, limits_of, others_of, residual_of, stated_name_of,
+    beginnings_of, count_of, decimals_of, digests_of, form_of, has_flag, limits_of, residual_of,
     unit_of, within_of,
 };
 use crate::request::{Digests, ListForm, Request};
-use adjust_kernel::{MOST_SETS, MOST_TARGETS};
 use clap::ArgMatches;
 use direction_table::AngleUnit;
+use set_marks::StatedNumber;
 use station_book::{Limits, ResultLimits};
+use std::alloc::{AllocError, Global};
 
 /// What a subcommand of this name asks for, by what is found of the words after it; none where an
-/// argument that it needs is missing, or is no limit, number or name that it takes.
+/// argument that it needs is missing, or is no limit, number or name that it takes. An error is
+/// that memory ran out for the numbers.
 pub(crate) fn request_after<'a>(
+    alloc: Global,
     name: &str,
     found: &ArgMatches<'a>,
-) -> Option<Request<'a, &'a str, &'a str>>
-    ensures asked { IfSome result (AsksFor name.now (found_of found.now)) }
-    ensures none { IfNone result (Lacks name.now (found_of found.now)) }
+) -> Result<Option<Request<'a, &'a str, &'a str>>, AllocError>
+    ensures asked { IfOk result (λ request. IfSome request
+        (AsksFor name.now (found_of found.now))) }
+    ensures none { IfOk result (λ request. IfNone request (Lacks name.now (found_of found.now))) }
 {
     match name {
-        "compare" => compare_request(found),
-        "differences" => differences_request(found),
-        "directions" => directions_request(found),
-        "residuals" => residuals_request(found),
-        "report" => report_request(found),
-        "check" => check_request(found),
-        "means" => means_request(found),
-        "mark" => mark_request(found),
-        "list" => list_request(found),
-        "words" => words_request(found),
-        _ => None,
+        "compare" => Ok(compare_request(found)),
+        "differences" => Ok(differences_request(found)),
+        "directions" => Ok(directions_request(found)),
+        "residuals" => Ok(residuals_request(found)),
+        "report" => Ok(report_request(found)),
+        "check" => Ok(check_request(found)),
+        "means" => Ok(means_request(found)),
+        "mark" => mark_request(alloc, found),
+        "list" => Ok(list_request(found)),
+        "words" => Ok(words_request(found)),
+        _ => Ok(None),
     }
 }
 
@@ -207,17 +213,41 @@ fn means_request<'a>(found: &ArgMatches<'a>) -> Option<Request<'a, &'a str, &'a 
     })
 }
 
-fn mark_request<'a>(found: &ArgMatches<'a>) -> Option<Request<'a, &'a str, &'a str>>
+fn mark_request<'a>(
+    alloc: Global,
+    found: &ArgMatches<'a>,
+) -> Result<Option<Request<'a, &'a str, &'a str>>, AllocError>
+    ensures asked { IfOk result (λ request. IfSome request
+        (AsksFor (codes "mark") (found_of found.now))) }
+    ensures none { IfOk result (λ request. IfNone request (LacksToMark (found_of found.now))) }
+{
+    let Some(sets) = count_of(alloc, found, CountOption::Sets)? else {
+        return Ok(None);
+    };
+    let Some(targets) = count_of(alloc, found, CountOption::Targets)? else {
+        return Ok(None);
+    };
+    Ok(marking_request(found, sets, targets))
+}
+
+/// What `mark` asks for where these numbers are stated.
+fn marking_request<'a>(
+    found: &ArgMatches<'a>,
+    sets: StatedNumber,
+    targets: StatedNumber,
+) -> Option<Request<'a, &'a str, &'a str>>
+    requires sets { StatesNumbers (found_of found.now) (codes "sets") 40 sets }
+    requires targets { StatesNumbers (found_of found.now) (codes "targets") 100 targets }
     ensures asked { IfSome result (AsksFor (codes "mark") (found_of found.now)) }
     ensures none { IfNone result (LacksToMark (found_of found.now)) }
 {
     Some(Request::Mark {
         gsi: found.get_str(GSI)?,
         copy: found.get_str(COPY),
-        station: stated_name_of(found)?,
-        sets: count_of(found, SETS, MOST_SETS)?,
-        targets: count_of(found, TARGETS, MOST_TARGETS)?,
-        others: others_of(found),
+        beginnings: beginnings_of(found)?,
+        sets,
+        targets,
+        others: has_flag(found, OTHERS),
     })
 }
 

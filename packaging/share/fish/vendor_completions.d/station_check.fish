@@ -32,8 +32,10 @@ complete -c station_check -n '__fish_seen_subcommand_from directions' -l decimal
 complete -c station_check -n '__fish_seen_subcommand_from report' -l table -r -F -d "A table of directions, as 'compare' reads it, which stands beside the adjusted ones with the differences and whether it agrees"
 complete -c station_check -n '__fish_seen_subcommand_from report list' -l csv -d "Print rows for other programs, as CSV with a row of titles: directions in gon with 6 decimals, face differences in mgon with 2, residuals in mgon with 3"
 complete -c station_check -n '__fish_seen_subcommand_from mark' -l station -x -d "The name of the station, of a file without set-up lines: 1 to 16 characters of ASCII, from the blank to '~'"
-complete -c station_check -n '__fish_seen_subcommand_from mark' -l sets -x -d "How many sets were read to the end at each station that has sets: 1 to 40"
-complete -c station_check -n '__fish_seen_subcommand_from mark' -l targets -x -d "How many targets these sets have: 1 to 100"
+complete -c station_check -n '__fish_seen_subcommand_from mark' -l same-set-up -d "Go on with a station at a set-up line that has its name again, as where a height or a coordinate was mended at the same set-up"
+complete -c station_check -n '__fish_seen_subcommand_from mark' -l station-code -x -d "Begin a station at each code block N with a word 42, which names the station"
+complete -c station_check -n '__fish_seen_subcommand_from mark' -l sets -x -d "How many sets were read to the end, 1 to 40: N at each station with sets, or NAME=N at the station of this name"
+complete -c station_check -n '__fish_seen_subcommand_from mark' -l targets -x -d "How many targets these sets have, 1 to 100: N at each station with sets, or NAME=N at the station of this name"
 complete -c station_check -n '__fish_seen_subcommand_from mark' -l others -d "Leave the readings of stations that are not recognized outside of the sets, and mark the others"
 complete -c station_check -n '__fish_seen_subcommand_from help' -a 'compare differences directions residuals report check means mark list words explain'
 # The end of the commands.

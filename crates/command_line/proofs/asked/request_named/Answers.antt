@@ -31,19 +31,21 @@ returns-in-Some-explain-default-clause-mistake c =
     inr (record { name = codes "explain"; found = _; met = met; mistaken = inl (refl, mistaken) }))
     c.explanation_asked_for.ensures.mistake
 
-pub returns-in-Some-request_after-clause-asked : goal.returns-in-Some-request_after-clause-asked
-returns-in-Some-request_after-clause-asked c =
+pub returns-in-Ok-Some-clause-asked : goal.returns-in-Ok-Some-clause-asked
+returns-in-Ok-Some-clause-asked c =
+    let asked = rw c.in-Ok-Some.field-0-is at c.in-Ok-Some.ensures.asked in
     inr (record {
       name = c.in-Some.name.now;
       found = found_of c.in-Some.found.now;
       met = meets c.args.matches.now c.in-Some.name.now (found_of c.in-Some.found.now)
           (search (rules, c.in-Some.ensures.name)) (search (rules, c.in-Some.ensures.rows));
-      asked = inl c.in-Some-request_after.ensures.asked;
+      asked = inl asked;
     })
 
-pub returns-in_ok-mistake_in-in-None-request_after-clause-mistake :
-    goal.returns-in_ok-mistake_in-in-None-request_after-clause-mistake
-returns-in_ok-mistake_in-in-None-request_after-clause-mistake c =
+pub returns-in_ok-mistake_in-in-Ok-None-clause-mistake :
+    goal.returns-in_ok-mistake_in-in-Ok-None-clause-mistake
+returns-in_ok-mistake_in-in-Ok-None-clause-mistake c =
+    let lacks = rw c.in-Ok-None.field-0-is at c.in-Ok-None.ensures.none in
     inr (record {
       name = c.in-Some.name.now;
       found = found_of c.in-Some.found.now;
@@ -52,6 +54,6 @@ returns-in_ok-mistake_in-in-None-request_after-clause-mistake c =
       mistaken = inr (
         search rules,
         search rules,
-        c.in-None-request_after.ensures.none,
+        lacks,
       );
     })

@@ -1,4 +1,5 @@
 use Rattle.std.proofs.Common.{◌≡◌, None, Option, Some, subst, sym}
+use Rattle.std.proofs.lemmas.Result.{IfOk-weaker}
 use Rattle.std.specs.Prelude.{IfNone, IfSome}
 use Rattle.clap.specs.Words.{Text}
 use Rattle.clap.specs.declared.parser.matches.Found.{Found}
@@ -72,11 +73,15 @@ returns-in-means-clause-none c =
     where_none _ _ _ (of_means c.in-means.is) c.means_request.ensures.none
 
 pub returns-in-mark-clause-asked : goal.returns-in-mark-clause-asked
-returns-in-mark-clause-asked c = by_name _ _ _ _ c.in-mark.is c.mark_request.ensures.asked
+returns-in-mark-clause-asked c =
+    IfOk-weaker c.mark_request.result _ _
+    (λ request asked. by_name _ _ _ request c.in-mark.is asked) c.mark_request.ensures.asked
 
 pub returns-in-mark-clause-none : goal.returns-in-mark-clause-none
 returns-in-mark-clause-none c =
-    where_none _ _ _ (of_mark c.in-mark.is) c.mark_request.ensures.none
+    IfOk-weaker c.mark_request.result _ _
+    (λ request lacks. where_none request _ _ (of_mark c.in-mark.is) lacks)
+    c.mark_request.ensures.none
 
 pub returns-in-list-clause-asked : goal.returns-in-list-clause-asked
 returns-in-list-clause-asked c = by_name _ _ _ _ c.in-list.is c.list_request.ensures.asked
