@@ -340,7 +340,7 @@ fn a_second_set_up_of_a_name_is_called_apart_where_that_is_stated(rt: HostRuntim
     let Some(bytes) = file(a, b"1pA1B1B2A21pC11pA1B1B2A2") else {
         return;
     };
-    let Ok(marked) = mark_file(a, &bytes, false, None, stated) else {
+    let Ok(marked) = mark_file(a, &bytes, false, BY_SET_UPS, stated) else {
         assert!(rt; false);
         return;
     };
@@ -558,11 +558,11 @@ fn stations_begin_as_is_stated(rt: HostRuntime) {
         };
         match refused {
             Some((block, kind)) => {
-                let answer = copy_of(a, &bytes, beginnings, NOTHING).err();
+                let answer = copy_of(a, &bytes, beginnings, nothing(a)).err();
                 let fault = answer.map(|refused| refused.fault());
                 assert!(rt; fault == Some(MarkFault::At(block, kind)));
             }
-            None => assert!(rt; copy_of(a, &bytes, beginnings, NOTHING).is_ok()),
+            None => assert!(rt; copy_of(a, &bytes, beginnings, nothing(a)).is_ok()),
         }
     }
 }
@@ -574,7 +574,7 @@ fn a_code_block_names_the_station_that_it_begins(rt: HostRuntime) {
         return;
     };
     let beginnings = stated_so(b"", false, b"47");
-    let Ok(marked) = mark_file(a, &bytes, false, beginnings, NOTHING) else {
+    let Ok(marked) = mark_file(a, &bytes, false, beginnings, nothing(a)) else {
         assert!(rt; false);
         return;
     };
