@@ -102,7 +102,8 @@ class CompletionsTest(ProgramTest):
         self.assertEqual(of_differences, self.of_bash("differences", "-"))
         for command in ["residuals", "means"]:
             self.assertEqual([*FACE_LIMITS, "--help"], self.of_bash(command, "-"))
-        options = ["--station", "--same-set-up", "--station-code", "--sets", "--targets", "--others"]
+        options = ["--station", "--same-set-up", "--again", "--station-code"]
+        options += ["--sets", "--targets", "--others"]
         self.assertEqual([*options, "--help"], self.of_bash("mark", "-"))
         for command in ["words", "explain", "help"]:
             self.assertEqual(["--help"], self.of_bash(command, "-"))

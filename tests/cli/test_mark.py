@@ -276,7 +276,7 @@ class CommandTest(ProgramTest):
         status, stdout, stderr = answer_of(["mark", "--help"])
         self.assertEqual((0, b""), (status, stderr))
         parts = [b"--station <NAME>", b"--sets <N>", b"--targets <N>", b"--others", b"<GSI>"]
-        parts += [b"--same-set-up", b"--station-code <N>", b"--sets P7=3"]
+        parts += [b"--same-set-up", b"--again", b"--station-code <N>", b"--sets P7=3"]
         for part in [*parts, b"Example:\n  station_check mark "]:
             self.assertIn(part, stdout)
         self.assertLessEqual(max(map(len, stdout.splitlines())), 100)

@@ -64,6 +64,7 @@ is_simple_rule argument.Rows = refl
 is_simple_rule argument.StatedTable = refl
 is_simple_rule argument.StatedName = refl
 is_simple_rule argument.SameSetUp = refl
+is_simple_rule argument.Again = refl
 is_simple_rule argument.StationCode = refl
 is_simple_rule argument.StatedSets = refl
 is_simple_rule argument.StatedTargets = refl

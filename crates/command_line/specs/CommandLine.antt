@@ -102,15 +102,16 @@ pub record AsksToCheck (found : Found) (gsi sheet : List ℕ) (limits : FaceLimi
   pub of_digests : StatesDigests found digests
 
 -- What `mark` asks for: the path of the field file and that of its copy or none, how its stations
--- begin, how many sets were read to the end and how many targets they have, at most 40 and 100, and
--- whether stations with a fault stay outside.
+-- begin, how many sets were read to the end and how many targets they have, at most 40 and 100,
+-- whether a name that comes again is another set-up, and whether stations with a fault stay outside.
 pub record AsksToMark (found : Found) (gsi : List ℕ) (copy : Option (List ℕ))
-    (beginnings : Beginnings) (sets targets : StatedNumber) (others : Bool) : Type 0 where
+    (beginnings : Beginnings) (sets targets : StatedNumber) (again others : Bool) : Type 0 where
   pub field_file : IsGiven found (codes "GSI") gsi
   pub of_copy : first_value found (codes "COPY") ≡ copy
   pub of_beginnings : StatesBeginnings found beginnings
   pub of_sets : StatesNumbers found (codes "sets") 40 sets
   pub of_targets : StatesNumbers found (codes "targets") 100 targets
+  pub of_again : StatesFlag found (codes "again") again
   pub of_others : StatesFlag found (codes "others") others
 
 -- What a subcommand of this name asks for, by what is found of the words after it: each its own
@@ -138,9 +139,10 @@ AsksFor name found (request.Check gsi sheet limits residual digests) =
     (name ≡ codes "check") × AsksToCheck found gsi.now sheet.now limits residual digests
 AsksFor name found (request.Means gsi station limits) =
     (name ≡ codes "means") × AsksOfStation found gsi.now station.now limits
-AsksFor name found (request.Mark gsi copy beginnings sets targets others) =
+AsksFor name found (request.Mark gsi copy beginnings sets targets again others) =
     (name ≡ codes "mark")
-    × AsksToMark found gsi.now (option_map (λ path. path.now) copy) beginnings sets targets others
+    × AsksToMark found gsi.now (option_map (λ path. path.now) copy) beginnings sets targets again
+    others
 AsksFor name found (request.List gsi limits form) =
     (name ≡ codes "list") × IsGiven found (codes "GSI") gsi.now
     × StatesLimits found limits × StatesForm found form

@@ -91,6 +91,10 @@ stated_name_rule = text_rule (codes "station")
 abbrev pub same_set_up_rule : Rule
 same_set_up_rule = flag_rule (codes "same-set-up")
 
+-- The flag `--again`: a name that comes again is another set-up.
+abbrev pub again_rule : Rule
+again_rule = flag_rule (codes "again")
+
 -- The option `--station-code N`, which may be left out: the code whose blocks begin a station.
 abbrev pub station_code_rule : Rule
 station_code_rule = text_rule (codes "station-code")
@@ -149,6 +153,7 @@ rule_for argument.Rows = csv_rule
 rule_for argument.StatedTable = stated_table_rule
 rule_for argument.StatedName = stated_name_rule
 rule_for argument.SameSetUp = same_set_up_rule
+rule_for argument.Again = again_rule
 rule_for argument.StationCode = station_code_rule
 rule_for argument.StatedSets = sets_rule
 rule_for argument.StatedTargets = targets_rule
@@ -206,8 +211,8 @@ means_words =
 -- `mark GSI`, or `mark GSI COPY`
 abbrev pub mark_words : Shape
 mark_words = of_rules (codes "mark")
-    (field_file_rule ∷ copy_rule ∷ stated_name_rule ∷ same_set_up_rule ∷ station_code_rule
-    ∷ sets_rule ∷ targets_rule ∷ others_rule ∷ [])
+    (field_file_rule ∷ copy_rule ∷ stated_name_rule ∷ same_set_up_rule ∷ again_rule
+    ∷ station_code_rule ∷ sets_rule ∷ targets_rule ∷ others_rule ∷ [])
 
 -- `list GSI`
 abbrev pub list_words : Shape

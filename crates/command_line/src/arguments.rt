@@ -65,6 +65,9 @@ pub(crate) const STATED_NAME: &str = "station";
 /// The flag that says that a set-up line of the station that is open begins nothing.
 pub(crate) const SAME_SET_UP: &str = "same-set-up";
 
+/// The flag that says that a name that comes again is another set-up.
+pub(crate) const AGAIN: &str = "again";
+
 /// The option of the code whose blocks begin a station.
 pub(crate) const STATION_CODE: &str = "station-code";
 
@@ -137,6 +140,9 @@ pub(crate) enum Argument {
     /// That a set-up line of the station that is open begins nothing.
     SameSetUp,
 
+    /// That a name that comes again is another set-up.
+    Again,
+
     /// The code whose blocks begin a station.
     StationCode,
 
@@ -182,6 +188,7 @@ impl Argument {
             Argument::StatedTable => stated_table(alloc),
             Argument::StatedName => text_option(alloc, STATED_NAME, "NAME"),
             Argument::SameSetUp => flag(alloc, SAME_SET_UP),
+            Argument::Again => flag(alloc, AGAIN),
             Argument::StationCode => text_option(alloc, STATION_CODE, "N"),
             Argument::StatedSets => numbers(alloc, SETS),
             Argument::StatedTargets => numbers(alloc, TARGETS),
@@ -211,6 +218,7 @@ impl Argument {
             }
             Argument::StatedName => "The name of the station, of a file without set-up lines",
             Argument::SameSetUp => "Go on with a station at a set-up line that has its name again",
+            Argument::Again => "Call the second station of a name NAME-2, the third NAME-3",
             Argument::StationCode =>
                 "Begin a station at each code block N with a word 42, its name",
             Argument::StatedSets => help::SETS_HELP,
@@ -235,6 +243,7 @@ impl Argument {
             Argument::Copy => help::COPY_LONG_HELP,
             Argument::StatedName => help::STATION_LONG_HELP,
             Argument::SameSetUp => help::SAME_SET_UP_LONG_HELP,
+            Argument::Again => help::AGAIN_LONG_HELP,
             Argument::StationCode => help::STATION_CODE_LONG_HELP,
             Argument::StatedSets => help::SETS_LONG_HELP,
             Argument::StatedTargets => help::TARGETS_LONG_HELP,

@@ -231,11 +231,12 @@ const MEANS: [Argument; 4] = [
 ];
 
 /// The arguments and options of `mark`.
-const MARK: [Argument; 8] = [
+const MARK: [Argument; 9] = [
     Argument::FieldFile,
     Argument::Copy,
     Argument::StatedName,
     Argument::SameSetUp,
+    Argument::Again,
     Argument::StationCode,
     Argument::StatedSets,
     Argument::StatedTargets,

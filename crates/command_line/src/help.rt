@@ -301,6 +301,10 @@ pub const SAME_SET_UP_LONG_HELP: &str = "\
 Go on with a station at a set-up line that has its name again, as where a height or a
 coordinate was mended at the same set-up";
 
+pub const AGAIN_LONG_HELP: &str = "\
+Take a name that comes again for another set-up: the second station at P7 is called P7-2,
+the third P7-3. Without it a name that comes again is refused";
+
 pub const STATION_CODE_LONG_HELP: &str = "\
 Begin a station at each code block N with a word 42, which names the station. Zeros on
 the left of N are no part of it; 10, 20 and 30 are the codes that are put in";
@@ -325,7 +329,7 @@ read target by target is taken only so";
 
 pub const OTHERS_LONG_HELP: &str = "\
 Leave the readings of stations that are not recognized outside of the sets, and mark the
-others. A name that comes again is refused all the same";
+others. A name that comes again is refused all the same, unless --again is stated";
 
 pub const ROWS_ALONE: &str = "\
 '--csv' prints rows alone: not with '--table', '--degrees', '--within' or '--sha256'";

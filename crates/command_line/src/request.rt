@@ -112,14 +112,15 @@ pub enum Request<'a, F, N> {
 
     /// Prints a copy of a field file with codes put in, or writes it to a new file of the path that is
     /// named. `beginnings` is how its stations begin; the numbers are how many sets were read to the
-    /// end at a station, and how many targets they have; `others` is whether stations with a fault
-    /// stay outside.
+    /// end at a station, and how many targets they have; `again` is whether a name that comes again
+    /// is another set-up, and `others` whether stations with a fault stay outside.
     Mark {
         gsi: F,
         copy: Option<N>,
         beginnings: Beginnings,
         sets: StatedNumber,
         targets: StatedNumber,
+        again: bool,
         others: bool,
     },
 

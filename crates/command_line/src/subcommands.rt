@@ -10,7 +10,7 @@ ghost use Rattle.command_line.specs.CommandLine.{LacksToReport};
 ghost use Rattle.command_line.specs.Stated.{IsMissing};
 ghost use Rattle.command_line.specs.StatedNumbers.{StatesNumbers};
 
-use crate::arguments::{COPY, GSI, OTHERS, SHEET, STATED_TABLE, STATION, TABLE};
+use crate::arguments::{AGAIN, COPY, GSI, OTHERS, SHEET, STATED_TABLE, STATION, TABLE};
 use crate::count_option::CountOption;
 use crate::found::{
     beginnings_of, count_of, decimals_of, digests_of, form_of, has_flag, limits_of, residual_of,
@@ -247,6 +247,7 @@ fn marking_request<'a>(
         beginnings: beginnings_of(found)?,
         sets,
         targets,
+        again: has_flag(found, AGAIN),
         others: has_flag(found, OTHERS),
     })
 }

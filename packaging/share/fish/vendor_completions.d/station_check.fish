@@ -33,6 +33,7 @@ complete -c station_check -n '__fish_seen_subcommand_from report' -l table -r -F
 complete -c station_check -n '__fish_seen_subcommand_from report list' -l csv -d "Print rows for other programs, as CSV with a row of titles: directions in gon with 6 decimals, face differences in mgon with 2, residuals in mgon with 3"
 complete -c station_check -n '__fish_seen_subcommand_from mark' -l station -x -d "The name of the station, of a file without set-up lines: 1 to 16 characters of ASCII, from the blank to '~'"
 complete -c station_check -n '__fish_seen_subcommand_from mark' -l same-set-up -d "Go on with a station at a set-up line that has its name again, as where a height or a coordinate was mended at the same set-up"
+complete -c station_check -n '__fish_seen_subcommand_from mark' -l again -d "Take a name that comes again for another set-up: the second station at P7 is called P7-2, the third P7-3"
 complete -c station_check -n '__fish_seen_subcommand_from mark' -l station-code -x -d "Begin a station at each code block N with a word 42, which names the station"
 complete -c station_check -n '__fish_seen_subcommand_from mark' -l sets -x -d "How many sets were read to the end, 1 to 40: N at each station with sets, or NAME=N at the station of this name"
 complete -c station_check -n '__fish_seen_subcommand_from mark' -l targets -x -d "How many targets these sets have, 1 to 100: N at each station with sets, or NAME=N at the station of this name"
