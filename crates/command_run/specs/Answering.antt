@@ -38,7 +38,8 @@ use Rattle.command_run.specs.declared.host.NoWords.TheVariants as no_words
 use Rattle.command_run.specs.declared.status.TheConstants.{NOT_TEXT}
 use Rattle.command_run.specs.declared.unopened.PathFault.{PathFault}
 use Rattle.command_run.specs.declared.unopened.PathFault.TheVariants as fault
-use Rattle.set_marks.specs.declared.stated.Stated.{Stated}
+use Rattle.set_marks.specs.declared.beginnings.Beginnings.{Beginnings}
+use Rattle.set_marks.specs.Numbers.{Said, said_in}
 use Rattle.station_record.specs.Recorded.{IsRecordedCheck, IsRecordedCompare, IsRecordedReport}
 use Rattle.station_record.specs.Recorded.{IsRecordedTableReport}
 use Rattle.station_record.specs.declared.named.NamedReader.{NamedReader}
@@ -110,13 +111,14 @@ ReportsFiles files out err gsi station table unit limits within digests.Printed 
 -- A copy with codes was made of a field file with this exit status: it went to `out`; or to a new
 -- file, and nothing is asked of `out`.
 abbrev pub MarksFile : {F N : Type 0} → Readers F → Ghosts N → WriterChange → WriterChange
-    → NamedReader F → Option N → Option (List ℕ) → Stated → ℕ → Type 0
-MarksFile files new_files out err gsi None station stated status =
+    → NamedReader F → Option N → Beginnings → Said → ℕ → Type 0
+MarksFile files new_files out err gsi None beginnings stated status =
     IsTakenIn files gsi.reader (λ gsi. RunWithNotes notes_in mark_refusal_text
-    (IsMarkRun station stated gsi) status out err)
-MarksFile {F} {N} files new_files out err gsi (Some copy) station stated status =
+    (IsMarkRun beginnings stated gsi) status out err)
+MarksFile {F} {N} files new_files out err gsi (Some copy) beginnings stated status =
     out.is_unasked × (copy' : N) × IsTakenIn files gsi.reader (λ gsi. RunWithNotes notes_in
-    mark_refusal_text (IsMarkRun station stated gsi) status (writer_change new_files copy copy') err)
+    mark_refusal_text (IsMarkRun beginnings stated gsi) status
+    (writer_change new_files copy copy') err)
 
 -- A request whose files are open was answered with this exit status: by a run of its own kind, over
 -- its own files, or over standard input where it names none, with its limits, its residual limit,
@@ -153,9 +155,9 @@ IsRun {F} files new_files inputs input faults out err (request.Differences gsi s
     (IsDifferencesRun unit limits gsi (change_of files table.reader table') station.now)
     status out err)
 IsRun files new_files inputs input faults out err
-    (request.Mark gsi copy station sets targets others) status =
-    MarksFile files new_files out err gsi copy station
-    (record { sets = sets; targets = targets; others = others }) status
+    (request.Mark gsi copy beginnings sets targets again others) status =
+    MarksFile files new_files out err gsi copy beginnings
+    (said_in (record { sets = sets; targets = targets; again = again; others = others })) status
 IsRun files new_files inputs input faults out err (request.List gsi limits form.Lines) status =
     IsTakenIn files gsi.reader (λ gsi. RunWithNotes unchecked_note refusal_line
     (IsNotedListRun limits gsi) status out err)
@@ -223,11 +225,11 @@ IsOpened files known new_files new (request.Differences gsi station table unit l
     × (station'.now ≡ station.now)
     × IsUnread files known table.now stated
     × (unit' ≡ unit) × (limits' ≡ limits)
-IsOpened files known new_files new (request.Mark gsi copy station sets targets others)
-    (request.Mark field_file copy' station' sets' targets' others') =
+IsOpened files known new_files new (request.Mark gsi copy beginnings sets targets again others)
+    (request.Mark field_file copy' beginnings' sets' targets' again' others') =
     IsUnread files known gsi.now field_file
-    × IsNewFile new_files new copy copy' × (station' ≡ station) × (sets' ≡ sets)
-    × (targets' ≡ targets) × (others' ≡ others)
+    × IsNewFile new_files new copy copy' × (beginnings' ≡ beginnings) × (sets' ≡ sets)
+    × (targets' ≡ targets) × (again' ≡ again) × (others' ≡ others)
 IsOpened files known new_files new (request.List gsi limits form) (request.List field_file limits' form') =
     IsUnread files known gsi.now field_file × (limits' ≡ limits) × (form' ≡ form)
 IsOpened files known new_files new (request.Words gsi) (request.Words field_file) =
@@ -262,7 +264,7 @@ NamesFirst files known (request.Compare gsi station table unit limits within dig
     IsFirstOfTwo files known gsi.now table.now path
 NamesFirst files known (request.Differences gsi station table unit limits) path =
     IsFirstOfTwo files known gsi.now table.now path
-NamesFirst files known (request.Mark gsi copy station sets targets others) path = path ≡ gsi.now
+NamesFirst files known (request.Mark gsi copy beginnings sets targets again others) path = path ≡ gsi.now
 NamesFirst files known (request.List gsi limits form) path = path ≡ gsi.now
 NamesFirst files known (request.Words gsi) path = path ≡ gsi.now
 NamesFirst files known request.WordsOfInput path = ⊥
@@ -270,7 +272,7 @@ NamesFirst files known (request.Explain fault) path = ⊥
 
 -- The path of the new file that a request asks for.
 abbrev pub new_path : Asked → Option (List ℕ)
-new_path (request.Mark gsi copy station sets targets others) = option_map (λ path. path.now) copy
+new_path (request.Mark gsi copy beginnings sets targets again others) = option_map (λ path. path.now) copy
 new_path asked = None
 
 -- Why a request is refused for a path that it names: the file of the path can't be opened, and each

@@ -8,18 +8,19 @@ ghost use Rattle.command_run.specs.Answering.{IsNewFile, IsPathFault, MarksFile,
 ghost use Rattle.command_run.specs.Answering.{ReportsFiles};
 ghost use Rattle.command_run.specs.Answering as spec;
 ghost use Rattle.command_run.specs.Hosts.{IsUnread, known_of, readers};
+ghost use Rattle.set_marks.specs.Numbers.{said_in};
 
 use crate::explaining::run_explain;
 use crate::host::Host;
 use crate::new_file::NewFile;
 use crate::unopened::{PathFault, Unopened};
-use adjust_kernel::{Name, ResidualLimit};
+use adjust_kernel::ResidualLimit;
 use byte_ends::{Failed, Sink, Source};
 use command_line::{Digests, ListForm, Request};
 use direction_table::AngleUnit;
 use list_rows::run_list_rows;
 use report_rows::run_report_rows;
-use set_marks::Stated;
+use set_marks::{Beginnings, Stated};
 use station_book::{Limits, ResultLimits};
 use station_check::{run_check, run_list, run_means, run_words};
 use station_compare::{run_compare, run_directions};
@@ -42,7 +43,7 @@ pub(crate) fn answer<'a, H: Host, W: Sink, E: Sink>(
     host: &'a H,
     input: H::Input,
     faults: &[&'static [Explanation]],
-    request: &Request<'a, &'a str, &'a str>,
+    request: Request<'a, &'a str, &'a str>,
     out: &mut W,
     err: &mut E,
 ) -> Result<u8, PathFault<'a>>
@@ -54,16 +55,16 @@ pub(crate) fn answer<'a, H: Host, W: Sink, E: Sink>(
         ⟦<NewFile<'a, H, H::New> as Sink>⟧ (H.known_new host.now)
         (readers H.Input.told H.Input.failed H.Input.gave) input) faults.now
         (writer_change W.Sink out.old out.new)
-        (writer_change E.Sink err.old err.new) request.now) }
+        (writer_change E.Sink err.old err.new) request.entry) }
     ensures refused { IfErr result (IsPathFault
         (known_of (H.known_words host.now) (H.may_lack host.now)
         (readers H.File.told H.File.failed H.File.gave)
         (H.known_file host.now) (H.may_not_open host.now)
         ⟦<NewFile<'a, H, H::New> as Sink>⟧ (H.known_new host.now)
-        (readers H.Input.told H.Input.failed H.Input.gave) input) request.now) }
+        (readers H.Input.told H.Input.failed H.Input.gave) input) request.entry) }
     ensures unchanged { OnErr result ((out.new ≡ out.old) × (err.new ≡ err.old)) }
 {
-    if let Some(path) = new_path(request) {
+    if let Some(path) = new_path(&request) {
         if let Ok(_there) = open(host, path) {
             return Err(PathFault::IsThere(path));
         }
@@ -87,17 +88,17 @@ fn new_path<'a>(request: &Request<'a, &'a str, &'a str>) -> Option<&'a str>
 /// The request with its files open.
 fn open_files<'a, H: Host>(
     host: &'a H,
-    request: &Request<'a, &'a str, &'a str>,
+    request: Request<'a, &'a str, &'a str>,
 ) -> Result<Request<'a, NamedReader<'a, H::File>, NewFile<'a, H, H::New>>, Unopened<'a>>
     ensures opened { IfOk result
         (IsOpened (readers H.File.told H.File.failed H.File.gave) (H.known_file host.now)
-        ⟦<NewFile<'a, H, H::New> as Sink>⟧ (H.known_new host.now) request.now) }
+        ⟦<NewFile<'a, H, H::New> as Sink>⟧ (H.known_new host.now) request.entry) }
     ensures unopened { IfErr result (λ unopened.
         NamesFirst (readers H.File.told H.File.failed H.File.gave) (H.known_file host.now)
-        request.now unopened.path.now) }
+        request.entry unopened.path.now) }
     ensures fails { IfErr result (λ unopened. H.may_not_open host.now unopened.path.now ≡ true) }
 {
-    Ok(match *request {
+    Ok(match request {
         Request::Check {
             gsi,
             sheet,
@@ -222,16 +223,18 @@ fn open_files<'a, H: Host>(
         Request::Mark {
             gsi,
             copy,
-            station,
+            beginnings,
             sets,
             targets,
+            again,
             others,
         } => Request::Mark {
             gsi: open(host, gsi)?,
             copy: new_file(host, copy),
-            station,
+            beginnings,
             sets,
             targets,
+            again,
             others,
         },
         Request::List { gsi, limits, form } => Request::List {
@@ -395,18 +398,20 @@ fn run_request<'a, H: Host, W: Sink, E: Sink>(
         Request::Mark {
             gsi,
             copy,
-            station,
+            beginnings,
             sets,
             targets,
+            again,
             others,
         } => mark_file(
             alloc,
             gsi,
             copy,
-            station,
+            beginnings,
             Stated {
                 sets,
                 targets,
+                again,
                 others,
             },
             out,
@@ -434,7 +439,7 @@ fn mark_file<F: Source, N: Sink + Drop, W: Sink, E: Sink>(
     alloc: Global,
     gsi: NamedReader<'_, F>,
     copy: Option<N>,
-    station: Option<Name>,
+    beginnings: Beginnings,
     stated: Stated,
     out: &mut W,
     err: &mut E,
@@ -443,11 +448,11 @@ fn mark_file<F: Source, N: Sink + Drop, W: Sink, E: Sink>(
     ensures run { MarksFile (readers F.told F.failed F.gave) N.Sink
         (writer_change W.Sink out.old out.new)
         (writer_change E.Sink err.old err.new)
-        gsi.entry copy station stated result }
+        gsi.entry copy beginnings (said_in stated) result }
 {
     match copy {
-        None => run_mark(alloc, gsi.reader, station, stated, out, err),
-        Some(mut copy) => run_mark(alloc, gsi.reader, station, stated, &mut copy, err),
+        None => run_mark(alloc, gsi.reader, beginnings, stated, out, err),
+        Some(mut copy) => run_mark(alloc, gsi.reader, beginnings, stated, &mut copy, err),
     }
 }
 

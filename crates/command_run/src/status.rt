@@ -92,7 +92,7 @@ fn status_of_words<'a, H: Host, W: Sink, E: Sink>(
     ensures unchanged { OnErr result ((out.new ≡ out.old) × (err.new ≡ err.old)) }
 {
     let request = asked_for(alloc, VERSION, faults, words)?;
-    match answer(alloc, host, input, faults, &request, out, err) {
+    match answer(alloc, host, input, faults, request, out, err) {
         Ok(status) => Ok(status),
         Err(PathFault::Unopened(unopened)) => Ok(report_unopened(alloc, &unopened, err)),
         Err(PathFault::IsThere(path)) => Ok(report_there(alloc, path, err)),
