@@ -9,7 +9,7 @@ use Rattle.adjust_kernel.specs.Names.{IsName}
 use Rattle.gsi_word.specs.Names.{name_of}
 use Rattle.set_marks.specs.declared.stated.NamedNumber.{NamedNumber}
 use Rattle.set_marks.specs.declared.stated.StatedNumber.{StatedNumber}
-use Rattle.station_explain.specs.Naming.{Lacks, SplitsAtLast}
+use Rattle.station_explain.specs.Naming as naming
 
 -- The texts of an option, in the order in which they stand: none where it has none.
 abbrev pub texts_of : Found → List ℕ → List (List ℕ)
@@ -18,8 +18,8 @@ texts_of found id = unwrap_or (option_map raw_values (matched_of found id)) []
 -- The parts of a text: all before its last '=', and all after it; where it has none, the whole
 -- alone.
 abbrev pub HasParts : List ℕ → Option (List ℕ) → List ℕ → Type 0
-HasParts text None digits = Lacks (codes "=") text × (digits ≡ text)
-HasParts text (Some before) digits = SplitsAtLast (codes "=") text before digits
+HasParts text None digits = naming.Lacks (codes "=") text × (digits ≡ text)
+HasParts text (Some before) digits = naming.SplitsAtLast (codes "=") text before digits
 
 -- Digits, one at least, after a plus or none, write this number, from 1 up to a largest.
 pub record WritesNumber (largest : ℕ) (digits : List ℕ) (n : ℕ) : Type 0 where

@@ -24,13 +24,13 @@ pub enum MarkKind {
     /// own, and a copy without them can be marked.
     #[error("the block has code 10, 20 or 30 already")]
     HasCodes,
-    /// A set-up line, though the station's name is stated: leave the name out, for the stations
-    /// have the names of their set-up lines.
-    #[error("the file has set-up lines, and the name of its station is stated")]
+    /// A station begins here, by a set-up line or a stated code, though the name of the file's one
+    /// station is stated: leave the name out, for the stations have names of their own.
+    #[error("a station begins here, and the name of the file's one station is stated")]
     HasSetUp,
-    /// A reading before any set-up line, and no name is stated: state the station's name, or mark a
-    /// copy without the reading.
-    #[error("a reading stands before any set-up line, and no station's name is stated")]
+    /// A reading before any station begins, and no name is stated: state the station's name, or the
+    /// code that begins stations, or mark a copy without the reading.
+    #[error("a reading stands before any station begins, and no station's name is stated")]
     NoSetUp,
     /// The target was read in this face of this set before: a repeated pointing, a closing sight,
     /// or another station. Mark a copy without it.
