@@ -20,7 +20,7 @@ use Rattle.adjust_kernel.specs.Names.{IsName}
 use Rattle.gsi_word.specs.Names.{name_of}
 use Rattle.set_marks.specs.declared.stated.NamedNumber.{NamedNumber}
 use Rattle.set_marks.specs.declared.stated.StatedNumber.{StatedNumber}
-use Rattle.station_explain.specs.Naming.{Lacks, SplitsAtLast}
+use Rattle.station_explain.specs.Naming.{Lacks}
 use Rattle.command_line.specs.StatedNumbers.{HasParts, Holds, IsStatedBy, OfStation, StateAll}
 use Rattle.command_line.specs.StatedNumbers.{StatesOne, WritesNumber, named_number, number_of_each}
 use Rattle.command_line.specs.WrongTexts.{AddsText, IsAmong, IsFaultAfter, IsFirstWrong}

@@ -103,7 +103,8 @@ pub record AsksToCheck (found : Found) (gsi sheet : List ℕ) (limits : FaceLimi
 
 -- What `mark` asks for: the path of the field file and that of its copy or none, how its stations
 -- begin, how many sets were read to the end and how many targets they have, at most 40 and 100,
--- whether a name that comes again is another set-up, and whether stations with a fault stay outside.
+-- whether a name that comes again is another set-up, and whether stations with a fault stay
+-- outside.
 pub record AsksToMark (found : Found) (gsi : List ℕ) (copy : Option (List ℕ))
     (beginnings : Beginnings) (sets targets : StatedNumber) (again others : Bool) : Type 0 where
   pub field_file : IsGiven found (codes "GSI") gsi

@@ -110,10 +110,10 @@ pub enum Request<'a, F, N> {
         limits: ResultLimits,
     },
 
-    /// Prints a copy of a field file with codes put in, or writes it to a new file of the path that is
-    /// named. `beginnings` is how its stations begin; the numbers are how many sets were read to the
-    /// end at a station, and how many targets they have; `again` is whether a name that comes again
-    /// is another set-up, and `others` whether stations with a fault stay outside.
+    /// Prints a copy of a field file with codes put in, or writes it to a new file of the path that
+    /// is named. `beginnings` is how its stations begin; the numbers are how many sets were read to
+    /// the end at a station, and how many targets they have; `again` is whether a name that comes
+    /// again is another set-up, and `others` whether stations with a fault stay outside.
     Mark {
         gsi: F,
         copy: Option<N>,

@@ -264,7 +264,8 @@ NamesFirst files known (request.Compare gsi station table unit limits within dig
     IsFirstOfTwo files known gsi.now table.now path
 NamesFirst files known (request.Differences gsi station table unit limits) path =
     IsFirstOfTwo files known gsi.now table.now path
-NamesFirst files known (request.Mark gsi copy beginnings sets targets again others) path = path ≡ gsi.now
+NamesFirst files known (request.Mark gsi copy beginnings sets targets again others) path =
+    path ≡ gsi.now
 NamesFirst files known (request.List gsi limits form) path = path ≡ gsi.now
 NamesFirst files known (request.Words gsi) path = path ≡ gsi.now
 NamesFirst files known request.WordsOfInput path = ⊥
@@ -272,7 +273,8 @@ NamesFirst files known (request.Explain fault) path = ⊥
 
 -- The path of the new file that a request asks for.
 abbrev pub new_path : Asked → Option (List ℕ)
-new_path (request.Mark gsi copy beginnings sets targets again others) = option_map (λ path. path.now) copy
+new_path (request.Mark gsi copy beginnings sets targets again others) =
+    option_map (λ path. path.now) copy
 new_path asked = None
 
 -- Why a request is refused for a path that it names: the file of the path can't be opened, and each
