@@ -312,9 +312,9 @@ file has one occupation of a station. As 'mark: StationTwice', a set-up line has
 earlier one, and both stations have sets, or readings that aren't recognized as sets.",
         example: "refused: block 14: StationTwice",
         remedy: "\
-If the instrument was not moved, and the set-up line was written again, mark the file with
---same-set-up; of a file with codes check a copy without the later codes 10 of this name, and the
-sets go on. If the point was set up again, mark the file with --again, which calls the second
+If the instrument was not moved, and the set-up line was written again, mark the file
+with --same-set-up; of a file with codes check a copy without the later codes 10 of this name, and
+the sets go on. If the point was set up again, mark the file with --again, which calls the second
 station NAME-2. Else give the second occupation a name of its own in a copy, with
 'prepare.py --rename BLOCK NAME' of the examples: BLOCK is that of its code 10 or its set-up line,
 before the one that is named.",
