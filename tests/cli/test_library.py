@@ -51,6 +51,9 @@ OPTIONS = {
 }
 OF_SHEETS = "check"
 
+# The options that the command line also takes of a single station, as NAME=N.
+NUMBERS = {"--sets", "--targets"}
+
 # What is out of its range: a number that is one too large, is negative, or would be 0 in 32 bits.
 BEYOND: list[tuple[str, dict[str, Any]]] = [
     ("check", {"two_c": 1_000_001}),
@@ -195,7 +198,10 @@ def call_of(case: run.Case) -> Call | None:
         if name.startswith("--"):
             if name[2:] not in OPTIONS or (name == "--residual" and command != OF_SHEETS):
                 return None
-            options[name[2:].replace("-", "_")] = OPTIONS[name[2:]](value or words.pop(0))
+            stated = value or words.pop(0)
+            if name in NUMBERS and "=" in stated:
+                return None
+            options[name[2:].replace("-", "_")] = OPTIONS[name[2:]](stated)
         else:
             operands.append(name)
     folder, kinds = case.folder, OPERANDS[command]
