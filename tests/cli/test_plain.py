@@ -52,6 +52,10 @@ uint8_t station_check_compare(const void *gsi, size_t n, const void *table, size
 """
 
 
+# Where a program looks for the jobs of a make that started it.
+OF_JOBS = ["CARGO_MAKEFLAGS", "MAKEFLAGS", "MFLAGS"]
+
+
 @unittest.skipUnless(shutil.which("rustc"), "no rustc is found")
 class PlainTest(ProgramTest):
     def built(self, library: Path) -> Path:
@@ -61,7 +65,7 @@ class PlainTest(ProgramTest):
         for link in (library, f"-Wl,-rpath,{library.parent}"):
             words += ["-C", f"link-arg={link}"]
         # (make tells what it starts of its jobs, and rustc complains where their pipe is closed)
-        env = {name: text for name, text in os.environ.items() if name != "MAKEFLAGS"}
+        env = {name: text for name, text in os.environ.items() if name not in OF_JOBS}
         self.assertEqual((0, b"", b""), answer_to([*words, "-o", program, SOURCE], env=env))
         return program
 

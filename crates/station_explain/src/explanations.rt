@@ -562,8 +562,8 @@ The file has no bytes, or blank lines alone: the transfer from the instrument fa
 wrote over it, as 'mark job.gsi > job.gsi' does before the program begins.",
         example: "refused: block 1: mark: Empty",
         remedy: "\
-Transfer the file again. Name the copy as 'mark job.gsi job_marked.gsi': a file that is there is
-never written over.",
+Transfer the file again. Name the copy as 'mark job.gsi job_marked.gsi': a file that is
+there is never written over.",
     },
     Said {
         names: &["NoSets"],
@@ -586,7 +586,8 @@ name has sets. Zeros before a name don't count; small letters and capitals diffe
 block is that after the last one.",
         example: "refused: block 43: mark: NoSuchStation",
         remedy: "\
-The notes before the line have the name of each station: state the number of one of them.",
+The notes before the line have the name of each station: state the number of one of
+them.",
     },
 ];
 
