@@ -9,11 +9,11 @@ can be copied too. These are left out: blocks by their numbers; a set by its sta
 with --closing the closing sights, which repeat at the end of a half set, in the same face, the
 target that began it, or its pair at the end of a set; with --broken-off, in a job without codes, a
 last set that was not ended; with --without-codes the blocks of codes 10, 20 and 30. The rules for
-closing sights and broken sets leave nothing out where sights before the sets make it doubtful what
-belongs to a set. --rename gives stated blocks another name: to a measurement its word 11, to a code
-block its word 42. --capitals writes the names of measurements in capitals. --codes puts in the
-codes of a station whose sets begin at stated blocks. --plain writes plain ASCII letters for others,
-a blank for a tab, and drops byte order marks and bytes 1A at the ends of lines.
+closing sights and broken sets leave nothing out where sights before the sets or after them make it
+doubtful what belongs to a set. --rename gives stated blocks another name: to a measurement its word
+11, to a code block its word 42. --capitals writes the names of measurements in capitals. --codes
+puts in the codes of a station whose sets begin at stated blocks. --plain writes plain ASCII letters
+for others, a blank for a tab, and drops byte order marks and bytes 1A at the ends of lines.
 
 COPY.gsi.log has each line that was left out, changed or put in. The script prints the command
 that shows that nothing else was changed.
@@ -63,8 +63,9 @@ LETTERS = str.maketrans("ßøØæÆłŁđĐ\t", "soOaAlLdD ")
 AT_ENDS = re.compile(rb"^(?:\xef\xbb\xbf|\x1a)+|\x1a+$")
 UTF_16 = (codecs.BOM_UTF16_LE, codecs.BOM_UTF16_BE)
 
-# So many readings at most stand before the first set, as orientation sights.
-MOST_BEFORE = 3
+# So many readings at most stand before the first set, as orientation sights; and so many where each
+# target is sighted once, in the face in which the sets begin or in both.
+MOST_BEFORE, MOST_SIGHTED = 3, 200
 
 # A block, or those from one to another, or to the end.
 NUMBERS = re.compile(r"([1-9]\d*)(?:(-)([1-9]\d*)?)?")
@@ -365,7 +366,7 @@ def closing_sights(blocks: list[Block]) -> list[Block]:
     for readings in readings_together(blocks):
         found = list(closing_among(readings))
         if found and not has_codes:
-            refuse_whole_sets(readings)
+            refuse_whole_sets(found, readings)
         closing += found
     if not closing:
         raise Refused("no set has a closing sight")
@@ -387,11 +388,12 @@ def read_once(readings: list[Block]) -> list[list[Block]]:
 
 
 def is_whole(part: list[Block]) -> bool:
-    """Whether each target is read in both faces: all in one face and then in the other, or target
-    by target."""
+    """Whether each target is read in both faces, and there are two at least: all in one face and
+    then in the other, or target by target."""
     turns = [one.face() != then.face() for one, then in zip(part, part[1:])]
     in_each = [{one.target() for one in part if one.face() == face} for face in (1, 2)]
-    return in_each[0] == in_each[1] and (sum(turns) == 1 or are_pairs(part))
+    in_both = in_each[0] == in_each[1] and len(in_each[0]) > 1
+    return in_both and (sum(turns) == 1 or are_pairs(part))
 
 
 def ends_of(part: list[Block]) -> set[str | None]:
@@ -400,16 +402,37 @@ def ends_of(part: list[Block]) -> set[str | None]:
     return {targets[0], targets[-1]}
 
 
+def are_sighted_once(readings: list[Block], face: int) -> bool:
+    """Whether each target is sighted once, in this face or, one sight after the other, in both."""
+    targets = [target for target, _ in groupby(reading.target() for reading in readings)]
+    faces = Counter((reading.target(), reading.face()) for reading in readings)
+    is_once = len(set(targets)) == len(targets) and max(faces.values(), default=0) <= 1
+    return is_once and all(faces[target, face] for target in targets)
+
+
+def may_stand_before(readings: list[Block], face: int) -> bool:
+    """Whether readings may be sights that belong to none of the sets, which begin in this face."""
+    if len(readings) > MOST_BEFORE:
+        return are_sighted_once(readings, face)
+    in_this = {reading.target() for reading in readings if reading.face() == face}
+    return {reading.target() for reading in readings} <= in_this
+
+
+def counts_before(readings: list[Block]) -> range:
+    """How many readings may stand before sets, of which one has at least four: three, or more up to
+    where a target is sighted in a face once more."""
+    once = [len(part) for part in read_once(readings[:MOST_SIGHTED])[:1]]
+    most = min(max([MOST_BEFORE, *once]), len(readings) - 4)
+    return range(max(most, 0) + 1)
+
+
 def leave_whole_sets(before: list[Block], readings: list[Block]) -> bool:
     """Whether readings are whole sets, with the same ends, and those before may be sights that
     belong to none: in the face in which the sets begin, or in both."""
-    if not readings:
+    if not readings or not may_stand_before(before, readings[0].face()):
         return False
-    parts, face = read_once(readings), readings[0].face()
-    if not all(map(is_whole, parts)) or len({frozenset(ends_of(part)) for part in parts}) > 1:
-        return False
-    in_other_face = {one.target() for one in before if one.face() != face}
-    return in_other_face <= {one.target() for one in before if one.face() == face}
+    parts = read_once(readings)
+    return all(map(is_whole, parts)) and len({frozenset(ends_of(part)) for part in parts}) == 1
 
 
 def without_details(readings: list[Block]) -> list[Block]:
@@ -419,16 +442,39 @@ def without_details(readings: list[Block]) -> list[Block]:
     return readings[: max(in_both, default=0)]
 
 
-def refuse_whole_sets(readings: list[Block]) -> None:
-    """Stops where readings, of which closing sights would be left out, may be whole sets."""
+def counts_after(readings: list[Block]) -> Iterator[int]:
+    """How many readings may stand after sets: none; check sights in face I, as many as that face
+    has too many; or, where sets are read by faces, one sight in both faces."""
+    yield 0
+    faces = [reading.face() for reading in readings]
+    more = faces.count(1) - faces.count(2)
+    if 0 < more and 2 not in faces[-more:]:
+        yield more
+    if len(readings) > 2 and is_pair(*readings[-2:]) and not are_pairs(readings[:-2]):
+        yield 2
+
+
+def whole_sets(found: list[Block], readings: list[Block]) -> list[Block] | None:
+    """Of readings those of all sets, wherever these begin, if they may be whole: up to the last
+    reading; or up to check sights, where those that were found would take one from the sets."""
     readings = without_details(readings)
-    for before in range(MOST_BEFORE + 1):
-        if leave_whole_sets(readings[:before], readings[before:]):
-            first = readings[before].number
-            raise Refused(
-                "all sets are whole, and no sight closes one, if the first begins at block "
-                f"{first}: leave out by --blocks what the field book calls a closing sight"
-            )
+    numbers = {block.number for block in found}
+    for before in counts_before(readings):
+        for after in counts_after(readings[before:]):
+            sets = readings[before : len(readings) - after]
+            is_lost = after == 0 or numbers & {reading.number for reading in sets}
+            if is_lost and leave_whole_sets(readings[:before], sets):
+                return sets
+    return None
+
+
+def refuse_whole_sets(found: list[Block], readings: list[Block]) -> None:
+    """Stops where readings, of which these closing sights were found, may be whole sets."""
+    if sets := whole_sets(found, readings):
+        raise Refused(
+            "all sets are whole, and no sight closes one, if the first begins at block "
+            f"{sets[0].number}: leave out by --blocks what the field book calls a closing sight"
+        )
 
 
 def ends_of_sets(readings: list[Block]) -> Iterator[int]:
@@ -466,7 +512,7 @@ def broken_after(readings: list[Block], before: int) -> list[Block] | None:
 def broken_set(readings: list[Block]) -> list[Block]:
     """The readings of a last set that was broken off, however many stand before the sets; none
     where all sets may be whole."""
-    found = [broken_after(readings, before) for before in range(MOST_BEFORE + 1)]
+    found = [broken_after(readings, before) for before in counts_before(readings)]
     divided = [broken for broken in found if broken is not None]
     if not all(divided) or not divided:
         return []
@@ -476,7 +522,7 @@ def broken_set(readings: list[Block]) -> list[Block]:
             f"the last set that was broken off may have {' or '.join(sorted(numbers))}: leave out "
             "by --blocks what the field book says"
         )
-    return divided[0]
+    return [] if whole_sets(divided[0], readings) else divided[0]
 
 
 def broken_off(blocks: list[Block]) -> list[Block]:
