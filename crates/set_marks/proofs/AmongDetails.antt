@@ -1,16 +1,15 @@
 -- The sets among the readings that are no details are sets of all.
 use Rattle.std.proofs.Common.{◌≡◌, ℕ, zero, suc, ◌+◌, ◌≤◌, Bool, true, false, List}
-use Rattle.std.proofs.Common.{[], ◌∷◌, ◌++◌, length, drop, Some, None, refl, sym}
+use Rattle.std.proofs.Common.{[], ◌∷◌, length, drop, Some, None, refl, sym}
 use Rattle.std.proofs.Common.{ap, subst, ◌∙◌, inl, inr, arith, All}
-use Rattle.std.specs.Prelude.{if◌then◌else◌}
 use Rattle.std.specs.List.{list_any}
-use Rattle.std.proofs.lemmas.Bool.{cases_Bool, or_parts, or_cases, false≢true}
+use Rattle.std.proofs.lemmas.Bool.{cases_Bool, or_cases, false≢true}
 use Rattle.std.proofs.lemmas.List.Elements.{All-nil, All-cons, All-head, All-tail}
 use Rattle.std.proofs.lemmas.Slice.Eq.{bytes_eq-Decides}
 use Rattle.station_book.specs.Places.{is_among}
 use Rattle.set_marks.specs.declared.sight.Sight.{Sight}
 use Rattle.set_marks.specs.Divisions.{is_of, known_in, place_of, unknown_in}
-use Rattle.set_marks.specs.Divisions.{starts_from, end_of}
+use Rattle.set_marks.specs.Divisions.{end_of}
 
 -- whether a reading's target is one of the others'
 abbrev pub is_known : List Sight → Sight → Bool
@@ -99,60 +98,6 @@ strange_too others ys (r ∷ rs) all none = elim (cases_Bool (is_known others r)
         | inr k ↦ k
       ]) (strange_too others ys rs all (rw h at none))
 ]
-
--- Readings none of which is of the opening target begin no set.
-no_starts : (r : Sight) (ys : List Sight) (even : Bool) (at : ℕ) (rs : List Sight)
-    → All (λ s. is_known (r ∷ ys) s ≡ false) rs → starts_from r.target even at rs ≡ []
-no_starts r ys even at [] none = refl
-no_starts r ys even at (s ∷ rs) none =
-    let here = (or_parts (is_of s.target r) (is_known ys s)
-    (All-head (λ (t : Sight). is_known (r ∷ ys) t ≡ false) s rs none)).0 in
-    rw (other s r here) (no_starts r ys even (suc at) rs
-    (All-tail (λ (t : Sight). is_known (r ∷ ys) t ≡ false) s rs none)) where
-      other : (a b : Sight) → is_of a.target b ≡ false → is_of b.target a ≡ false
-      other a b e = elim (cases_Bool (is_of b.target a)) [
-        | inl h ↦ absurd (false≢true (sym e ∙ (bytes_eq-Decides b.target a.target).1
-            (sym ((bytes_eq-Decides a.target b.target).0 h))))
-        | inr h ↦ h
-      ]
-
--- So the sets begin at the same places without them.
-pub same_starts : (r : Sight) (ys : List Sight) (even : Bool) (at : ℕ) (front rs : List Sight)
-    → All (λ s. is_known (r ∷ ys) s ≡ false) rs
-    → starts_from r.target even at (front ++ rs) ≡ starts_from r.target even at front
-same_starts r ys even at [] rs none = no_starts r ys even at rs none
-same_starts r ys even at (s ∷ front) rs none = elim (cases_Bool (is_of r.target s)) [
-  | inl h ↦ elim (cases_Bool even) [
-    | inl v ↦ rw (h, v) (ap (λ ps. at ∷ ps) (same_starts r ys false (suc at) front rs none))
-    | inr v ↦ rw (h, v) (same_starts r ys true (suc at) front rs none)
-  ]
-  | inr h ↦ rw h (same_starts r ys even (suc at) front rs none)
-]
-
-none_ends : (known : List (List ℕ)) (end at : ℕ) (rs : List Sight)
-    → All (λ r. is_among known r.target ≡ false) rs → end_of known end at rs ≡ end
-none_ends known end at [] none = refl
-none_ends known end at (r ∷ rs) none =
-    rw (All-head (λ (s : Sight). is_among known s.target ≡ false) r rs none)
-    (none_ends known end (suc at) rs
-    (All-tail (λ (s : Sight). is_among known s.target ≡ false) r rs none))
-
--- Readings of no known target move no end.
-pub same_end : (known : List (List ℕ)) (end at : ℕ) (front rs : List Sight)
-    → All (λ r. is_among known r.target ≡ false) rs
-    → end_of known end at (front ++ rs) ≡ end_of known end at front
-same_end known end at [] rs none = none_ends known end at rs none
-same_end known end at (s ∷ front) rs none =
-    same_end known (if is_among known s.target then suc at else end) (suc at) front rs none
-
--- Readings of known targets alone end with the last of them.
-pub whole_end : (known : List (List ℕ)) (end at : ℕ) (rs : List Sight) → end ≡ at
-    → All (λ r. is_among known r.target ≡ true) rs → end_of known end at rs ≡ at + length rs
-whole_end known end at [] is all = is ∙ omega arith
-whole_end known end at (r ∷ rs) is all =
-    rw (All-head (λ (s : Sight). is_among known s.target ≡ true) r rs all)
-    (whole_end known (suc at) (suc at) rs refl
-    (All-tail (λ (s : Sight). is_among known s.target ≡ true) r rs all) ∙ omega arith)
 
 -- The end is none beyond the readings.
 pub end_within : (known : List (List ℕ)) (end at : ℕ) (rs : List Sight) → end ≤ at

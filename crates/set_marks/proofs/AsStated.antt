@@ -1,16 +1,15 @@
 -- What is marked is what is stated.
 use Rattle.std.proofs.Common.{◌≡◌, ℕ, zero, suc, ◌+◌, ◌-◌, ◌/◌, ◌≤◌, Bool, true, false, ◌&&◌, ◌||◌}
-use Rattle.std.proofs.Common.{not, List, [], ◌∷◌, length, take, drop, Option, Some, None}
+use Rattle.std.proofs.Common.{not, List, [], ◌∷◌, length, take, Option, Some, None}
 use Rattle.std.proofs.Common.{refl, sym, ap, subst, ◌∙◌, arith, All}
 use Rattle.std.specs.Prelude.{◌==◌, nat_lt, nat_le, slice_get, IfSome, is_some}
 use Rattle.std.specs.Str.{bytes_eq}
 use Rattle.std.proofs.lemmas.Bool.{not-false, eqb-true, eq-eqb}
-use Rattle.std.proofs.lemmas.List.{length-take, length-append}
+use Rattle.std.proofs.lemmas.List.{length-take}
 use Rattle.std.proofs.lemmas.List.Elements.{All-nil, All-cons, All-head, All-tail}
 use Rattle.gsi_file.specs.FileAnswers.{FileAnswers}
 use Rattle.adjust_kernel.specs.declared.bounds.TheConstants.{MOST_SETS, MOST_TARGETS}
 use Rattle.station_book.specs.Faults.{first_of}
-use Rattle.station_book.proofs.readings.CleanBlocks.{all_none}
 use Rattle.set_marks.specs.declared.beginnings.Beginnings.{Beginnings}
 use Rattle.set_marks.specs.declared.fault.MarkKind.TheVariants as kinds
 use Rattle.set_marks.specs.declared.division.Divided.{Divided}
@@ -18,14 +17,15 @@ use Rattle.set_marks.specs.declared.division.Divided.TheVariants.{NoSets, Sets, 
 use Rattle.set_marks.specs.declared.recognized.Recognized.{Recognized}
 use Rattle.set_marks.specs.declared.marked.Marked.{Marked}
 use Rattle.set_marks.specs.declared.sight.Sight.{Sight}
+use Rattle.set_marks.specs.declared.span.Span.{Span}
 use Rattle.set_marks.specs.Numbers.{Said, is_asked, is_other, number_of, numbers_of}
 use Rattle.set_marks.specs.Stations.{Occupation, stations_of}
-use Rattle.set_marks.specs.Divisions.{sets_of, starts_of, end_in, first_set, parts_at, targets_of}
+use Rattle.set_marks.specs.Divisions.{sets_of, starts_of, in_span, first_set, parts_at, targets_of}
 use Rattle.set_marks.specs.Divisions.{part, next_of, set_flaw, readings_flaw, order_flaw, sets_flaw}
 use Rattle.set_marks.specs.Divisions.{flaw_when, are_read_alike, is_by_faces, is_by_targets}
 use Rattle.set_marks.specs.Divisions.{last_target, are_by_targets, begins_with_pair, first_part}
-use Rattle.set_marks.specs.Divisions.{starts_from, first_cut, cut_end, cut_of}
-use Rattle.set_marks.specs.SetsInWords.{ReadsEachOnce, one_after_another}
+use Rattle.set_marks.specs.Divisions.{starts_from}
+use Rattle.set_marks.specs.SetsInWords.{ReadsEachOnce}
 use Rattle.set_marks.specs.Judging.{Before, called, judged, judged_called, judged_from, judged_of}
 use Rattle.set_marks.specs.Judging.{names_past, none_before}
 use Rattle.set_marks.specs.Marking.{recognized, recognized_from, first_fault}
@@ -37,8 +37,8 @@ use Rattle.set_marks.proofs.EachTargetOnce.{no_flaw}
 use Rattle.set_marks.proofs.Few.{none_of_two, none_of_three}
 use Rattle.set_marks.proofs.FewTargets.{all_few}
 use Rattle.set_marks.proofs.Judged.{has_no_fault}
-use Rattle.set_marks.proofs.SameSets.{HasSets, whole}
-use Rattle.set_marks.proofs.SetsInWords.{sets_in_words, divided_sets, doubts}
+use Rattle.set_marks.proofs.SetsInWords.{sets_in_words}
+use Rattle.set_marks.proofs.Spans.{are_taken}
 
 -- A number that is not another one is this.
 is_this : (o : Option ℕ) (n : ℕ) → is_other o n ≡ false → IfSome o (λ m. n ≡ m)
@@ -60,88 +60,31 @@ asked false o e is = cc
 both_hold : (t : Bool) (n : ℕ) → t ≡ true → n ≡ 1 → (t && (n == 1)) ≡ true
 both_hold t n is one = rw (is, eq-eqb n 1 one) refl
 
--- Sets have four readings at least.
-four_readings : (sets : List (List Sight)) → 1 ≤ length sets → All ReadsEachOnce sets
-    → 4 ≤ length (one_after_another sets)
-four_readings [] some each = absurd (omega (arith, some))
-four_readings (set ∷ sets) some each =
-    let many = (All-head ReadsEachOnce set sets each).many in
-    let long = length-append set (one_after_another sets) in omega (arith, many, long)
-
--- Whether readings begin with a pair is seen in the first two.
-first_two : (n : ℕ) (rs : List Sight) → 2 ≤ n
-    → begins_with_pair (take n rs) ≡ begins_with_pair rs
-first_two zero rs two = absurd (omega (arith, two))
-first_two (suc zero) rs two = absurd (omega (arith, two))
-first_two (suc (suc n)) [] two = refl
-first_two (suc (suc n)) (a ∷ []) two = refl
-first_two (suc (suc n)) (a ∷ b ∷ rs) two = refl
-
--- Sets that no detail stands among are read by targets where those of all are.
-same_way : (all rs : List Sight) → HasSets all rs → are_by_targets all ≡ are_by_targets rs
-same_way all rs has =
-    let end = end_in all in
-    let four : 4 ≤ length (take end all) = subst (λ (l : List Sight). 4 ≤ length l) has.same
-    (four_readings (cut_of rs) has.some has.each) in
-    let two : 2 ≤ end = let long = length-take end all in omega (arith, four, long) in
-    sym (first_two end all two) ∙ ap begins_with_pair has.read
-    ∙ first_two (cut_end (starts_of rs) rs) rs
-    (subst (λ (k : ℕ). 2 ≤ k) has.alike.end two)
-
--- They have the same targets.
-same_targets : (all rs : List Sight) → HasSets all rs
-    → targets_of (part 0 (end_in all) all)
-    ≡ targets_of (part 0 (cut_end (starts_of rs) rs) rs)
-same_targets all rs has = ap targets_of (whole (end_in all) all ∙ has.read
-    ∙ sym (whole (cut_end (starts_of rs) rs) rs))
-
 -- Sets that are not read by targets where no number of them is stated.
-not_by_targets : (stated : Said) (before : Before) (line : List ℕ) (s : Occupation) (leading : ℕ)
-    → judged stated before line s ≡ Sets leading → number_of stated.sets s.name ≡ None
-    → are_by_targets (drop leading s.sights) ≡ false
-not_by_targets stated before line s leading is none =
+not_by_targets : (stated : Said) (before : Before) (line : List ℕ) (s : Occupation) (span : Span)
+    → judged stated before line s ≡ Sets span → number_of stated.sets s.name ≡ None
+    → are_by_targets (in_span span s.sights) ≡ false
+not_by_targets stated before line s span is none =
     let numbers = numbers_of stated s.name in
-    let found = divided_sets numbers s.sights leading
-    (has_no_fault stated before line s leading is).divides in
-    let sure = all_none (doubts numbers found.before found.rest) found.sure in
-    let by = are_by_targets found.rest in
-    same_way (drop leading s.sights) found.rest found.sets
-    ∙ unasked by numbers.sets (no_flaw (is_asked by numbers.sets) kinds.ByTargets
-    (slice_get found.rest 0) sure.1.1.0) none
+    let taken = are_taken numbers s.sights span (has_no_fault stated before line s span is).divides
+    in unasked (are_by_targets (in_span span s.sights)) numbers.sets taken.by_faces none
 
 -- What is told of a station with sets is what is stated.
-one_as_stated : (stated : Said) (before : Before) (line : List ℕ) (s : Occupation) (leading : ℕ)
-    → judged stated before line s ≡ Sets leading
-    → IsAsStated (numbers_of stated s.name) (recognized s (Sets leading))
-one_as_stated stated before line s leading is =
+one_as_stated : (stated : Said) (before : Before) (line : List ℕ) (s : Occupation) (span : Span)
+    → judged stated before line s ≡ Sets span
+    → IsAsStated (numbers_of stated s.name) (recognized s (Sets span))
+one_as_stated stated before line s span is =
     let numbers = numbers_of stated s.name in
-    let all = drop leading s.sights in
-    let found = divided_sets numbers s.sights leading
-    (has_no_fault stated before line s leading is).divides in
-    let rs = found.rest in
-    let count = length (starts_of rs) in
-    let targets = length (targets_of (part 0 (cut_end (starts_of rs) rs) rs)) in
-    let first = slice_get rs 0 in
-    let single = are_by_targets rs && (count == 1) in
-    let sure = all_none (doubts numbers found.before rs) found.sure in
-    let none = none_of_three (flaw_when (is_other numbers.sets count) kinds.SetCount first)
-    (flaw_when (is_asked single numbers.targets) kinds.ByTargets first)
-    (flaw_when (is_other numbers.targets targets) kinds.TargetCount first) sure.1.1.1.1.0 in
-    let same_count : length (starts_of all) ≡ count = ap length found.sets.alike.starts in
-    let same_number : length (targets_of (part 0 (end_in all) all)) ≡ targets =
-    ap length (same_targets all rs found.sets) in
+    let inner = in_span span s.sights in
+    let taken = are_taken numbers s.sights span (has_no_fault stated before line s span is).divides
+    in let count = length (starts_of inner) in
+    let by = are_by_targets inner in
     record {
-      sets = is_this numbers.sets (length (starts_of all))
-          (ap (λ (n : ℕ). is_other numbers.sets n) same_count
-          ∙ no_flaw (is_other numbers.sets count) kinds.SetCount first none.0);
-      targets = is_this numbers.targets (length (targets_of (part 0 (end_in all) all)))
-          (ap (λ (n : ℕ). is_other numbers.targets n) same_number
-          ∙ no_flaw (is_other numbers.targets targets) kinds.TargetCount first none.2);
-      by_faces = not_by_targets stated before line s leading is;
-      single = λ by one. asked single numbers.targets
-          (no_flaw (is_asked single numbers.targets) kinds.ByTargets first none.1)
-          (both_hold (are_by_targets rs) count (sym (same_way all rs found.sets) ∙ by)
-          (sym same_count ∙ one));
+      sets = is_this numbers.sets count taken.sets;
+      targets = is_this numbers.targets (length (targets_of inner)) taken.targets;
+      by_faces = not_by_targets stated before line s span is;
+      single = λ is_by one. asked (by && (count == 1)) numbers.targets taken.single
+          (both_hold by count is_by one);
     }
 
 -- What is told of a station, if it has sets, is what is stated.
@@ -152,8 +95,8 @@ station_as_stated : (stated : Said) (before : Before) (line : List ℕ) (s : Occ
     (d : Divided) → judged stated before line s ≡ d → AsStated stated (recognized s d)
 station_as_stated stated before line s NoSets is some = cc
 station_as_stated stated before line s (Flawed f) is some = cc
-station_as_stated stated before line s (Sets leading) is some =
-    one_as_stated stated before line s leading is
+station_as_stated stated before line s (Sets span) is some =
+    one_as_stated stated before line s span is
 
 -- So it is of all stations.
 all_as_stated : (stated : Said) (before : Before) (ss : List Occupation)
@@ -203,11 +146,11 @@ no_pair (suc (suc n)) (a ∷ b ∷ rs) e many = rw e refl
 
 -- So isn't the first of sets that begin so.
 first_by_faces : (rs : List Sight) → begins_with_pair rs ≡ false → 1 ≤ length (sets_of rs)
-    → All ReadsEachOnce (sets_of rs) → is_by_targets (first_set (starts_of rs) rs) ≡ false
+    → All ReadsEachOnce (sets_of rs) → is_by_targets (first_set rs) ≡ false
 first_by_faces [] e some each = absurd (omega (arith, some))
 first_by_faces (r ∷ rs) e some each =
     let all = r ∷ rs in
-    let end = end_in all in
+    let end = length all in
     let later = starts_from r.target false 1 rs in
     let at : starts_of all ≡ 0 ∷ later = first_start r rs in
     let only : All ReadsEachOnce (parts_at end (0 ∷ later) all) =
@@ -238,21 +181,15 @@ all_by_faces first (set ∷ sets) is alike =
 -- A station with sets of which no number is stated is read by faces.
 station_by_faces : (stated : Said) (before : Before) (line : List ℕ) (s : Occupation)
     → IsByFaces stated (record { station = s; division = judged stated before line s })
-station_by_faces stated before line s none leading is =
-    let beyond = drop leading s.sights in
-    let divides = (has_no_fault stated before line s leading is).divides in
+station_by_faces stated before line s none span is =
+    let inner = in_span span s.sights in
     let numbers = numbers_of stated s.name in
-    let are = sets_in_words numbers s.sights leading divides in
-    let found = divided_sets numbers s.sights leading divides in
-    let rest = found.rest in
-    let alike = all_alike (first_cut (starts_of rest) rest) 0 (cut_end (starts_of rest) rest)
-    (starts_of rest) rest found.wrong in
-    all_by_faces (first_set (starts_of beyond) beyond) (sets_of beyond)
-    (first_by_faces beyond (not_by_targets stated before line s leading is none) are.some are.each)
-    (subst (λ (l : List (List Sight)). All (λ set. are_read_alike
-    (first_set (starts_of beyond) beyond) set ≡ true) l) (sym found.sets.sets)
-    (subst (λ (f : List Sight). All (λ set. are_read_alike f set ≡ true) (cut_of rest))
-    (sym found.sets.first) alike))
+    let divides = (has_no_fault stated before line s span is).divides in
+    let are = sets_in_words numbers s.sights span divides in
+    let taken = are_taken numbers s.sights span divides in
+    all_by_faces (first_set inner) (sets_of inner)
+    (first_by_faces inner (not_by_targets stated before line s span is none) are.some are.each)
+    (all_alike (first_set inner) 0 (length inner) (starts_of inner) inner taken.wrong)
 
 -- So are all stations.
 stations_by_faces : (stated : Said) (before : Before) (ss : List Occupation)

@@ -135,7 +135,13 @@ more_targets rs rest left r at is split e =
 
 -- in the other face
 abbrev flipped : Sight → Sight
-flipped r = record { block = r.block; wide = r.wide; target = r.target; second = not r.second }
+flipped r = record {
+  block = r.block;
+  wide = r.wide;
+  target = r.target;
+  second = not r.second;
+  angles = r.angles;
+}
 
 other_face : (x y : Bool) → not (is_same_face x y) ≡ is_same_face (not x) y
 other_face true y = refl

@@ -6,19 +6,18 @@ use Rattle.std.specs.Prelude.{slice_get, if◌then◌else◌}
 use Rattle.std.specs.List.{list_any}
 use Rattle.std.specs.Str.{bytes_eq}
 use Rattle.std.proofs.Math.Seq.{take-append_seam}
-use Rattle.std.proofs.lemmas.Bool.{cases_Bool, or_parts, or_left, or_right}
+use Rattle.std.proofs.lemmas.Bool.{cases_Bool, or_parts, or_left}
 use Rattle.std.proofs.lemmas.List.{append-nil, length-append}
 use Rattle.std.proofs.Math.Bool.{or_assoc}
-use Rattle.std.proofs.lemmas.List.Elements.{filter-append, All-nil, All-cons, All-head, All-tail}
+use Rattle.std.proofs.lemmas.List.Elements.{filter-append, All-nil, All-cons}
 use Rattle.std.proofs.lemmas.List.Folds.{list_any-append}
 use Rattle.std.proofs.lemmas.Slice.Eq.{bytes_eq-Decides}
 use Rattle.station_book.specs.Places.{is_among, with_new}
 use Rattle.set_marks.specs.declared.sight.Sight.{Sight}
 use Rattle.set_marks.specs.Divisions.{is_of, first_target, starts_of, starts_from, last_place}
-use Rattle.set_marks.specs.Divisions.{end_in, end_by, end_of, names_with, targets_of, seconds_of}
+use Rattle.set_marks.specs.Divisions.{end_of, names_with, seconds_of}
 use Rattle.set_marks.specs.Divisions.{is_read_in_two}
 use Rattle.set_marks.specs.BeginsAndEnds.{count_of, is_even, begins_by, begins_set, places_from}
-use Rattle.set_marks.specs.BeginsAndEnds.{was_read, EndsLastSet}
 
 -- The first set begins with the first reading.
 pub first_start : (r : Sight) (rs : List Sight)
@@ -105,7 +104,7 @@ with_first at (p ∷ ps) above =
     let more : suc at ≤ last_place (p ∷ ps) = above one in omega (arith, more)
 
 -- No place of a set's begin is below the first.
-starts_above : (name : List ℕ) (even : Bool) (at : ℕ) (rs : List Sight)
+pub starts_above : (name : List ℕ) (even : Bool) (at : ℕ) (rs : List Sight)
     → 1 ≤ length (starts_from name even at rs) → at ≤ last_place (starts_from name even at rs)
 starts_above name even at [] some = absurd (omega (arith, some))
 starts_above name even at (r ∷ rs) some = elim (cases_Bool (is_of name r)) [
@@ -158,7 +157,7 @@ among_names names name (r ∷ rs) =
     ∙ or_assoc (is_among names name) (is_of name r) (list_any (is_of name) rs)
 
 -- Of some readings, the last whose target is among some names.
-record LastKnown (names : List (List ℕ)) (end at : ℕ) (rs : List Sight) : Type 0 where
+pub record LastKnown (names : List (List ℕ)) (end at : ℕ) (rs : List Sight) : Type 0 where
   pub front : List Sight
   pub last : Sight
   pub after : List Sight
@@ -183,14 +182,7 @@ all_strange known (r ∷ rs) e =
     All-cons (λ (s : Sight). is_among known s.target ≡ false) r rs parts.0
     (all_strange known rs parts.1)
 
-same_strange : (p q : Sight → Bool) → ((r : Sight) → p r ≡ q r) → (rs : List Sight)
-    → All (λ r. p r ≡ false) rs → All (λ r. q r ≡ false) rs
-same_strange p q same [] all = All-nil (λ (r : Sight). q r ≡ false)
-same_strange p q same (r ∷ rs) all = All-cons (λ (s : Sight). q s ≡ false) r rs
-    (sym (same r) ∙ All-head (λ (s : Sight). p s ≡ false) r rs all)
-    (same_strange p q same rs (All-tail (λ (s : Sight). p s ≡ false) r rs all))
-
-last_known : (known : List (List ℕ)) (end at : ℕ) (rs : List Sight)
+pub last_known : (known : List (List ℕ)) (end at : ℕ) (rs : List Sight)
     → list_any (λ r. is_among known r.target) rs ≡ true → LastKnown known end at rs
 last_known known end at [] e = cc
 last_known known end at (r ∷ rs) e =
@@ -225,7 +217,7 @@ last_known known end at (r ∷ rs) e =
       or_first false b f g = cc
 
 -- The opening target is one that a set before the last has.
-opening_read : (r : Sight) (rs : List Sight) (k : ℕ)
+pub opening_read : (r : Sight) (rs : List Sight) (k : ℕ)
     → 1 ≤ k → list_any (is_of r.target) (take k (r ∷ rs)) ≡ true
 opening_read r rs zero le = absurd (omega (arith, le))
 opening_read r rs (suc k) le = or_left (is_of r.target r) (list_any (is_of r.target) (take k rs))
@@ -248,66 +240,8 @@ several_above r rs many =
           (starts_above r.target false 1 rs some) in
           subst (λ (qs : List ℕ). 1 ≤ last_place qs) (sym (is ∙ ap (λ qs. 0 ∷ qs) e)) above
 
--- Where the last of several sets ends, by the readings that stand before it.
-ends_by : (rs : List Sight) (starts : List ℕ) → starts_of rs ≡ starts → 2 ≤ length starts
-    → end_in rs ≡ end_of (targets_of (take (last_place (starts_of rs)) rs)) 0 0 rs
-ends_by rs [] is many = absurd (omega (arith, many))
-ends_by rs (from ∷ []) is many = absurd (omega (arith, many))
-ends_by rs (from ∷ to ∷ later) is many =
-    ap (λ (ps : List ℕ). end_by ps rs) is
-    ∙ ap (λ (ps : List ℕ). end_of (targets_of (take (last_place ps) rs)) 0 0 rs) (sym is)
-
--- The same, in words, where it ends by the targets of others of which one is read.
-ends_with : (others : List Sight) (rs : List Sight) (known : List ℕ → Bool)
-    → ((name : List ℕ) → list_any (is_of name) others ≡ known name)
-    → end_in rs ≡ end_of (targets_of others) 0 0 rs
-    → list_any (λ s. is_among (targets_of others) s.target) rs ≡ true
-    → EndsLastSet known rs
-ends_with others rs known same is some =
-    let read : (name : List ℕ) → is_among (targets_of others) name ≡ known name =
-    λ name. among_names [] name others ∙ same name in
-    let found = last_known (targets_of others) 0 0 rs some in
-    record {
-      front = found.front;
-      last = found.last;
-      after = found.after;
-      readings = found.readings;
-      end = is ∙ found.here ∙ omega arith;
-      is_known = sym (read found.last.target) ∙ found.known;
-      strange = same_strange (λ r. is_among (targets_of others) r.target)
-          (λ r. known r.target) (λ r. read r.target) found.after found.strange;
-    }
-
--- The last of several sets ends where the definition in words says so.
-pub last_set_ends : (rs : List Sight) → 2 ≤ length (starts_of rs) → EndsLastSet (was_read rs) rs
-last_set_ends [] many = absurd (omega (arith, many))
-last_set_ends (r ∷ rs) many =
-    let all = r ∷ rs in
-    let known = take (last_place (starts_of all)) all in
-    let opening : is_among (targets_of known) r.target ≡ true = among_names [] r.target known
-    ∙ opening_read r rs (last_place (starts_of all)) (several_above r rs many) in
-    ends_with known all (was_read all) (λ name. refl) (ends_by all (starts_of all) refl many)
-    (or_left (is_among (targets_of known) r.target)
-    (list_any (λ s. is_among (targets_of known) s.target) rs) opening)
-
--- A reading in face II is of a target that is read so.
-second_known : (others rs : List Sight)
-    → ((name : List ℕ) → list_any (is_of name) (seconds_of rs) ≡ true
-    → is_among (targets_of others) name ≡ true) → list_any (λ r. r.second) rs ≡ true
-    → list_any (λ s. is_among (targets_of others) s.target) rs ≡ true
-second_known others [] so e = cc
-second_known others (r ∷ rs) so e = elim (cases_Bool r.second) [
-  | inl h ↦ or_left (is_among (targets_of others) r.target)
-      (list_any (λ s. is_among (targets_of others) s.target) rs) (so r.target
-      (rw h (or_left (is_of r.target r) (list_any (is_of r.target) (seconds_of rs))
-      ((bytes_eq-Decides r.target r.target).1 refl))))
-  | inr h ↦ or_right (is_among (targets_of others) r.target)
-      (list_any (λ s. is_among (targets_of others) s.target) rs)
-      (second_known others rs (λ name f. so name (rw h f)) (rw h at e))
-]
-
 -- A target is read in face II where one of the readings in face II is of it.
-in_two : (name : List ℕ) (rs : List Sight)
+pub in_two : (name : List ℕ) (rs : List Sight)
     → list_any (is_of name) (seconds_of rs) ≡ is_read_in_two rs name
 in_two name [] = refl
 in_two name (r ∷ rs) = elim (cases_Bool r.second) [
@@ -320,15 +254,3 @@ in_two name (r ∷ rs) = elim (cases_Bool r.second) [
     | inr v ↦ rw (h, v) (in_two name rs)
   ]
 ]
-
--- So does a single set, by the readings in face II.
-pub single_set_ends : (rs : List Sight) → length (starts_of rs) ≡ 1
-    → list_any (λ r. r.second) rs ≡ true → EndsLastSet (is_read_in_two rs) rs
-single_set_ends rs one some = ends_with (seconds_of rs) rs (is_read_in_two rs)
-    (λ name. in_two name rs) (by (starts_of rs) refl)
-    (second_known (seconds_of rs) rs (λ name f. among_names [] name (seconds_of rs) ∙ f) some) where
-      by : (starts : List ℕ) → starts_of rs ≡ starts
-          → end_in rs ≡ end_of (targets_of (seconds_of rs)) 0 0 rs
-      by [] is = ap (λ (ps : List ℕ). end_by ps rs) is
-      by (from ∷ []) is = ap (λ (ps : List ℕ). end_by ps rs) is
-      by (from ∷ to ∷ later) is = absurd (omega (arith, sym (ap length is) ∙ one))

@@ -19,7 +19,7 @@ use Rattle.set_marks.proofs.BareNames.{bare_names}
 use Rattle.set_marks.proofs.CopyLines.{AreRoomy, copy_lines, lines_are_blocks}
 use Rattle.set_marks.proofs.Rooms.{marks_roomy}
 use Rattle.set_marks.proofs.Judged.{all_sound}
-use Rattle.set_marks.proofs.MarkedFile.{copy_marked}
+use Rattle.set_marks.proofs.CopyFound.{marks_up}
 
 -- What the code lines of the file say has room.
 pub all_roomy : (beginnings : Beginnings) (stated : Said) (bytes : List ℕ) (h : History)
@@ -42,4 +42,4 @@ copy_is_blocks beginnings stated bytes h zip is fault =
     subst (λ (ls : List (List ℕ)). AllZip IsBlock ls (copy_blocks beginnings stated h))
     (sym (copy_lines bytes marks roomy))
     (lines_are_blocks 0 marks lines (reverse h) roomy
-    (copy_marked beginnings stated lines h zip is fault).up zip)
+    (marks_up beginnings stated lines h zip is fault) zip)

@@ -24,7 +24,7 @@ use Rattle.set_marks.specs.Unmarked.{BeginsSomeLine, is_put_in, unmarked, whole_
 use Rattle.set_marks.specs.MarkedBlocks.{grown}
 use Rattle.set_marks.specs.MarkedFile.{copy_blocks, copy_history, AreBlocksOf, IsFoundAsDivided}
 use Rattle.set_marks.proofs.Unmarked.{bytes_come_back}
-use Rattle.set_marks.proofs.MarkedFile.{found_as_divided, no_fault_of_codes, no_fault_at_end}
+use Rattle.set_marks.proofs.CopyFound.{found_as_divided, no_fault_of_codes, no_fault_at_end}
 use Rattle.set_marks.proofs.CopyBlocks.{copy_is_blocks, all_roomy}
 use Rattle.set_marks.proofs.CopyPlaces.{are_well}
 
@@ -100,8 +100,7 @@ module _ (beginnings : Beginnings) (stated : Said) (bytes : List ℕ) (fails : B
         blocks)
         (record {
           found = found_as_divided beginnings stated lines h file_blocks is marking.clean;
-          faults = λ limits. no_fault_of_codes limits beginnings stated lines h file_blocks is
-              marking.clean;
+          faults = no_fault_of_codes beginnings stated lines h file_blocks is marking.clean;
           end = no_fault_at_end beginnings stated lines h file_blocks is marking.clean;
         })
 

@@ -1,6 +1,6 @@
 -- The definitions on small files.
-use Rattle.std.proofs.Common.{◌≡◌, ℕ, false, List, [], ◌∷◌, Option, Some, None, refl, arith}
-use Rattle.std.specs.Prelude.{codes, decimal, map, true, Bool}
+use Rattle.std.proofs.Common.{◌≡◌, ℕ, false, List, [], ◌∷◌, ◌++◌, Option, Some, None, refl, arith}
+use Rattle.std.specs.Prelude.{codes, decimal, map, true, Bool, ◌-◌, if◌then◌else◌}
 use Rattle.std.proofs.lemmas.Fmt.{decimal_digit}
 use Rattle.gsi_word.specs.Words.{GsiWord}
 use Rattle.gsi_word.specs.Blocks.{GsiBlock}
@@ -15,7 +15,8 @@ use Rattle.set_marks.specs.declared.mark.Code.TheVariants.{Station, Set, Close}
 use Rattle.set_marks.specs.declared.remarks.Remarks.{Remarks}
 use Rattle.set_marks.specs.declared.sight.Sight.{Sight}
 use Rattle.set_marks.specs.Stations.{SetUp, sets_up, tells_set_up, sights_of, set_ups_of}
-use Rattle.set_marks.specs.Divisions.{divided, starts_of, end_in}
+use Rattle.set_marks.specs.Divisions.{starts_of}
+use Rattle.set_marks.specs.Ways.{divided}
 use Rattle.set_marks.specs.Stations.{Occupation, begins_named}
 use Rattle.set_marks.specs.Judging.{none_before, judged_called, judged_from}
 use Rattle.set_marks.specs.Marking.{marks_of, recognized, recognized_from, refusal}
@@ -57,9 +58,19 @@ file = one (codes "0000000D") ∷ two a_name ∷ two b_name ∷ one b_name ∷ o
 abbrev in_set : ℕ → Option Found
 in_set n = Some (record { station = Some (codes "P1"); set = Some n })
 
+-- A sight at the block of this number, with this direction, and this zenith angle in face I.
+abbrev sight_at : ℕ → ℕ → ℕ → List ℕ → Bool → Sight
+sight_at hz zenith n name second = record {
+  block = n;
+  wide = false;
+  target = name;
+  second = second;
+  angles = record { hz = hz; zenith = if second then 40000000 - zenith else zenith };
+}
+
 -- A sight at the block of this number.
 abbrev sight : ℕ → List ℕ → Bool → Sight
-sight n name second = record { block = n; wide = false; target = name; second = second }
+sight n name second = sight_at 0 9000 n name second
 
 -- Two targets, read in both faces one after the other, and then two more.
 abbrev by_targets : List Sight
@@ -118,6 +129,10 @@ again_apart = record { sets = of_each None; targets = of_each None; again = true
 abbrev read_as : List Sight → Option ℕ → Option ℕ → Divided
 read_as rs sets targets = divided (numbers sets targets) rs
 
+-- So many readings, from the first on, are sets.
+abbrev up_to : ℕ → Divided
+up_to to = Sets (record { from = 0; to = to })
+
 -- This is wrong at the first reading.
 abbrev at_first : MarkKind → Divided
 at_first kind = Flawed (record { block = 1; kind = kind })
@@ -174,15 +189,64 @@ with_gap = sight 1 (codes "A") false ∷ sight 2 (codes "C") false ∷ sight 3 (
     ∷ sight 9 (codes "B") true ∷ sight 10 (codes "A") true
     ∷ sight 11 (codes "D") false ∷ sight 12 (codes "E") false ∷ sight 13 (codes "D") true ∷ []
 
--- what is told, beyond their numbers, of the sets that these readings are
-abbrev remarked : List Sight → Option Remarks
-remarked rs = (recognized (record { name = codes "P1"; sights = rs }) (Sets 0)).remarks
+-- Three sets, of which the third is the first once more. The zenith angles of A differ by 20 mgon,
+-- those of B by a unit more.
+abbrev read_twice : List Sight
+read_twice = sight_at 1 9000 1 (codes "A") false ∷ sight_at 2 7000 2 (codes "B") false
+    ∷ sight_at 3 8000 3 (codes "B") true ∷ sight_at 4 8000 4 (codes "A") true
+    ∷ sight_at 5 7000 5 (codes "A") false ∷ sight_at 6 9000 6 (codes "B") false
+    ∷ sight_at 7 9001 7 (codes "B") true ∷ sight_at 8 8000 8 (codes "A") true
+    ∷ sight_at 1 9000 9 (codes "A") false ∷ sight_at 2 7000 10 (codes "B") false
+    ∷ sight_at 3 8000 11 (codes "B") true ∷ sight_at 4 8000 12 (codes "A") true ∷ []
+
+-- A set by faces of A, B and C, between readings before it and after it.
+abbrev between : List Sight → List Sight → List Sight
+between before after = before ++ (sight 11 (codes "A") false ∷ sight 12 (codes "B") false
+    ∷ sight 13 (codes "C") false ∷ sight 14 (codes "C") true
+    ∷ sight 15 (codes "B") true ∷ sight 16 (codes "A") true ∷ after)
+
+-- Sights to its targets in both faces, as of a resection.
+abbrev resection : List Sight
+resection = sight 1 (codes "A") false ∷ sight 2 (codes "A") true
+    ∷ sight 3 (codes "B") false ∷ sight 4 (codes "B") true
+    ∷ sight 5 (codes "C") false ∷ sight 6 (codes "C") true ∷ []
+
+-- A set of A and B, and after it a sight to A; between them a detail, or none.
+abbrev two_and_check : List Sight → List Sight
+two_and_check details = one_set ++ (details ++ sight 6 (codes "A") false ∷ [])
+
+-- Two sets of A and B by faces, and a sight to A: the sets may begin with B too.
+abbrev in_two_ways : List Sight
+in_two_ways = sight 1 (codes "A") false ∷ sight 2 (codes "B") false
+    ∷ sight 3 (codes "B") true ∷ sight 4 (codes "A") true
+    ∷ sight 5 (codes "A") false ∷ sight 6 (codes "B") false
+    ∷ sight 7 (codes "B") true ∷ sight 8 (codes "A") true
+    ∷ sight 9 (codes "A") false ∷ []
+
+-- A set that is begun in face II.
+abbrev begun_in_two : List Sight
+begun_in_two = sight 2 (codes "A") true ∷ sight 3 (codes "C") true ∷ sight 4 (codes "B") true
+    ∷ sight 5 (codes "B") false ∷ sight 6 (codes "C") false ∷ sight 7 (codes "A") false ∷ []
+
+-- A pair of A, and two sets by targets that begin with C: so two sets look that begin with A, the
+-- first without B, and one more that was broken off before C.
+abbrev after_pair : List Sight
+after_pair = sight 1 (codes "A") false ∷ sight 2 (codes "A") true
+    ∷ sight 3 (codes "C") false ∷ sight 4 (codes "C") true
+    ∷ sight 5 (codes "A") false ∷ sight 6 (codes "A") true
+    ∷ sight 7 (codes "B") false ∷ sight 8 (codes "B") true
+    ∷ sight 9 (codes "C") false ∷ sight 10 (codes "C") true
+    ∷ sight 11 (codes "A") false ∷ sight 12 (codes "A") true
+    ∷ sight 13 (codes "B") false ∷ sight 14 (codes "B") true ∷ []
+
+-- what is told, beyond their numbers, of the sets that so many of these readings are
+abbrev remarked : ℕ → List Sight → Option Remarks
+remarked to rs = (recognized (record { name = codes "P1"; sights = rs }) (up_to to)).remarks
 
 -- what is found in such files
 record AreExamples : Type 0 where
   starts : starts_of (sights_of file) ≡ 0 ∷ 4 ∷ []
-  end : end_in (sights_of file) ≡ 8
-  divides : divided (numbers None None) (sights_of file) ≡ Sets 0
+  divides : divided (numbers None None) (sights_of file) ≡ up_to 8
   marks : marks_of by_set_ups nothing file
       ≡ record { block = 2; wide = false; code = Station (codes "P1") }
       ∷ record { block = 2; wide = false; code = Set 1 }
@@ -207,37 +271,86 @@ record AreExamples : Type 0 where
   sets_asked : read_as by_targets None None ≡ at_first kinds.ByTargets
   targets_asked : read_as by_targets (Some 1) None ≡ at_first kinds.ByTargets
   two_by_two : read_as by_targets (Some 1) (Some 2) ≡ at_first kinds.TargetCount
-  as_stated : read_as by_targets (Some 1) (Some 4) ≡ Sets 0
+  as_stated : read_as by_targets (Some 1) (Some 4) ≡ up_to 8
   unstated : read_as shifted None None ≡ at_first kinds.ByTargets
   one_to_the_end : read_as shifted (Some 1) (Some 2) ≡ at_first kinds.SetCount
-  two_sets : read_as shifted (Some 2) None ≡ Sets 0
-  by_faces_told : remarked with_gap ≡ Some (record {
+  two_sets : read_as shifted (Some 2) None ≡ up_to 8
+  by_faces_told : remarked 10 with_gap ≡ Some (record {
     opening = codes "A";
     turning = codes "B";
     directions = 6;
     missing = 1;
     others = 1;
+    opened_again = false;
+    equal_sets = [];
+    zeniths = [];
   })
-  by_targets_told : remarked by_targets ≡ Some (record {
+  by_targets_told : remarked 8 by_targets ≡ Some (record {
     opening = codes "A";
     turning = codes "D";
     directions = 4;
     missing = 0;
     others = 0;
+    opened_again = false;
+    equal_sets = [];
+    zeniths = [];
   })
+  read_twice_told : remarked 12 read_twice ≡ Some (record {
+    opening = codes "A";
+    turning = codes "B";
+    directions = 6;
+    missing = 0;
+    others = 0;
+    opened_again = false;
+    equal_sets = record { earlier = 1; later = 3 } ∷ [];
+    zeniths = record { least = 7000; greatest = 9001; target = codes "B" } ∷ [];
+  })
+  read_again_told : remarked 8 (by_targets ++ sight 9 (codes "A") false ∷ []) ≡ Some (record {
+    opening = codes "A";
+    turning = codes "D";
+    directions = 4;
+    missing = 0;
+    others = 0;
+    opened_again = true;
+    equal_sets = [];
+    zeniths = [];
+  })
+  check_sights : read_as (between [] (sight 17 (codes "A") false ∷ sight 18 (codes "C") false ∷ []))
+      None None ≡ up_to 6
+  check_pair : read_as (between [] (sight 17 (codes "A") false ∷ sight 18 (codes "A") true ∷ []))
+      None None ≡ up_to 6
+  pair_of_another : read_as (between [] (sight 17 (codes "B") false ∷ sight 18 (codes "B") true
+      ∷ [])) None None ≡ Flawed (record { block = 18; kind = kinds.ReadTwice })
+  after_resection : read_as (between resection []) None None
+      ≡ Sets (record { from = 6; to = 12 })
+  after_five : read_as (between (sight 1 (codes "A") false ∷ sight 2 (codes "A") false
+      ∷ sight 3 (codes "B") false ∷ sight 4 (codes "B") false ∷ sight 5 (codes "C") false ∷ []) [])
+      None None ≡ Sets (record { from = 5; to = 11 })
+  close_check : read_as (two_and_check []) None None
+      ≡ Flawed (record { block = 6; kind = kinds.FaceMissing })
+  check_after_detail : read_as (two_and_check (sight 5 (codes "D") false ∷ [])) None None
+      ≡ up_to 4
+  two_ways : read_as in_two_ways None None
+      ≡ Flawed (record { block = 2; kind = kinds.MayBeShifted })
+  middle_pair : read_as after_pair (Some 2) None
+      ≡ Flawed (record { block = 3; kind = kinds.MayBeShifted })
+  begun_in_face_two : read_as begun_in_two None None ≡ up_to 6
+  begun_late : read_as (sight 1 (codes "B") false ∷ begun_in_two) None None
+      ≡ Flawed (record { block = 2; kind = kinds.FirstFace })
   strangers : divided (numbers None None) other_targets
       ≡ Flawed (record { block = 5; kind = kinds.OtherTargets })
   sights_itself : judged_called nothing none_before (station (codes "B") one_set)
       ≡ Flawed (record { block = 2; kind = kinds.SightsItself })
   twice : judged_called nothing
-      (record { marked = []; faulty = codes "P1" ∷ []; visits = [] }) (station (codes "P1") one_set) ≡ at_first kinds.StationTwice
+      (record { marked = []; faulty = codes "P1" ∷ []; visits = [] })
+      (station (codes "P1") one_set) ≡ at_first kinds.StationTwice
   both_told : told nothing
-      ≡ recognized (station (codes "P1") one_set) (Sets 0)
+      ≡ recognized (station (codes "P1") one_set) (up_to 4)
       ∷ recognized (station (codes "P2") again) (Flawed alone) ∷ []
   refused : refusal nothing 10 (told nothing) ≡ Some alone
   left_outside : refusal others 10 (told others) ≡ None
   no_blocks : refusal nothing 1 [] ≡ Some (record { block = 1; kind = kinds.Empty })
-  its_own : judged_called (of_p1 1) none_before (station (codes "P1") one_set) ≡ Sets 0
+  its_own : judged_called (of_p1 1) none_before (station (codes "P1") one_set) ≡ up_to 4
   that_of_each : judged_called (of_p1 1) none_before (station (codes "P2") one_set)
       ≡ at_first kinds.SetCount
   visits : names_told ≡ codes "P1" ∷ codes "P1-2" ∷ codes "P1" ∷ codes "P1-3" ∷ []
@@ -246,7 +359,7 @@ record AreExamples : Type 0 where
       (station (codes "B") one_set) ≡ Flawed (record { block = 2; kind = kinds.SightsItself })
   zero : visit_name (codes "0") 1 ≡ codes "0"
   no_room : visit_name (codes "FIFTEEN OF BYTE") 1 ≡ codes "FIFTEEN OF BYTE"
-  not_there : refusal (of_p1 1) 10 (recognized (station (codes "P2") one_set) (Sets 0) ∷ [])
+  not_there : refusal (of_p1 1) 10 (recognized (station (codes "P2") one_set) (up_to 4) ∷ [])
       ≡ Some (record { block = 10; kind = kinds.NoSuchStation })
 
 -- The digit of a second set-up.
@@ -258,7 +371,6 @@ unfolding role_of target named number angles angle_fault is_of_face has_two lack
     tells_set_up begins_named
 examples = record {
   starts = refl;
-  end = refl;
   divides = refl;
   marks = refl;
   as_divided = refl;
@@ -279,7 +391,20 @@ examples = record {
   one_to_the_end = refl;
   by_faces_told = refl;
   by_targets_told = refl;
+  read_twice_told = refl;
   two_sets = refl;
+  read_again_told = refl;
+  check_sights = refl;
+  check_pair = refl;
+  pair_of_another = refl;
+  after_resection = refl;
+  after_five = refl;
+  close_check = refl;
+  check_after_detail = refl;
+  two_ways = refl;
+  middle_pair = refl;
+  begun_in_face_two = refl;
+  begun_late = refl;
   strangers = refl;
   sights_itself = refl;
   twice = refl;

@@ -1,8 +1,8 @@
 -- A station that has sets has at most 40, and its name has room.
 use Rattle.std.proofs.Common.{◌≡◌, ℕ, suc, ◌+◌, ◌-◌, ◌/◌, ◌<◌, ◌≤◌, Bool, true, false, List, []}
-use Rattle.std.proofs.Common.{◌∷◌, length, drop, Option, Some, None, refl, sym, ap, ◌∙◌, arith, inl}
+use Rattle.std.proofs.Common.{◌∷◌, length, Option, Some, None, refl, sym, ap, ◌∙◌, arith, inl}
 use Rattle.std.proofs.Common.{inr}
-use Rattle.std.specs.Prelude.{slice_get, is_none, nat_le, nat_lt, not, if◌then◌else◌}
+use Rattle.std.specs.Prelude.{slice_get, is_none, nat_le, nat_lt, not}
 use Rattle.std.specs.Str.{bytes_eq}
 use Rattle.std.proofs.lemmas.Bool.{cases_lt, le-leb, lt-leb}
 use Rattle.adjust_kernel.specs.Names.{IsName}
@@ -12,12 +12,13 @@ use Rattle.set_marks.specs.declared.division.Divided.TheVariants.{Sets}
 use Rattle.set_marks.specs.declared.flaw.Flaw.{Flaw}
 use Rattle.set_marks.specs.declared.fault.MarkKind.TheVariants as kinds
 use Rattle.set_marks.specs.declared.sight.Sight.{Sight}
+use Rattle.set_marks.specs.declared.span.Span.{Span}
 use Rattle.set_marks.specs.Divisions.{order_flaw, are_read_alike, last_target, set_flaw, part}
-use Rattle.set_marks.specs.Divisions.{next_of, sets_flaw, divided, starts_of, end_in, flaw_at}
-use Rattle.set_marks.specs.Divisions.{flaw_when}
+use Rattle.set_marks.specs.Divisions.{next_of, sets_flaw, starts_of, in_span, first_set}
+use Rattle.set_marks.specs.Ways.{divided}
+use Rattle.set_marks.specs.Divisions.{flaw_at, flaw_when}
 use Rattle.set_marks.specs.declared.stated.Numbers.{Numbers}
-use Rattle.set_marks.proofs.RowsOfSets.{as_many}
-use Rattle.set_marks.proofs.SetsInWords.{sets_in_words}
+use Rattle.set_marks.proofs.Spans.{are_taken}
 
 -- Where nothing stands first of some, nothing stands of each.
 pub none_of_two : {X : Type 0} (a b : Option X) → first_of (a ∷ b ∷ []) ≡ None → (a ≡ None)
@@ -61,12 +62,12 @@ no_flaw None e = refl
 no_flaw (Some f) e = cc
 
 -- A station's readings that are sets are at most 40.
-pub few_sets : (stated : Numbers) (rs : List Sight) (n : ℕ) → divided stated rs ≡ Sets n
-    → length (starts_of (drop n rs)) ≤ MOST_SETS
-few_sets stated rs n e =
-    let few = (sets_in_words stated rs n e).few in
-    let count = as_many (end_in (drop n rs)) (starts_of (drop n rs)) (drop n rs) in
-    omega (arith, few, count)
+pub few_sets : (stated : Numbers) (rs : List Sight) (span : Span) → divided stated rs ≡ Sets span
+    → length (starts_of (in_span span rs)) ≤ MOST_SETS
+few_sets stated rs span e =
+    let inner = in_span span rs in
+    let most = few (first_set inner) 0 (length inner) (starts_of inner) inner (omega arith)
+    (are_taken stated rs span e).wrong in omega (arith, most)
 
 -- A name is no empty one.
 pub is_not_empty : (name : List ℕ) → IsName name

@@ -2,7 +2,7 @@
 use Rattle.std.proofs.Common.{◌≡◌, ℕ, zero, suc, ◌+◌, ◌<◌, ◌≤◌, Bool, true, false, List, [], ◌∷◌}
 use Rattle.std.proofs.Common.{◌++◌, length, take, drop, Option, Some, None, refl, sym, ap, ◌∙◌, arith}
 use Rattle.std.proofs.Common.{inl, inr}
-use Rattle.std.specs.Prelude.{nat_le, nat_lt, not, slice_get, ◌&&◌, if◌then◌else◌}
+use Rattle.std.specs.Prelude.{nat_le, not, slice_get, if◌then◌else◌}
 use Rattle.std.proofs.lemmas.Bool.{cases_lt, le-leb}
 use Rattle.std.proofs.lemmas.List.{append-nil, take_all, take-append-le, length-take}
 use Rattle.adjust_kernel.specs.declared.bounds.TheConstants.{MOST_SETS}
@@ -10,9 +10,11 @@ use Rattle.station_book.specs.Faults.{first_of}
 use Rattle.set_marks.specs.declared.flaw.Flaw.{Flaw}
 use Rattle.set_marks.specs.declared.fault.MarkKind.TheVariants as kinds
 use Rattle.set_marks.specs.declared.sight.Sight.{Sight}
-use Rattle.set_marks.specs.Divisions.{sets_flaw, set_flaw, first_cut, cut_end, cut_flaw, part}
+use Rattle.set_marks.specs.Divisions.{sets_flaw, set_flaw, first_cut, cut_end, part}
+use Rattle.set_marks.specs.Ways.{cut_flaw}
 use Rattle.set_marks.specs.Divisions.{flaw_at, flaw_when, flaw_found, starts_from, starts_of, is_of}
-use Rattle.set_marks.specs.Divisions.{seconds_of, unknown_in, may_lead}
+use Rattle.set_marks.specs.Divisions.{seconds_of, unknown_in}
+use Rattle.set_marks.specs.Outside.{may_precede}
 use Rattle.set_marks.proofs.Few.{few}
 
 -- So many places are all, where there are so many of them.
@@ -96,7 +98,7 @@ flaw_told all leading place starts rs f are told =
     ap (λ (o : Option Flaw). first_of (o
     ∷ flaw_found kinds.FaceMissing (unknown_in (seconds_of all)
     (take (cut_end (starts_of rs) rs) (drop place all)))
-    ∷ flaw_when (nat_lt (length (starts_of rs)) 2 && not (may_lead rs leading place)) kinds.OneSet
+    ∷ flaw_when (not (may_precede (starts_of rs) rs leading place)) kinds.OneSet
     (slice_get rs 0) ∷ [])) is
 
 -- Where nothing is wrong, there are no more.
@@ -118,7 +120,7 @@ pub flaw_after : (all leading : List Sight) (place : ℕ) (starts : List ℕ) (r
     → o ≡ first_of (
     flaw_found kinds.FaceMissing (unknown_in (seconds_of all)
     (take (cut_end starts rs) (drop place all)))
-    ∷ flaw_when (nat_lt (length starts) 2 && not (may_lead rs leading place)) kinds.OneSet
+    ∷ flaw_when (not (may_precede starts rs leading place)) kinds.OneSet
     (slice_get rs 0) ∷ [])
     → o ≡ cut_flaw all leading place (starts_of rs) rs
 flaw_after all leading place starts rs o are none is =
@@ -126,7 +128,7 @@ flaw_after all leading place starts rs o are none is =
     is ∙ ap (λ (p : Option Flaw). first_of (p
     ∷ flaw_found kinds.FaceMissing (unknown_in (seconds_of all)
     (take (cut_end starts rs) (drop place all)))
-    ∷ flaw_when (nat_lt (length starts) 2 && not (may_lead rs leading place)) kinds.OneSet
+    ∷ flaw_when (not (may_precede starts rs leading place)) kinds.OneSet
     (slice_get rs 0) ∷ [])) none
     ∙ ap (λ (l : List ℕ). cut_flaw all leading place l rs) whole
 

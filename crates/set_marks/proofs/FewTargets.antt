@@ -16,7 +16,7 @@ use Rattle.set_marks.specs.declared.sight.Sight.{Sight}
 use Rattle.set_marks.specs.Stations.{Occupation}
 use Rattle.set_marks.specs.Numbers.{Said}
 use Rattle.set_marks.specs.declared.flaw.Flaw.{Flaw}
-use Rattle.set_marks.specs.Divisions.{flaw_found, names_with, targets_of, one_too_many, in_sets_of}
+use Rattle.set_marks.specs.Divisions.{flaw_found, names_with, targets_of, one_too_many, in_span}
 use Rattle.set_marks.specs.Judging.{Before, called, judged, judged_called, judged_from, names_past}
 use Rattle.set_marks.specs.Marking.{recognized, recognized_from}
 use Rattle.set_marks.proofs.EachTargetOnce.{none_found}
@@ -91,10 +91,10 @@ station_few : (stated : Said) (before : Before) (line : List ℕ) (s : Occupatio
     → judged stated before line s ≡ d → HasFew (recognized s d)
 station_few stated before line s NoSets is = omega arith
 station_few stated before line s (Flawed f) is = omega arith
-station_few stated before line s (Sets leading) is =
-    few_with [] (in_sets_of leading s.sights) (omega arith)
-    (none_found kinds.TooManyTargets (one_too_many [] (in_sets_of leading s.sights))
-    (has_no_fault stated before line s leading is).targets)
+station_few stated before line s (Sets span) is =
+    few_with [] (in_span span s.sights) (omega arith)
+    (none_found kinds.TooManyTargets (one_too_many [] (in_span span s.sights))
+    (has_no_fault stated before line s span is).targets)
 
 -- What is told of stations that are judged.
 pub all_few : (stated : Said) (before : Before) (ss : List Occupation)

@@ -1,17 +1,18 @@
 -- Code lines one after another.
 use Rattle.std.proofs.Common.{◌≡◌, ℕ, suc, ◌+◌, List, [], ◌∷◌, ◌++◌, length, map, ap, sym, ◌∙◌}
 use Rattle.std.proofs.Common.{append_assoc, Bool, false, Option, Some, None, arith}
-use Rattle.std.specs.Prelude.{IfSome, ◌≢◌, slice_get, nat_lt, ◌&&◌, drop, if◌then◌else◌}
+use Rattle.std.specs.Prelude.{IfSome, ◌≢◌, slice_get, nat_lt, ◌&&◌, if◌then◌else◌}
 use Rattle.std.proofs.lemmas.Bool.{ltb-false, eq-eqb, ne_eqb}
 use Rattle.adjust_kernel.specs.Names.{IsName}
 use Rattle.set_marks.specs.declared.mark.Code.TheVariants.{Station, Set, Close}
 use Rattle.set_marks.specs.declared.mark.BlockMark.{BlockMark}
 use Rattle.set_marks.specs.declared.sight.Sight.{Sight}
+use Rattle.set_marks.specs.declared.span.Span.{Span}
 use Rattle.set_marks.specs.Marks.{HasRoom, width_of}
 use Rattle.set_marks.specs.Judging.{is_too_long}
 use Rattle.set_marks.specs.Marking.{mark_at, set_marks, close_mark, sets_marks}
 use Rattle.set_marks.specs.Stations.{Occupation}
-use Rattle.set_marks.specs.Divisions.{starts_of, end_in}
+use Rattle.set_marks.specs.Divisions.{starts_of, in_span}
 use Rattle.set_marks.specs.Placing.{marks_of_block, marks_after}
 
 -- Four lists put after one.
@@ -63,16 +64,16 @@ other_mark number m ms other = (
 )
 
 -- The code lines of a station with sets, one after another.
-pub station_pieces : (in_set : Bool) (s : Occupation) (leading end : ℕ) (starts : List ℕ)
-    (rest : List Sight) (o p : Option Sight) (a b c d e : List BlockMark)
-    → b ≡ a ++ close_mark (in_set && nat_lt 0 leading) s.sights
-    → c ≡ b ++ mark_at o (Station s.name) → d ≡ c ++ set_marks 1 starts rest
-    → e ≡ d ++ mark_at p Close → o ≡ slice_get s.sights leading → p ≡ slice_get rest end
-    → rest ≡ drop leading s.sights → starts ≡ starts_of (drop leading s.sights)
-    → end ≡ end_in (drop leading s.sights) → e ≡ a ++ sets_marks in_set s leading
-station_pieces in_set s leading end starts rest o p a b c d e eb ec ed ee e1 e2 e3 e4 e5 =
-    let sights = drop leading s.sights in
-    ee ∙ rw (ed, ec, eb, e1, e2, e3, e4, e5)
-    (four a (close_mark (in_set && nat_lt 0 leading) s.sights)
-    (mark_at (slice_get s.sights leading) (Station s.name)) (set_marks 1 (starts_of sights) sights)
-    (mark_at (slice_get sights (end_in sights)) Close))
+pub station_pieces : (in_set : Bool) (s : Occupation) (span : Span) (starts : List ℕ)
+    (inner : List Sight) (o p : Option Sight) (a b c d e : List BlockMark)
+    → b ≡ a ++ close_mark (in_set && nat_lt 0 span.from) s.sights
+    → c ≡ b ++ mark_at o (Station s.name) → d ≡ c ++ set_marks 1 starts inner
+    → e ≡ d ++ mark_at p Close → o ≡ slice_get s.sights span.from → p ≡ slice_get s.sights span.to
+    → inner ≡ in_span span s.sights → starts ≡ starts_of (in_span span s.sights)
+    → e ≡ a ++ sets_marks in_set s span
+station_pieces in_set s span starts inner o p a b c d e eb ec ed ee e1 e2 e3 e4 =
+    let sets = in_span span s.sights in
+    ee ∙ rw (ed, ec, eb, e1, e2, e3, e4)
+    (four a (close_mark (in_set && nat_lt 0 span.from) s.sights)
+    (mark_at (slice_get s.sights span.from) (Station s.name)) (set_marks 1 (starts_of sets) sets)
+    (mark_at (slice_get s.sights span.to) Close))

@@ -10,7 +10,7 @@ use Rattle.std.proofs.lemmas.List.{append-nil, reverse-append, length-reverse}
 use Rattle.gsi_word.specs.Blocks.{GsiBlock}
 use Rattle.station_book.specs.declared.face.Face.{Face}
 use Rattle.station_book.specs.declared.face.Face.TheVariants.{One, Two}
-use Rattle.station_book.specs.Blocks.{is_opening, has_direction, target, is_of_face}
+use Rattle.station_book.specs.Blocks.{is_opening, has_direction, target, is_of_face, angles}
 use Rattle.station_book.specs.Places.{History}
 use Rattle.station_book.specs.Faults.{face}
 use Rattle.station_book.proofs.lists.Elements.{In, in_contains, contains_in, all_in}
@@ -103,6 +103,7 @@ same_count name f n (b ∷ bs) clean = elim (cases_Bool (has_direction b)) [
         wide = b.width == 16;
         target = target b;
         second = is_of_face Two b;
+        angles = angles b;
       } ∷ readings_in name (is_two f) (sights_from (suc n) bs))
       (readings_in name (is_two f) (sights_from (suc n) bs)))
   counted true e = ap (λ (k : ℕ). suc k) e
@@ -128,6 +129,7 @@ seen b n (c ∷ bs) (inl e) sees =
       wide = c.width == 16;
       target = target c;
       second = is_of_face Two c;
+      angles = angles c;
     } in
     let one : sight_in n c ≡ r ∷ [] = rw (ap has_direction (sym e) ∙ sees) refl in
     subst (λ (rs : List Sight). Seen (target b) (rs ++ sights_from (suc n) bs)) (sym one)

@@ -1,6 +1,6 @@
 -- What the code lines of a file say has room.
 use Rattle.std.proofs.Common.{◌≡◌, ℕ, suc, ◌+◌, ◌<◌, ◌≤◌, Bool, true, false, ◌&&◌, List, [], ◌∷◌}
-use Rattle.std.proofs.Common.{◌++◌, length, drop, Option, Some, None, arith}
+use Rattle.std.proofs.Common.{◌++◌, length, Option, Some, None, arith}
 use Rattle.std.specs.Prelude.{slice_get, nat_lt}
 use Rattle.std.proofs.lemmas.Bool.{ltb-false}
 use Rattle.set_marks.specs.declared.mark.Code.TheVariants.{Station, Set, Close}
@@ -9,7 +9,7 @@ use Rattle.set_marks.specs.declared.division.Divided.{Divided}
 use Rattle.set_marks.specs.declared.division.Divided.TheVariants.{NoSets, Sets, Flawed}
 use Rattle.set_marks.specs.declared.sight.Sight.{Sight}
 use Rattle.set_marks.specs.Stations.{Occupation}
-use Rattle.set_marks.specs.Divisions.{starts_of, end_in}
+use Rattle.set_marks.specs.Divisions.{starts_of, in_span}
 use Rattle.set_marks.specs.Judging.{Judged, is_too_long}
 use Rattle.set_marks.specs.Marking.{mark_at, set_marks, close_mark, station_marks, is_open_after}
 use Rattle.set_marks.specs.Marking.{marks_from}
@@ -50,20 +50,20 @@ station_roomy : (in_set : Bool) (names : List (List ℕ)) (s : Occupation) (d : 
     → IsSoundAs names s d → AreRoomy (station_marks in_set s d)
 station_roomy in_set names s NoSets is = close_roomy in_set s.sights
 station_roomy in_set names s (Flawed f) is = close_roomy in_set s.sights
-station_roomy in_set names s (Sets leading) is =
+station_roomy in_set names s (Sets span) is =
     let rs = s.sights in
-    let beyond = drop leading rs in
-    let count = as_many (end_in beyond) (starts_of beyond) beyond in
+    let inner = in_span span rs in
+    let count = as_many (length inner) (starts_of inner) inner in
     let few = is.are.few in
-    let sets = set_marks 1 (starts_of beyond) beyond in
-    let last = mark_at (slice_get beyond (end_in beyond)) Close in
-    both (close_mark (in_set && nat_lt 0 leading) rs)
-    (mark_at (slice_get rs leading) (Station s.name) ++ (sets ++ last))
-    (close_roomy (in_set && nat_lt 0 leading) rs)
-    (both (mark_at (slice_get rs leading) (Station s.name)) (sets ++ last)
-    (station_here (slice_get rs leading) s.name is.bare is.short)
-    (both sets last (sets_roomy 1 (starts_of beyond) beyond (omega (arith, count, few)))
-    (close_here (slice_get beyond (end_in beyond)))))
+    let sets = set_marks 1 (starts_of inner) inner in
+    let last = mark_at (slice_get rs span.to) Close in
+    both (close_mark (in_set && nat_lt 0 span.from) rs)
+    (mark_at (slice_get rs span.from) (Station s.name) ++ (sets ++ last))
+    (close_roomy (in_set && nat_lt 0 span.from) rs)
+    (both (mark_at (slice_get rs span.from) (Station s.name)) (sets ++ last)
+    (station_here (slice_get rs span.from) s.name is.bare is.short)
+    (both sets last (sets_roomy 1 (starts_of inner) inner (omega (arith, count, few)))
+    (close_here (slice_get rs span.to))))
 
 -- What the code lines of stations say has room.
 pub marks_roomy : (in_set : Bool) (names : List (List ℕ)) (js : List Judged) → AreSound names js

@@ -97,13 +97,6 @@ pub uncoded_names_none : (beginnings : Beginnings) (b : GsiBlock) → role_of b 
 unfolding begins_named
 uncoded_names_none beginnings b role coded = rw coded (rw role refl)
 
--- So it is where no code is stated.
-pub other_names_none : (beginnings : Beginnings) (b : GsiBlock) → role_of b ≡ Other
-    → beginnings.code ≡ None → begins_named beginnings b ≡ None
-other_names_none beginnings b role code =
-    uncoded_names_none beginnings b role
-    (ap (λ (o : Option (List ℕ)). has_code o b) code)
-
 -- A block of code 10, 20 or 30 begins none.
 code_names_none : (beginnings : Beginnings) (b : GsiBlock) (r : Role) → role_of b ≡ r
     → is_measurement r ≡ false → is_other r ≡ false → begins_named beginnings b ≡ None

@@ -18,9 +18,9 @@ use Rattle.set_marks.specs.declared.beginnings.Beginnings.{Beginnings}
 use Rattle.set_marks.specs.declared.readings.Readings.{Readings}
 use Rattle.set_marks.specs.declared.sight.Sight.{Sight}
 use Rattle.set_marks.specs.Stations.{SetUp, sight_in, tells_set_up, begins_named, is_two_lines}
-use Rattle.set_marks.specs.Stations.{fault_as, block_fault}
+use Rattle.set_marks.specs.Stations.{fault_as, block_fault, has_code}
 use Rattle.set_marks.specs.Keeping.{Adds}
-use Rattle.set_marks.proofs.SetUps.{reading_names_none, measurement_names_none, other_names_none}
+use Rattle.set_marks.proofs.SetUps.{reading_names_none, measurement_names_none, uncoded_names_none}
 use Rattle.set_marks.proofs.SetUps.{named_none, no_set_up_fault}
 
 is_second : (b : GsiBlock) → is_of_face Two b
@@ -39,6 +39,7 @@ pub sight_is : (number : ℕ) (b : GsiBlock) (r : Reading) → role_of b ≡ Mea
       wide = b.width == 16;
       target = r.target;
       second = nat_lt HALF_CIRCLE r.angles.zenith && nat_lt r.angles.zenith CIRCLE;
+      angles = r.angles;
     } ∷ []
 sight_is number b r role e = elim (cases_Bool (lacks 21 b)) [
   | inl h ↦ let f : Ok None ≡ Ok (Some r) = rw h at e in cc
@@ -63,6 +64,7 @@ pub adds_sight : (beginnings : Beginnings) (b : GsiBlock) (number : ℕ) (old ne
       wide = b.width == 16;
       target = r.target;
       second = nat_lt HALF_CIRCLE r.angles.zenith && nat_lt r.angles.zenith CIRCLE;
+      angles = r.angles;
     } ∷ [] → new.blocks ≡ number → Adds beginnings b number old new
 adds_sight beginnings b number old new r role e station marking sights blocks =
     let sees : has_direction b ≡ true = rw (role, with_direction b r e) refl in
@@ -126,20 +128,20 @@ adds_passed beginnings b number old new role e tells station marking sights bloc
     adds_none beginnings b number old new (no_sight b role e)
     (measurement_names_none beginnings b role tells) station marking sights blocks
 
--- A block that is neither a measurement nor of code 10, 20 or 30 has no fault where no code is
--- stated.
+-- A block that is neither a measurement nor of code 10, 20 or 30 has no fault where it hasn't the
+-- code that is stated.
 pub other_clean : (beginnings : Beginnings) (ss : List SetUp) (number : ℕ) (b : GsiBlock)
-    → is_two_lines b ≡ false → role_of b ≡ Other → beginnings.code ≡ None
+    → is_two_lines b ≡ false → role_of b ≡ Other → has_code beginnings.code b ≡ false
     → block_fault beginnings ss number b ≡ None
-other_clean beginnings ss number b one role code = rw (one, role)
-    (no_set_up_fault beginnings number b (other_names_none beginnings b role code))
+other_clean beginnings ss number b one role code = rw (one, role, code)
+    (no_set_up_fault beginnings number b (uncoded_names_none beginnings b role code))
 
 -- What is kept with such a block more.
 pub adds_other : (beginnings : Beginnings) (b : GsiBlock) (number : ℕ) (old new : Readings)
-    → role_of b ≡ Other → beginnings.code ≡ None
+    → role_of b ≡ Other → has_code beginnings.code b ≡ false
     → new.station ≡ old.station → new.marking ≡ old.marking
     → new.sights.items ≡ old.sights.items
     → new.blocks ≡ number → Adds beginnings b number old new
 adds_other beginnings b number old new role code station marking sights blocks =
     adds_none beginnings b number old new (rw role refl)
-    (other_names_none beginnings b role code) station marking sights blocks
+    (uncoded_names_none beginnings b role code) station marking sights blocks

@@ -2,7 +2,7 @@
 use Rattle.std.proofs.Common.{◌≡◌, ℕ, ◌+◌, ◌-◌, ◌≤◌, true, false, List, [], ◌∷◌, ◌++◌, length, take}
 use Rattle.std.proofs.Common.{drop, Option, Some, None, refl, sym, ap, subst, ◌∙◌, inl, inr, arith}
 use Rattle.std.specs.Prelude.{⊤}
-use Rattle.std.specs.List.{AllByRecursion}
+use Rattle.std.specs.List.{AllByRecursion, flat_map}
 use Rattle.std.proofs.lemmas.Bool.{cases_Bool, false≢true}
 use Rattle.std.proofs.lemmas.List.{append-nil, length-append, drop-drop, take-append-drop}
 use Rattle.gsi_word.specs.Blocks.{GsiBlock}
@@ -12,7 +12,11 @@ use Rattle.set_marks.specs.declared.beginnings.Beginnings.{Beginnings}
 use Rattle.set_marks.specs.declared.sight.Sight.{Sight}
 use Rattle.set_marks.specs.Stations.{SetUp, sight_in, sights_of, begins_after, set_up_of, open_name}
 use Rattle.set_marks.specs.Stations.{set_ups_of, occupations, stated_or, begun, stations_of}
-use Rattle.set_marks.proofs.MarkedStations.{all_sights}
+use Rattle.set_marks.specs.Stations.{Occupation}
+
+-- all readings of these stations
+abbrev pub all_sights : List Occupation → List Sight
+all_sights ss = flat_map (λ s. s.sights) ss
 
 -- each begins no later than the next
 abbrev AreAscending : List SetUp → Type 0

@@ -8,10 +8,12 @@ use Rattle.set_marks.specs.declared.flaw.Flaw.{Flaw}
 use Rattle.set_marks.specs.declared.division.Divided.{Divided}
 use Rattle.set_marks.specs.declared.division.Divided.TheVariants.{NoSets, Sets, Flawed}
 use Rattle.set_marks.specs.declared.marking.Marking.{Marking}
+use Rattle.set_marks.specs.declared.span.Span.{Span}
 use Rattle.set_marks.specs.Numbers.{Said, numbers_of}
 use Rattle.set_marks.specs.Stations.{Occupation}
-use Rattle.set_marks.specs.Divisions.{divided, divided_unless}
-use Rattle.set_marks.specs.Judging.{Before, twice_fault, itself_fault, name_fault, targets_fault}
+use Rattle.set_marks.specs.Divisions.{divided_unless}
+use Rattle.set_marks.specs.Ways.{divided}
+use Rattle.set_marks.specs.Judging.{Before, twice_fault, own_name_fault, name_fault, targets_fault}
 use Rattle.set_marks.specs.Judging.{is_too_long, sets_fault, division_fault, settled, judged}
 use Rattle.set_marks.specs.Judging.{names_after}
 use Rattle.set_marks.specs.Marking.{close_mark, outside}
@@ -50,16 +52,17 @@ takes_fault line s f old new stated marks stations names in_set = record {
 }
 
 -- One with sets, of few targets, is marked.
-pub takes_sets : (line : List ℕ) (s : Occupation) (n : ℕ) (old new : Marking) → targets_fault s n ≡ None
-    → TakesStation line s (Sets n) old new
-    → TakesStation line s (divided_unless (targets_fault s n) n) old new
-takes_sets line s n old new none takes = rw none takes
+pub takes_sets : (line : List ℕ) (s : Occupation) (span : Span) (old new : Marking)
+    → targets_fault s span ≡ None
+    → TakesStation line s (Sets span) old new
+    → TakesStation line s (divided_unless (targets_fault s span) span) old new
+takes_sets line s span old new none takes = rw none takes
 
 -- Else it stays outside.
-pub takes_many : (line : List ℕ) (s : Occupation) (n : ℕ) (f : Flaw) (old new : Marking)
-    → targets_fault s n ≡ Some f → TakesStation line s (Flawed f) old new
-    → TakesStation line s (divided_unless (targets_fault s n) n) old new
-takes_many line s n f old new some takes = rw some takes
+pub takes_many : (line : List ℕ) (s : Occupation) (span : Span) (f : Flaw) (old new : Marking)
+    → targets_fault s span ≡ Some f → TakesStation line s (Flawed f) old new
+    → TakesStation line s (divided_unless (targets_fault s span) span) old new
+takes_many line s span f old new some takes = rw some takes
 
 -- What a station is judged to be, case by case.
 pub without_sets : (stated : Said) (before : Before) (line : List ℕ) (s : Occupation)
@@ -81,31 +84,35 @@ flawed_twice stated before line s f g is twice =
     ap (λ (d : Divided). settled (division_fault before line s d) d) is
     ∙ ap (λ (o : Option Flaw). settled (first_of (o ∷ Some f ∷ [])) (Flawed f)) twice
 
-pub with_fault : (stated : Said) (before : Before) (line : List ℕ) (s : Occupation) (n : ℕ) (f : Flaw)
-    → divided (numbers_of stated s.name) s.sights ≡ Sets n → sets_fault before line s n ≡ Some f
+pub with_fault : (stated : Said) (before : Before) (line : List ℕ) (s : Occupation)
+    (span : Span) (f : Flaw)
+    → divided (numbers_of stated s.name) s.sights ≡ Sets span
+    → sets_fault before line s span ≡ Some f
     → judged stated before line s ≡ Flawed f
-with_fault stated before line s n f is fault =
+with_fault stated before line s span f is fault =
     ap (λ (d : Divided). settled (division_fault before line s d) d) is
-    ∙ ap (λ (o : Option Flaw). settled (first_of (o ∷ targets_fault s n ∷ [])) (Sets n)) fault
+    ∙ ap (λ (o : Option Flaw). settled (first_of (o ∷ targets_fault s span ∷ [])) (Sets span)) fault
 
-unless_more : (o : Option Flaw) (n : ℕ)
-    → settled (first_of (o ∷ [])) (Sets n) ≡ divided_unless o n
-unless_more None n = refl
-unless_more (Some f) n = refl
+unless_more : (o : Option Flaw) (span : Span)
+    → settled (first_of (o ∷ [])) (Sets span) ≡ divided_unless o span
+unless_more None span = refl
+unless_more (Some f) span = refl
 
-pub with_sets : (stated : Said) (before : Before) (line : List ℕ) (s : Occupation) (n : ℕ)
-    → divided (numbers_of stated s.name) s.sights ≡ Sets n → sets_fault before line s n ≡ None
-    → judged stated before line s ≡ divided_unless (targets_fault s n) n
-with_sets stated before line s n is none =
+pub with_sets : (stated : Said) (before : Before) (line : List ℕ) (s : Occupation) (span : Span)
+    → divided (numbers_of stated s.name) s.sights ≡ Sets span → sets_fault before line s span ≡ None
+    → judged stated before line s ≡ divided_unless (targets_fault s span) span
+with_sets stated before line s span is none =
     ap (λ (d : Divided). settled (division_fault before line s d) d) is
-    ∙ ap (λ (o : Option Flaw). settled (first_of (o ∷ targets_fault s n ∷ [])) (Sets n)) none
-    ∙ unless_more (targets_fault s n) n
+    ∙ ap (λ (o : Option Flaw). settled (first_of (o ∷ targets_fault s span ∷ [])) (Sets span)) none
+    ∙ unless_more (targets_fault s span) span
 
 -- The name of a station without a fault has room where the first set begins.
-pub has_room : (before : Before) (line : List ℕ) (s : Occupation) (n : ℕ) → sets_fault before line s n ≡ None
-    → is_too_long s.name (slice_get s.sights n) ≡ false
-has_room before line s n none = is_short before s n
-    (none_of_three (twice_fault before s) (itself_fault line s.sights) (name_fault before s n) none).2
+pub has_room : (before : Before) (line : List ℕ) (s : Occupation) (span : Span)
+    → sets_fault before line s span ≡ None
+    → is_too_long s.name (slice_get s.sights span.from) ≡ false
+has_room before line s span none = is_short before s span
+    (none_of_three (twice_fault before s) (own_name_fault line s) (name_fault before s span)
+    none).2
 
 -- What is known of a station whose sets are taken.
 pub ruleset is_judged = (few_sets, has_room)

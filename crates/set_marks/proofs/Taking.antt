@@ -13,6 +13,7 @@ use Rattle.gsi_file.specs.declared.file_fault.FileFault.{FileFault}
 use Rattle.gsi_file.specs.declared.file_fault.FileFault.TheVariants as file
 use Rattle.gsi_file.specs.declared.file_fault.FileKind.{FileKind}
 use Rattle.station_book.specs.declared.fault.BookKind.{BookKind}
+use Rattle.station_book.specs.declared.fault.BookKind.TheVariants as book
 use Rattle.station_book.specs.declared.role.Role.{Role}
 use Rattle.station_book.specs.declared.role.Role.TheVariants.{Station, Set, Close, Measurement}
 use Rattle.station_book.specs.declared.role.Role.TheVariants.{Other}
@@ -27,7 +28,7 @@ use Rattle.set_marks.specs.declared.fault.MarkKind.TheVariants as kinds
 use Rattle.set_marks.specs.declared.readings.Readings.{Readings}
 use Rattle.set_marks.specs.Numbers.{Said}
 use Rattle.set_marks.specs.Stations.{SetUp, begun, begins_named, is_two_lines, reading_fault}
-use Rattle.set_marks.specs.Stations.{set_up_fault, fault_as, block_fault, own_fault}
+use Rattle.set_marks.specs.Stations.{set_up_fault, fault_as, block_fault, own_fault, has_code}
 use Rattle.set_marks.specs.Stations.{fault_of_blocks}
 use Rattle.set_marks.specs.Keeping.{Adds, Keeps, AreReadings, AnswersReadings, begun_in}
 use Rattle.set_marks.specs.Markings.{AreBlocks, IsFileFault}
@@ -213,7 +214,11 @@ no_file_fault_as Station beginnings ss number b x e = cc
 no_file_fault_as Set beginnings ss number b x e = cc
 no_file_fault_as Close beginnings ss number b x e = cc
 no_file_fault_as Other beginnings ss number b x e =
-    no_file_fault_of_set_up beginnings number b x e
+    by (has_code beginnings.code b && lacks 42 b) e where
+      by : (t : Bool) → (if t then Some (Reading number book.StationName)
+          else set_up_fault beginnings number b) ≡ Some (File x) → ⊥
+      by true f = cc
+      by false f = no_file_fault_of_set_up beginnings number b x f
 no_file_fault_as Measurement beginnings ss number b x e = by (lacks 21 b) e where
   by : (l : Bool) → (if l then set_up_fault beginnings number b
       else reading_fault ss number b) ≡ Some (File x) → ⊥

@@ -1,5 +1,5 @@
 -- The names of set-ups where a name that comes again is another set-up.
-use Rattle.std.proofs.Common.{◌≡◌, ℕ, ◌+◌, ◌≤◌, arith, Bool, true, false, ◌&&◌, List, [], ◌∷◌, length, Option}
+use Rattle.std.proofs.Common.{◌≡◌, ℕ, ◌+◌, arith, true, false, ◌&&◌, List, [], ◌∷◌, length, Option}
 use Rattle.std.proofs.Common.{Some, None, refl, sym, ap, ◌∙◌, inl, inr, All}
 use Rattle.std.specs.Prelude.{if◌then◌else◌, nat_le, suc, unwrap_or}
 use Rattle.std.specs.Map.{lookup}

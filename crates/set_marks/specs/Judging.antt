@@ -11,11 +11,13 @@ use Rattle.set_marks.specs.declared.fault.MarkKind.TheVariants as kinds
 use Rattle.set_marks.specs.declared.division.Divided.{Divided}
 use Rattle.set_marks.specs.declared.division.Divided.TheVariants.{NoSets, Sets, Flawed}
 use Rattle.set_marks.specs.declared.sight.Sight.{Sight}
+use Rattle.set_marks.specs.declared.span.Span.{Span}
 use Rattle.set_marks.specs.Marks.{width_of}
 use Rattle.set_marks.specs.Numbers.{Said, numbers_of}
 use Rattle.set_marks.specs.Stations.{Occupation, stations_of}
-use Rattle.set_marks.specs.Divisions.{divided, is_of, flaw_when, flaw_found, in_sets_of}
+use Rattle.set_marks.specs.Divisions.{is_of, flaw_when, flaw_found, in_span}
 use Rattle.set_marks.specs.Divisions.{has_no_sets, is_read_in_two, one_too_many}
+use Rattle.set_marks.specs.Ways.{divided}
 use Rattle.set_marks.specs.Visits.{Visits, once_more, times, visit_name}
 
 -- The names of the stations before one: of those that have sets, and of those that have a fault;
@@ -43,40 +45,47 @@ abbrev pub first_of_target : List ℕ → List Sight → Option Sight
 first_of_target name [] = None
 first_of_target name (r ∷ rs) = if is_of name r then Some r else first_of_target name rs
 
--- A station that was set up under this name reads a target of it in face II: so it is where the
--- set-up line of the next station is lost, whose backsight is this one.
+-- A station of this name reads a target of it in face II: so it is where the set-up line of the next
+-- station is lost, whose backsight is this one.
 abbrev pub itself_fault : List ℕ → List Sight → Option Flaw
 itself_fault line rs =
     flaw_when (is_read_in_two rs line) kinds.SightsItself (first_of_target line rs)
+
+-- The same of the name of the set-up line, and of that which the station is called, which a visit
+-- after the first has of its own.
+abbrev pub own_name_fault : List ℕ → Occupation → Option Flaw
+own_name_fault line s = first_of (
+    itself_fault line s.sights
+    ∷ itself_fault s.name s.sights
+    ∷ [])
 
 -- the name has no room in the width of the line of the reading at this place
 abbrev pub is_too_long : List ℕ → Option Sight → Bool
 is_too_long name None = false
 is_too_long name (Some r) = nat_lt (width_of r.wide) (length name)
 
--- The fault of the name of a station that has sets, after these stations and after so many leading
--- readings: 1,000 stations have sets; or it has no room in a code line.
-abbrev pub name_fault : Before → Occupation → ℕ → Option Flaw
-name_fault before s leading = first_of (
+-- The fault of the name of a station whose sets stand here, after these stations: 1,000 stations
+-- have sets; or it has no room in a code line.
+abbrev pub name_fault : Before → Occupation → Span → Option Flaw
+name_fault before s span = first_of (
     flaw_when (nat_le MOST_STATIONS (length before.marked)) kinds.TooManyStations
     (slice_get s.sights 0)
-    ∷ flaw_when (is_too_long s.name (slice_get s.sights leading)) kinds.NameTooLong
-    (slice_get s.sights leading)
+    ∷ flaw_when (is_too_long s.name (slice_get s.sights span.from)) kinds.NameTooLong
+    (slice_get s.sights span.from)
     ∷ [])
 
 -- its sets read a target more than the 100 that a station may have
-abbrev pub targets_fault : Occupation → ℕ → Option Flaw
-targets_fault s leading =
-    flaw_found kinds.TooManyTargets (one_too_many [] (in_sets_of leading s.sights))
+abbrev pub targets_fault : Occupation → Span → Option Flaw
+targets_fault s span =
+    flaw_found kinds.TooManyTargets (one_too_many [] (in_span span s.sights))
 
--- The fault of a station that was set up under this name, and whose readings are sets after so many
--- leading ones, after these stations, the first that stands: its name was had; it sights itself; or
--- the fault of its name.
-abbrev pub sets_fault : Before → List ℕ → Occupation → ℕ → Option Flaw
-sets_fault before line s leading = first_of (
+-- The fault of a station that was set up under this name, and whose sets stand here, after these
+-- stations, the first that stands: its name was had; it sights itself; or the fault of its name.
+abbrev pub sets_fault : Before → List ℕ → Occupation → Span → Option Flaw
+sets_fault before line s span = first_of (
     twice_fault before s
-    ∷ itself_fault line s.sights
-    ∷ name_fault before s leading
+    ∷ own_name_fault line s
+    ∷ name_fault before s span
     ∷ [])
 
 -- The fault of a station whose readings are so divided, after these stations, the first that
@@ -85,8 +94,8 @@ sets_fault before line s leading = first_of (
 abbrev pub division_fault : Before → List ℕ → Occupation → Divided → Option Flaw
 division_fault before line s NoSets = None
 division_fault before line s (Flawed f) = first_of (twice_fault before s ∷ Some f ∷ [])
-division_fault before line s (Sets leading) =
-    first_of (sets_fault before line s leading ∷ targets_fault s leading ∷ [])
+division_fault before line s (Sets span) =
+    first_of (sets_fault before line s span ∷ targets_fault s span ∷ [])
 
 -- The fault of a station that was set up under this name, after these stations, where this is
 -- stated.
@@ -99,8 +108,8 @@ abbrev pub settled : Option Flaw → Divided → Divided
 settled None d = d
 settled (Some f) d = Flawed f
 
--- What a station that was set up under this name is judged to be: without sets; with sets, after so
--- many leading readings; or to have a fault.
+-- What a station that was set up under this name is judged to be: without sets; with sets, and
+-- where they stand; or to have a fault.
 abbrev pub judged : Said → Before → List ℕ → Occupation → Divided
 judged stated before line s =
     settled (station_fault stated before line s) (divided (numbers_of stated s.name) s.sights)
@@ -117,7 +126,7 @@ called again before s = record {
 -- the names, and those of a station that isn't without sets and was set up under this name
 abbrev pub names_after : Before → List ℕ → Occupation → Divided → Before
 names_after before line s NoSets = before
-names_after before line s (Sets leading) = record {
+names_after before line s (Sets span) = record {
   marked = with_new before.marked s.name;
   faulty = before.faulty;
   visits = once_more before.visits line;

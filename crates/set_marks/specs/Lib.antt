@@ -1,10 +1,18 @@
 -- The public definitions, in the order in which a reader needs them.
 pub mod Stations
 pub mod Numbers
+pub mod StatedNumbers
+pub mod WrongTexts
+pub mod StationCodes
 pub mod Divisions
+pub mod Outside
+pub mod Doubts
+pub mod Ways
 pub mod SetsInWords
 pub mod BeginsAndEnds
 pub mod Fewest
+pub mod EqualSets
+pub mod Zeniths
 pub mod Remarks
 pub mod Lines
 pub mod Marks
@@ -21,8 +29,12 @@ pub mod Found
 pub mod MarkedBlocks
 pub mod MarkedFile
 -- The inside: what the code finds on the way.
-pub mod Leading
 pub mod Searching
+pub mod Ranging
+pub mod Sections
 pub mod Keeping
 pub mod LinePlaces
 pub mod Taking
+-- What is proved over: the book that goes on over blocks, one after another.
+pub mod TreeWalks
+pub mod MarkedTree

@@ -14,7 +14,7 @@ use Rattle.set_marks.specs.declared.mark.BlockMark.{BlockMark}
 use Rattle.set_marks.specs.declared.sight.Sight.{Sight}
 use Rattle.set_marks.specs.Numbers.{Said}
 use Rattle.set_marks.specs.Stations.{Occupation}
-use Rattle.set_marks.specs.Divisions.{sets_of, end_in}
+use Rattle.set_marks.specs.Divisions.{sets_of, in_span}
 use Rattle.set_marks.specs.Marks.{code_block}
 use Rattle.set_marks.specs.Judging.{judged_of}
 use Rattle.set_marks.specs.Marking.{marks_of}
@@ -50,10 +50,10 @@ in_sets name n (set ∷ sets) =
 
 -- where the readings of a station are to be found: those of its sets there, all others in no set
 abbrev pub in_station : Occupation → Divided → List (Option Found)
-in_station s (Sets leading) =
-    for_each None (take leading s.sights)
-    ++ (in_sets s.name 1 (sets_of (drop leading s.sights))
-    ++ for_each None (drop (end_in (drop leading s.sights)) (drop leading s.sights)))
+in_station s (Sets span) =
+    for_each None (take span.from s.sights)
+    ++ (in_sets s.name 1 (sets_of (in_span span s.sights))
+    ++ for_each None (drop span.to s.sights))
 in_station s d = for_each None s.sights
 
 -- where the readings of a file are to be found, in the file's order

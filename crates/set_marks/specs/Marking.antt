@@ -18,10 +18,11 @@ use Rattle.set_marks.specs.declared.mark.Code.TheVariants.{Station, Set, Close}
 use Rattle.set_marks.specs.declared.mark.BlockMark.{BlockMark}
 use Rattle.set_marks.specs.declared.recognized.Recognized.{Recognized}
 use Rattle.set_marks.specs.declared.sight.Sight.{Sight}
+use Rattle.set_marks.specs.declared.span.Span.{Span}
 use Rattle.set_marks.specs.declared.stated.NamedNumber.{NamedNumber}
 use Rattle.set_marks.specs.Numbers.{Said}
 use Rattle.set_marks.specs.Stations.{Occupation}
-use Rattle.set_marks.specs.Divisions.{starts_of, end_in, targets_of, in_sets_of, are_by_targets}
+use Rattle.set_marks.specs.Divisions.{starts_of, targets_of, in_span, are_by_targets}
 use Rattle.set_marks.specs.Judging.{Judged, judged_of}
 use Rattle.set_marks.specs.Remarks.{remarks_of}
 
@@ -40,25 +41,24 @@ set_marks number (from ∷ starts) rs =
 abbrev pub close_mark : Bool → List Sight → List BlockMark
 close_mark in_set rs = if in_set then mark_at (slice_get rs 0) Close else []
 
--- A station with sets, after so many leading readings, where a set of an earlier station is open or
--- not: code 30 before the leading readings, which are in no set; code 10 and 20 before the first
--- set; code 20 before each other one; and code 30 after the last, where readings stand after it.
-abbrev pub sets_marks : Bool → Occupation → ℕ → List BlockMark
-sets_marks in_set s leading =
-    close_mark (in_set && nat_lt 0 leading) s.sights
-    ++ (mark_at (slice_get s.sights leading) (Station s.name)
-    ++ (set_marks 1 (starts_of (drop leading s.sights)) (drop leading s.sights)
-    ++ mark_at (slice_get (drop leading s.sights) (end_in (drop leading s.sights))) Close))
+-- A station whose sets stand here, where a set of an earlier station is open or not: code 30 before
+-- the readings before them, which are in no set; code 10 and 20 before the first set; code 20
+-- before each other one; and code 30 after the last, where readings stand after it.
+abbrev pub sets_marks : Bool → Occupation → Span → List BlockMark
+sets_marks in_set s span =
+    close_mark (in_set && nat_lt 0 span.from) s.sights
+    ++ (mark_at (slice_get s.sights span.from) (Station s.name)
+    ++ (set_marks 1 (starts_of (in_span span s.sights)) (in_span span s.sights)
+    ++ mark_at (slice_get s.sights span.to) Close))
 
 -- the code lines of a station
 abbrev pub station_marks : Bool → Occupation → Divided → List BlockMark
-station_marks in_set s (Sets leading) = sets_marks in_set s leading
+station_marks in_set s (Sets span) = sets_marks in_set s span
 station_marks in_set s d = close_mark in_set s.sights
 
 -- whether a set is open after a station
 abbrev pub is_open_after : Bool → Occupation → Divided → Bool
-is_open_after in_set s (Sets leading) =
-    is_none (slice_get (drop leading s.sights) (end_in (drop leading s.sights)))
+is_open_after in_set s (Sets span) = is_none (slice_get s.sights span.to)
 is_open_after in_set s d = in_set && is_empty s.sights
 
 -- the code lines of these stations, where a set is open before them or not
@@ -90,16 +90,15 @@ outside s fault = record {
 abbrev pub recognized : Occupation → Divided → Recognized
 recognized s NoSets = outside s None
 recognized s (Flawed f) = outside s (Some f)
-recognized s (Sets leading) = record {
+recognized s (Sets span) = record {
   name = s.name;
   fault = None;
-  sets = length (starts_of (drop leading s.sights));
-  targets = length (targets_of (in_sets_of leading s.sights));
-  by_targets = are_by_targets (drop leading s.sights);
-  before = leading;
-  after = length (drop leading s.sights) - end_in (drop leading s.sights);
-  remarks = remarks_of (starts_of (drop leading s.sights)) (in_sets_of leading s.sights)
-      (drop (end_in (drop leading s.sights)) (drop leading s.sights));
+  sets = length (starts_of (in_span span s.sights));
+  targets = length (targets_of (in_span span s.sights));
+  by_targets = are_by_targets (in_span span s.sights);
+  before = span.from;
+  after = length s.sights - span.to;
+  remarks = remarks_of (in_span span s.sights) (drop span.to s.sights);
 }
 
 -- what is told of these stations, also of one without readings

@@ -1,5 +1,6 @@
 -- What a field file comes to where codes are to be put in: a copy that has them, or why there is
--- none. What is stated of its sets refuses, and never changes a copy.
+-- none. A number that is stated of the sets of a station refuses them, and never changes where they
+-- stand.
 use Rattle.std.specs.Prelude.{◌≡◌, ℕ, ◌+◌, List, [], ◌++◌, All, length, reverse, Some}
 use Rattle.std.specs.Prelude.{None, Result, Ok, Err, ⊤}
 use Rattle.std.specs.List.{AllZip}

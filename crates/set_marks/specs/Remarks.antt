@@ -6,7 +6,12 @@ use Rattle.std.specs.Prelude.{if◌then◌else◌, Option, Some, None, slice_get
 use Rattle.std.specs.List.{list_any}
 use Rattle.set_marks.specs.declared.remarks.Remarks.{Remarks}
 use Rattle.set_marks.specs.declared.sight.Sight.{Sight}
-use Rattle.set_marks.specs.Divisions.{is_of, is_pair, is_by_targets, first_cut, targets_of}
+use Rattle.set_marks.specs.declared.equal_sets.SetPair.{SetPair}
+use Rattle.set_marks.specs.declared.zeniths.ZenithRange.{ZenithRange}
+use Rattle.set_marks.specs.Divisions.{is_of, is_pair, is_by_targets, starts_of, first_set}
+use Rattle.set_marks.specs.Divisions.{targets_of, first_target, are_by_targets}
+use Rattle.set_marks.specs.EqualSets.{equal_sets}
+use Rattle.set_marks.specs.Zeniths.{spread_ranges}
 
 -- How many readings of a set come before it turns: the first half where it is read by faces, and
 -- all where it is read by targets, since that one never turns.
@@ -35,22 +40,35 @@ seems_of_another in_sets after r =
 abbrev pub others_after : List Sight → List Sight → List (List ℕ)
 others_after in_sets after = targets_of (filter (seems_of_another in_sets after) after)
 
+-- Sets that are read by targets are followed by a reading of the target that opens them. It may be
+-- a check; and so these sets look, each shifted by a target, where a pair stands before them and
+-- their last reading was lost.
+abbrev pub is_opened_again : List Sight → List Sight → Bool
+is_opened_again in_sets after =
+    are_by_targets in_sets && list_any (is_of (first_target in_sets)) after
+
 -- what is told of sets that begin with the one reading, and turn at the other
-abbrev pub remarks_by : Option Sight → Option Sight → ℕ → ℕ → ℕ → Option Remarks
-remarks_by None turning full missing others = None
-remarks_by (Some opening) None full missing others = None
-remarks_by (Some opening) (Some turning) full missing others = Some (record {
+abbrev pub remarks_by : Option Sight → Option Sight → ℕ → ℕ → ℕ → Bool → List SetPair
+    → List ZenithRange → Option Remarks
+remarks_by None turning full missing others again equal zeniths = None
+remarks_by (Some opening) None full missing others again equal zeniths = None
+remarks_by (Some opening) (Some turning) full missing others again equal zeniths = Some (record {
   opening = opening.target;
   turning = turning.target;
   directions = full;
   missing = missing;
   others = others;
+  opened_again = again;
+  equal_sets = equal;
+  zeniths = zeniths;
 })
 
--- What is told of the sets that begin at these places of these readings, which are all in sets,
--- before these other readings of the station; of no set nothing is.
-abbrev pub remarks_of : List ℕ → List Sight → List Sight → Option Remarks
-remarks_of starts in_sets after =
-    remarks_by (slice_get in_sets 0) (turning_of (first_cut starts in_sets))
-    (full_count (length starts) in_sets) (missing_count (length starts) in_sets)
-    (length (others_after in_sets after))
+-- What is told of the sets that these readings are, before these other readings of the station; of
+-- no set nothing is.
+abbrev pub remarks_of : List Sight → List Sight → Option Remarks
+remarks_of in_sets after =
+    remarks_by (slice_get in_sets 0) (turning_of (first_set in_sets))
+    (full_count (length (starts_of in_sets)) in_sets)
+    (missing_count (length (starts_of in_sets)) in_sets)
+    (length (others_after in_sets after)) (is_opened_again in_sets after)
+    (equal_sets (starts_of in_sets) in_sets) (spread_ranges in_sets)

@@ -1,12 +1,19 @@
 -- How targets are looked for without comparing each with all: what the code finds on the way.
-use Rattle.std.specs.Prelude.{◌≡◌, ℕ, Bool, true, false, ◌&&◌, List, [], ◌∷◌, if◌then◌else◌}
+use Rattle.std.specs.Prelude.{◌≡◌, ℕ, Bool, true, false, ◌&&◌, ◌||◌, not, nat_le, List, [], ◌∷◌}
+use Rattle.std.specs.Prelude.{◌<◌, ◌≤◌, length, take, drop, if◌then◌else◌}
 use Rattle.std.specs.List.{list_any}
 use Rattle.station_book.specs.Places.{is_among}
 use Rattle.set_marks.specs.declared.known.Known.{Known}
 use Rattle.set_marks.specs.declared.known.Known.TheVariants.{Few, Many}
 use Rattle.set_marks.specs.declared.faces.Faces.{Faces}
+use Rattle.set_marks.specs.declared.bounds.TheConstants.{MOST_READINGS}
+use Rattle.set_marks.specs.declared.outside.Ending.{Ending}
+use Rattle.set_marks.specs.declared.outside.Ending.TheVariants.{Nothing, CheckSights, CheckPair}
 use Rattle.set_marks.specs.declared.sight.Sight.{Sight}
-use Rattle.set_marks.specs.Divisions.{is_of, is_again}
+use Rattle.set_marks.specs.declared.ways.Found.{Found}
+use Rattle.set_marks.specs.Divisions.{is_of, is_again, are_in_face, is_by_targets}
+use Rattle.set_marks.specs.Outside.{is_ended, may_end, before_ending, in_ending}
+use Rattle.set_marks.specs.Ways.{leading_of}
 
 -- A set repeats another: it reads the same targets in the same faces, in the same order.
 abbrev pub repeats : List Sight → List Sight → Bool
@@ -32,3 +39,39 @@ names_in second faces = if second then faces.twos else faces.ones
 abbrev pub KeepsFaces : List Sight → Faces → Type 0
 KeepsFaces rs faces =
     (r : Sight) → is_among (names_in r.second faces) r.target ≡ list_any (is_again r) rs
+
+-- The last of these readings is in face I.
+abbrev pub ends_in_one : List Sight → Bool
+ends_in_one [] = false
+ends_in_one (r ∷ []) = not r.second
+ends_in_one (r ∷ s ∷ rs) = ends_in_one (s ∷ rs)
+
+-- So many of any kind, or all in face I, or pairs: else these may not lead.
+abbrev pub may_be_plain : List Sight → Bool
+may_be_plain leading =
+    nat_le (length leading) 3 || are_in_face false leading || is_by_targets leading
+
+-- There may be sets after these leading readings, with this ending of those after them. What is seen
+-- in the fewest steps is asked first.
+abbrev pub may_divide : Ending → List Sight → List Sight → Bool
+may_divide Nothing leading rs = may_be_plain leading
+may_divide CheckSights leading rs =
+    ends_in_one rs && may_be_plain leading && is_ended CheckSights rs
+may_divide CheckPair leading rs =
+    is_ended CheckPair rs && may_end CheckPair (before_ending CheckPair rs) (in_ending CheckPair rs)
+    && may_be_plain leading
+
+-- There may be none with this ending, whatever number of these readings leads.
+abbrev pub IsClosed : Ending → List Sight → Type 0
+IsClosed ending rest = (leading : ℕ) → leading < length rest → leading ≤ MOST_READINGS
+    → may_divide ending (take leading rest) (drop leading rest) ≡ false
+
+-- There may be none with any ending but none.
+abbrev pub NoneOpen : List Sight → Type 0
+NoneOpen rest = IsClosed CheckSights rest × IsClosed CheckPair rest
+
+-- The fewest leading readings with which each ending gives sets were found.
+pub record IsFound (rs : List Sight) (found : Found) : Type 0 where
+  pub nothing : found.nothing ≡ leading_of Nothing rs
+  pub checks : found.checks ≡ leading_of CheckSights rs
+  pub pair : found.pair ≡ leading_of CheckPair rs

@@ -4,7 +4,8 @@ use Rattle.std.specs.Prelude.{filter, Contains, All}
 use Rattle.std.specs.List.{flat_map}
 use Rattle.adjust_kernel.specs.declared.bounds.TheConstants.{MOST_SETS}
 use Rattle.set_marks.specs.declared.sight.Sight.{Sight}
-use Rattle.set_marks.specs.Divisions.{is_of, is_same_face, sets_of, end_in, starts_of, first_set}
+use Rattle.set_marks.specs.declared.span.Span.{Span}
+use Rattle.set_marks.specs.Divisions.{is_of, is_same_face, sets_of, first_set, in_span}
 use Rattle.set_marks.specs.Divisions.{is_mostly_known}
 
 -- The readings of this target in this face.
@@ -22,16 +23,15 @@ pub record ReadsEachOnce (set : List Sight) : Type 0 where
 abbrev pub one_after_another : List (List Sight) → List Sight
 one_after_another sets = flat_map (λ set. set) sets
 
--- The readings of a station, of which so many stand outside before its sets. The readings are the
--- leading ones, then those of the sets, one set after another, and then those after the last set:
--- none is missing, and none is in two sets. There is a set, and there are 40 at most. Of each set
--- more than half of the targets are targets of the first.
-pub record AreSets (rs : List Sight) (leading : ℕ) : Type 0 where
-  pub some : 1 ≤ length (sets_of (drop leading rs))
-  pub few : length (sets_of (drop leading rs)) ≤ MOST_SETS
-  pub each : All ReadsEachOnce (sets_of (drop leading rs))
-  pub known : All (λ set. is_mostly_known
-      (first_set (starts_of (drop leading rs)) (drop leading rs)) set ≡ true)
-      (sets_of (drop leading rs))
-  pub in_order : rs ≡ take leading rs ++ (one_after_another (sets_of (drop leading rs))
-      ++ drop (end_in (drop leading rs)) (drop leading rs))
+-- The readings of a station, whose sets stand here. The readings are those before the sets, then
+-- those of the sets, one set after another, and then those after the last set: none is missing, and
+-- none is in two sets. There is a set, and there are 40 at most. Of each set more than half of the
+-- targets are targets of the first.
+pub record AreSets (rs : List Sight) (span : Span) : Type 0 where
+  pub some : 1 ≤ length (sets_of (in_span span rs))
+  pub few : length (sets_of (in_span span rs)) ≤ MOST_SETS
+  pub each : All ReadsEachOnce (sets_of (in_span span rs))
+  pub known : All (λ set. is_mostly_known (first_set (in_span span rs)) set ≡ true)
+      (sets_of (in_span span rs))
+  pub in_order : rs
+      ≡ take span.from rs ++ (one_after_another (sets_of (in_span span rs)) ++ drop span.to rs)

@@ -1,11 +1,11 @@
 -- What is so of a file that is marked as is stated.
-use Rattle.std.specs.Prelude.{◌≡◌, ℕ, true, false, ◌==◌, List, None, IfSome, is_some, All}
-use Rattle.std.specs.Prelude.{drop}
+use Rattle.std.specs.Prelude.{◌≡◌, true, false, ◌==◌, List, None, IfSome, is_some, All}
 use Rattle.set_marks.specs.declared.division.Divided.TheVariants.{Sets}
 use Rattle.set_marks.specs.declared.recognized.Recognized.{Recognized}
+use Rattle.set_marks.specs.declared.span.Span.{Span}
 use Rattle.set_marks.specs.declared.stated.Numbers.{Numbers}
 use Rattle.set_marks.specs.Numbers.{Said, number_of, numbers_of}
-use Rattle.set_marks.specs.Divisions.{sets_of, is_by_faces}
+use Rattle.set_marks.specs.Divisions.{sets_of, in_span, is_by_faces}
 use Rattle.set_marks.specs.Judging.{Judged}
 
 -- What is told of a station that has sets is what is stated; where no number of sets is stated it
@@ -25,5 +25,5 @@ AreAsStated stated rs =
 -- of its readings is in one face.
 abbrev pub IsByFaces : Said → Judged → Type 0
 IsByFaces stated j = number_of stated.sets j.station.name ≡ None
-    → (leading : ℕ) → j.division ≡ Sets leading
-    → All (λ set. is_by_faces set ≡ true) (sets_of (drop leading j.station.sights))
+    → (span : Span) → j.division ≡ Sets span
+    → All (λ set. is_by_faces set ≡ true) (sets_of (in_span span j.station.sights))

@@ -19,11 +19,12 @@ use Rattle.gsi_word.specs.Blocks.{GsiBlock}
 use Rattle.gsi_word.specs.FoundWords.{words_with}
 use Rattle.gsi_word.specs.Names.{name_of}
 use Rattle.station_book.specs.declared.face.Face.TheVariants.{Two}
+use Rattle.station_book.specs.declared.fault.BookKind.TheVariants as book
 use Rattle.station_book.specs.declared.role.Role.{Role}
 use Rattle.station_book.specs.declared.role.Role.TheVariants.{Station, Set, Close, Measurement}
 use Rattle.station_book.specs.declared.role.Role.TheVariants.{Other}
 use Rattle.station_book.specs.Blocks.{role_of, is_measurement, lacks, has_direction, target}
-use Rattle.station_book.specs.Blocks.{is_of_face}
+use Rattle.station_book.specs.Blocks.{is_of_face, angles}
 use Rattle.station_book.specs.Places.{History}
 use Rattle.station_book.specs.Faults.{first_of}
 use Rattle.station_book.specs.Readings.{own_faults}
@@ -59,6 +60,7 @@ sight_in number b = if has_direction b then record {
   wide = b.width == GSI_16;
   target = target b;
   second = is_of_face Two b;
+  angles = angles b;
 } ∷ [] else []
 
 -- the readings, in the order of the file
@@ -176,14 +178,22 @@ begins_line w = (w.index == POINT_NUMBER) || (w.index == CODE_NUMBER)
 unfoldable pub is_two_lines : GsiBlock → Bool
 is_two_lines b = list_any begins_line (drop 1 b.words)
 
--- The fault of a block that is no reading: it begins a station, and one is stated.
+-- The fault of a block that begins a station: one is stated.
 abbrev pub set_up_fault : Beginnings → ℕ → GsiBlock → Option MarkFault
 set_up_fault beginnings number b =
     if is_some beginnings.station && is_some (begins_named beginnings b)
     then Some (At number kinds.HasSetUp) else None
 
+-- The fault of a block that is no measurement and has no code of the book: it has the code of which
+-- it is stated that its blocks begin stations, and no word 42 with the name of one; or it begins one,
+-- and one is stated.
+abbrev pub code_fault : Beginnings → ℕ → GsiBlock → Option MarkFault
+code_fault beginnings number b =
+    if has_code beginnings.code b && lacks CODE_INFORMATION b
+    then Some (Reading number book.StationName) else set_up_fault beginnings number b
+
 -- The fault of a block of this role that is one line: it has code 10, 20 or 30 already; or it
--- begins a station, and one is stated; or that of a reading.
+-- begins a station, and one is stated, or it has no name for it; or that of a reading.
 abbrev pub fault_as : Role → Beginnings → List SetUp → ℕ → GsiBlock → Option MarkFault
 fault_as Station beginnings begun number b = Some (At number kinds.HasCodes)
 fault_as Set beginnings begun number b = Some (At number kinds.HasCodes)
@@ -191,7 +201,7 @@ fault_as Close beginnings begun number b = Some (At number kinds.HasCodes)
 fault_as Measurement beginnings begun number b =
     if lacks HORIZONTAL_DIRECTION b then set_up_fault beginnings number b
     else reading_fault begun number b
-fault_as Other beginnings begun number b = set_up_fault beginnings number b
+fault_as Other beginnings begun number b = code_fault beginnings number b
 
 -- The fault of the block of this number by itself, after these stations have begun: it is two lines
 -- in one; or else that of its role.

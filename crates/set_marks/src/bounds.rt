@@ -10,3 +10,6 @@ pub(crate) const READINGS_OF_TWO: usize = 4;
 
 /// Readings that are so few that each is compared with all: a table of their targets takes longer.
 pub(crate) const FEW_READINGS: usize = 32;
+
+/// So many leading readings may be of any kind.
+pub(crate) const FEW_LEADING: usize = 3;

@@ -3,7 +3,7 @@
 //! They stand outside, before the sets and after them, so the sets are looked for among the others.
 //! Which targets are read in face II is asked of a table of these ([`Known`]).
 
-ghost use Rattle.std.specs.Prelude.{◌≡◌, ◌||◌, not, IfOk, List};
+ghost use Rattle.std.specs.Prelude.{◌≡◌, ◌≤◌, ◌||◌, length, not, IfOk, List};
 ghost use Rattle.std.specs.List.{list_all};
 ghost use Rattle.set_marks.specs.declared.sight.Sight.{Sight};
 ghost use Rattle.set_marks.specs.Searching.{KnowsTargetsOf};
@@ -56,6 +56,7 @@ pub(crate) fn known_in(
 pub(crate) fn place_of(known: &mut Known, count: usize, sights: &[Sight]) -> usize
     ensures value { (others : List Sight) → KnowsTargetsOf others known.old
         → result ≡ place_of others count sights.now }
+    ensures bound { result ≤ length sights.now }
     ensures unchanged { known.new ≡ known.old }
 {
     let mut before = count;

@@ -1,40 +1,38 @@
 //! The division of a station's readings into sets.
 
-ghost use Rattle.std.specs.Prelude.{◌≡◌, ◌≤◌, ◌+◌, [], List, IfOk, None, Some, length, drop, take};
-ghost use Rattle.std.specs.Prelude.{not, true, ◌&&◌, ◌==◌, is_none};
-ghost use Rattle.std.specs.Bool.{OnTrue};
-ghost use Rattle.std.specs.List.{list_all, list_any};
+ghost use Rattle.std.specs.Prelude.{◌≡◌, ◌≤◌, ◌<◌, ◌+◌, ◌^◌, [], IfOk, List, None, length, take};
+ghost use Rattle.std.specs.Prelude.{not, true, ◌&&◌, ◌==◌, drop, is_none};
+ghost use Rattle.std.specs.Bool.{OnFalse, OnTrue};
+ghost use Rattle.std.specs.List.{list_any};
 ghost use Rattle.adjust_kernel.specs.declared.bounds.TheConstants.{MOST_SETS};
+ghost use Rattle.set_marks.specs.declared.fault.MarkKind.TheVariants.{OtherTargets};
 ghost use Rattle.set_marks.specs.declared.sight.Sight.{Sight};
 ghost use Rattle.set_marks.specs.declared.stated.Numbers.{Numbers};
-ghost use Rattle.set_marks.specs.Leading.{IsLeading};
-ghost use Rattle.set_marks.specs.Searching.{KnowsTargetsOf};
-ghost use Rattle.set_marks.specs.Divisions.{part, next_of, end_of, end_by, cut_end, starts_of};
-ghost use Rattle.set_marks.specs.Divisions.{first_cut, sets_flaw, cut_flaw, flaw_of, later};
-ghost use Rattle.set_marks.specs.Divisions.{targets_of, seconds_of, rest_of, begins_in_two};
-ghost use Rattle.set_marks.specs.Divisions.{are_sights, sighted_before, may_lead};
-ghost use Rattle.set_marks.specs.Divisions.{is_pair, may_be_shifted, reads_end, leads_to_end};
-ghost use Rattle.set_marks.specs.Divisions.{divided, divided_by, divided_unless, leading_of};
-ghost use Rattle.set_marks.specs.Divisions.{parts_at};
-ghost use Rattle.set_marks.specs.Divisions.{is_of, are_by_targets, may_go_on};
-ghost use Rattle.set_marks.specs.Divisions.{known_in, is_mostly_known};
-ghost use Rattle.set_marks.specs.Divisions.{stranger_among, flaw_found, doubt_after};
-ghost use Rattle.set_marks.specs.Divisions.{numbers_flaw};
+ghost use Rattle.set_marks.specs.Searching.{KnowsTargetsOf, NoneOpen};
+ghost use Rattle.set_marks.specs.Divisions.{part, next_of, end_of, cut_end, starts_of};
+ghost use Rattle.set_marks.specs.Divisions.{first_cut, first_part, sets_flaw, parts_at, flaw_found};
+ghost use Rattle.set_marks.specs.Divisions.{targets_of, is_pair, are_by_targets, known_in};
+ghost use Rattle.set_marks.specs.Divisions.{is_mostly_known, divided_unless, span_from};
+ghost use Rattle.set_marks.specs.Doubts.{may_be_shifted, reads_end, leads_to_end, leads_within, may_go_on};
+ghost use Rattle.set_marks.specs.Doubts.{stranger_among, numbers_flaw, doubt_after};
+ghost use Rattle.set_marks.specs.Ways.{divided, divided_by, ways_of};
 ghost use Rattle.set_marks.specs.Numbers.{is_other};
-ghost use Rattle.set_marks.specs.declared.fault.MarkKind.TheVariants.{OtherTargets};
 
 use crate::bounds::{MOST_READINGS, READINGS_OF_TWO};
-use crate::details::{has_no_sets, known_in, place_of, seconds_of, unknown_in};
+use crate::details::{has_no_sets, known_in, seconds_of};
 use crate::fault::MarkKind;
-use crate::flaw::{Flaw, first_flaw, flaw_at, flaw_found, flaw_when};
+use crate::flaw::{Flaw, flaw_at, flaw_found};
 use crate::known::{Known, count_targets};
+use crate::outside::Ending;
 use crate::set::{
-    are_in_face, are_of, begins_with_pair, first_target, front, has_pair, is_by_targets, is_clean,
-    last_target, later_flaw, reads_target, repeats, sight_at,
+    begins_with_pair, first_target, front, has_pair, is_by_targets, is_clean, is_of, last_target,
+    later_flaw, reads_target, repeats, sight_at,
 };
 use crate::sight::Sight;
+use crate::span::Span;
 use crate::starts::{starts, starts_of};
 use crate::stated::{Numbers, is_asked, is_other};
+use crate::ways::{divide_rest, is_open_somewhere};
 use adjust_kernel::MOST_SETS;
 use std::alloc::{AllocError, Global};
 
@@ -43,19 +41,10 @@ use std::alloc::{AllocError, Global};
 pub enum Divided {
     /// None in face II, or a sight back in both faces and detail: there are no sets.
     NoSets,
-    /// Sets, after so many readings that stand outside.
-    Sets(usize),
+    /// Sets, and where they stand.
+    Sets(Span),
     /// Something is wrong.
     Flawed(Flaw),
-}
-
-/// How many leading readings stand outside that are no details.
-#[derive(Clone, Copy, Drop)]
-enum Leading {
-    /// So many, and those after them are sets.
-    Divides(usize),
-    /// With no number are those after them sets: this is wrong.
-    Fails(Flaw),
 }
 
 /// The readings after the first so many.
@@ -78,8 +67,9 @@ pub(crate) fn part(from: usize, to: usize, sights: &[Sight]) -> &[Sight]
 
 /// After the last of these readings whose target is known: it is looked for from the end.
 fn end_of(known: &mut Known, sights: &[Sight]) -> usize
-    ensures { (sets : List Sight) → KnowsTargetsOf sets known.old
+    ensures value { (sets : List Sight) → KnowsTargetsOf sets known.old
         → result ≡ end_of (targets_of sets) 0 0 sights.now }
+    ensures bound { result ≤ length sights.now }
 {
     let mut left = sights;
     'sights: while let Some((sight, before)) = left.split_last() {
@@ -116,7 +106,8 @@ fn last_place(places: &[usize]) -> usize
 
 /// After the last reading of a target that the others have.
 fn end_after(alloc: Global, others: &[Sight], sights: &[Sight]) -> Result<usize, AllocError>
-    ensures { IfOk result (λ end. end ≡ end_of (targets_of others.now) 0 0 sights.now) }
+    ensures value { IfOk result (λ end. end ≡ end_of (targets_of others.now) 0 0 sights.now) }
+    ensures bound { IfOk result (λ end. end ≤ length sights.now) }
 {
     if ends_known(others, sights) {
         return Ok(sights.len());
@@ -125,32 +116,25 @@ fn end_after(alloc: Global, others: &[Sight], sights: &[Sight]) -> Result<usize,
     Ok(end_of(&mut known, sights))
 }
 
-/// Where the last set ends.
-pub(crate) fn end_by(alloc: Global, starts: &[usize], sights: &[Sight]) -> Result<usize, AllocError>
-    ensures { IfOk result (λ end. end ≡ end_by starts.now sights.now) }
+/// Where the last set ends of readings that are no details.
+pub(crate) fn cut_end(
+    alloc: Global,
+    starts: &[usize],
+    sights: &[Sight],
+) -> Result<usize, AllocError>
+    ensures value { IfOk result (λ end. end ≡ cut_end starts.now sights.now) }
+    ensures bound { IfOk result (λ end. end ≤ length sights.now) }
 {
     match starts {
-        [] | [_] => {
-            let seconds = seconds_of(alloc, sights)?;
-            end_after(alloc, &seconds, sights)
-        }
+        [] | [_] => Ok(sights.len()),
         [_, rest @ ..] => end_after(alloc, front(last_place(rest), sights), sights),
     }
 }
 
-/// Where the last set ends of readings that are no details.
-fn cut_end(alloc: Global, starts: &[usize], sights: &[Sight]) -> Result<usize, AllocError>
-    ensures { IfOk result (λ end. end ≡ cut_end starts.now sights.now) }
-{
-    match starts {
-        [] | [_] => Ok(sights.len()),
-        [_, _, ..] => end_by(alloc, starts, sights),
-    }
-}
-
-/// The readings of the first set, of readings that are no details.
+/// The readings of the first set that begins at these places.
 pub(crate) fn first_cut<'a>(starts: &[usize], sights: &'a [Sight]) -> &'a [Sight]
-    ensures { result.now ≡ first_cut starts.now sights.now }
+    ensures cut { result.now ≡ first_cut starts.now sights.now }
+    ensures whole { result.now ≡ first_part (length sights.now) starts.now sights.now }
 {
     match starts {
         [] => &[],
@@ -179,7 +163,11 @@ fn end_of_set(
 /// Where the last of them ends is asked only once the sets before it are known to be sets, for it
 /// takes a step for each of their targets and each reading after them.
 #[tactic(auto, using(crate::proofs::Few::next_flaw))]
-fn sets_flaw(alloc: Global, starts: &[usize], sights: &[Sight]) -> Result<Option<Flaw>, AllocError>
+pub(crate) fn sets_flaw(
+    alloc: Global,
+    starts: &[usize],
+    sights: &[Sight],
+) -> Result<Option<Flaw>, AllocError>
     ensures { IfOk result (λ o. o ≡ sets_flaw (first_cut starts.now sights.now) 0
         (cut_end starts.now sights.now) starts.now sights.now) }
 {
@@ -204,7 +192,7 @@ fn sets_flaw(alloc: Global, starts: &[usize], sights: &[Sight]) -> Result<Option
 
 /// Where the first sets of readings that are no details begin: one more than a station may have
 /// tells that it has too many.
-fn few_starts(alloc: Global, sights: &[Sight]) -> Result<Vec<usize>, AllocError>
+pub(crate) fn few_starts(alloc: Global, sights: &[Sight]) -> Result<Vec<usize>, AllocError>
     ensures { IfOk result
         (λ starts. starts.items ≡ take (MOST_SETS + 1) (starts_of sights.now)) }
 {
@@ -212,138 +200,6 @@ fn few_starts(alloc: Global, sights: &[Sight]) -> Result<Vec<usize>, AllocError>
         Some(opening) => starts(alloc, &opening.target, sights, MOST_SETS + 1),
         None => Ok(Vec::new(alloc)),
     }
-}
-
-/// Whether all are in face I, or all of one target.
-fn are_sights(sights: &[Sight]) -> bool
-    ensures { result ≡ are_sights sights.now }
-{
-    match first_target(sights) {
-        Some(first) => are_in_face(false, sights) || are_of(&first, sights),
-        None => true,
-    }
-}
-
-/// The readings of the targets that may be sighted before a single set.
-fn sighted_before(set: &[Sight]) -> &[Sight]
-    ensures { result.now ≡ sighted_before set.now }
-{
-    if set.len() <= READINGS_OF_TWO {
-        front(1, set)
-    } else {
-        set
-    }
-}
-
-/// Whether each of these readings is of a target that the others have.
-fn are_among(others: &[Sight], sights: &[Sight]) -> bool
-    ensures { result ≡ list_all (λ r. list_any (is_of r.target) others.now) sights.now }
-{
-    sights
-        .iter()
-        .all(|sight| reads_target(others, &sight.target))
-}
-
-/// Whether these readings, which are no details, may stand before a single set at this place.
-fn may_lead(set: &[Sight], leading: &[Sight], place: usize) -> bool
-    ensures { result ≡ may_lead set.now leading.now place }
-{
-    are_among(sighted_before(set), leading) && are_sights(leading) && place <= leading.len()
-}
-
-/// What is wrong first with the sets of these readings that are no details.
-///
-/// They begin at this place of all readings of the station, after these leading ones that are no
-/// details either. The targets that are known are those that the station reads in face II.
-fn cut_flaw(
-    alloc: Global,
-    known: &mut Known,
-    all: &[Sight],
-    leading: &[Sight],
-    place: usize,
-    sights: &[Sight],
-) -> Result<Option<Flaw>, AllocError>
-    requires known { KnowsTargetsOf (seconds_of all.now) known.old }
-    ensures value { IfOk result (λ o. o
-        ≡ cut_flaw all.now leading.now place (starts_of sights.now) sights.now) }
-    ensures unchanged { known.new ≡ known.old }
-{
-    let starts = few_starts(alloc, sights)?;
-    if let Some(flaw) = sets_flaw(alloc, &starts, sights)? {
-        return Ok(Some(flaw));
-    }
-    let end = cut_end(alloc, &starts, sights)?;
-    let detail = unknown_in(known, front(end, rest_after(place, all)));
-    let among = flaw_found(MarkKind::FaceMissing, detail.as_ref());
-    let is_lone = starts.len() < 2 && !may_lead(sights, leading, place);
-    let lone = flaw_when(is_lone, MarkKind::OneSet, sight_at(sights, 0));
-    Ok(first_flaw(None, among, lone))
-}
-
-/// What is wrong first where so many leading readings stand outside that are no details.
-///
-/// `rest` are the readings of the station that are no details; the targets that are known are those
-/// that it reads in face II.
-fn flaw_of(
-    alloc: Global,
-    known: &mut Known,
-    sights: &[Sight],
-    rest: &[Sight],
-    leading: usize,
-) -> Result<Option<Flaw>, AllocError>
-    requires known { KnowsTargetsOf (seconds_of sights.now) known.old }
-    requires rest { rest.now ≡ rest_of sights.now }
-    ensures value { IfOk result (λ o. o ≡ flaw_of sights.now leading) }
-    ensures unchanged { known.new ≡ known.old }
-{
-    if rest.len() <= leading {
-        return Ok(Some(flaw_at(MarkKind::OneSet, None)));
-    }
-    let place = place_of(known, leading, sights);
-    let before = front(leading, rest);
-    cut_flaw(
-        alloc,
-        known,
-        sights,
-        before,
-        place,
-        rest_after(leading, rest),
-    )
-}
-
-/// Of two, what is wrong later in the file.
-fn later(a: Flaw, b: Flaw) -> Flaw
-    ensures { Some result ≡ later (Some a) (Some b) }
-{
-    if a.block < b.block { b } else { a }
-}
-
-/// How many readings that are no details stand outside before the sets, or what is wrong where no
-/// number will do.
-fn find_leading(
-    alloc: Global,
-    known: &mut Known,
-    sights: &[Sight],
-    rest: &[Sight],
-) -> Result<Leading, AllocError>
-    requires known { KnowsTargetsOf (seconds_of sights.now) known.old }
-    requires rest { rest.now ≡ rest_of sights.now }
-    ensures value { IfOk result (IsLeading sights.now) }
-    ensures unchanged { known.new ≡ known.old }
-{
-    let Some(none) = flaw_of(alloc, known, sights, rest, 0)? else {
-        return Ok(Leading::Divides(0));
-    };
-    let Some(one) = flaw_of(alloc, known, sights, rest, 1)? else {
-        return Ok(Leading::Divides(1));
-    };
-    let Some(two) = flaw_of(alloc, known, sights, rest, 2)? else {
-        return Ok(Leading::Divides(2));
-    };
-    let Some(three) = flaw_of(alloc, known, sights, rest, 3)? else {
-        return Ok(Leading::Divides(3));
-    };
-    Ok(Leading::Fails(later(later(later(none, one), two), three)))
 }
 
 /// Whether a leading reading is in face II, and none of them is its pair.
@@ -380,21 +236,27 @@ fn leads_to_end(leading: &[Sight], set: &[Sight]) -> bool
         && (set.len() <= READINGS_OF_TWO || has_second(leading))
 }
 
-/// Whether the sets may be shifted by the leading readings.
-fn may_be_shifted(leading: &[Sight], set: &[Sight]) -> bool
-    ensures { result ≡ may_be_shifted leading.now set.now }
+/// Whether one of the leading readings is in face II, and of a target of the sets that doesn't begin
+/// them.
+#[tactic(auto, using(crate::proofs::Within::none_within))]
+fn leads_within(leading: &[Sight], in_sets: &[Sight]) -> bool
+    ensures { result ≡ leads_within leading.now in_sets.now }
 {
-    has_lone_second(leading) || leads_to_end(leading, set)
-}
-
-/// Whether the first reading is in face II.
-fn begins_in_two(sights: &[Sight]) -> bool
-    ensures { result ≡ begins_in_two sights.now }
-{
-    match sights.first() {
-        Some(sight) => sight.second,
+    match first_target(in_sets) {
+        Some(opening) => leading.iter().any(|sight| {
+            sight.second && !is_of(&opening, sight) && reads_target(in_sets, &sight.target)
+        }),
         None => false,
     }
+}
+
+/// Whether the sets, of which this is the first, may be shifted by the leading readings.
+fn may_be_shifted(leading: &[Sight], set: &[Sight], in_sets: &[Sight]) -> bool
+    ensures { result ≡ may_be_shifted leading.now set.now in_sets.now }
+{
+    has_lone_second(leading)
+        || leads_to_end(leading, set)
+        || is_by_targets(set) && leads_within(leading, in_sets)
 }
 
 /// Whether the sets that these readings are were read by targets.
@@ -406,11 +268,11 @@ pub(crate) fn are_by_targets(sights: &[Sight]) -> bool
 
 /// Whether sets that were read by targets, of which the last ends at this place, are followed by a
 /// target in both faces.
-fn may_go_on(end: usize, sights: &[Sight]) -> bool
-    requires { end ≡ cut_end (starts_of sights.now) sights.now }
-    ensures { result ≡ may_go_on sights.now }
+fn may_go_on(end: usize, sets: &[Sight], sights: &[Sight]) -> bool
+    requires { end ≡ cut_end (starts_of sets.now) sets.now }
+    ensures { result ≡ may_go_on sets.now sights.now }
 {
-    are_by_targets(sights) && begins_with_pair(rest_after(end, sights))
+    are_by_targets(sets) && begins_with_pair(rest_after(end, sights))
 }
 
 /// How many of these readings are of targets that are known.
@@ -547,76 +409,66 @@ fn numbers_flaw(
     Ok(None)
 }
 
-/// The doubt about readings that are sets after these leading ones, and of which this is stated.
+/// The doubt about sets after these leading readings, and of which this is stated. They begin at
+/// these places, and the last ends at this one; `sights` are they and all readings after them.
 fn doubt_after(
     alloc: Global,
     stated: Numbers,
     leading: &[Sight],
+    starts: &[usize],
+    end: usize,
+    sets: &[Sight],
     sights: &[Sight],
 ) -> Result<Option<Flaw>, AllocError>
-    ensures { IfOk result (λ o. o ≡ doubt_after stated leading.now sights.now) }
+    requires starts { starts.now ≡ starts_of sets.now }
+    requires end { end ≡ cut_end (starts_of sets.now) sets.now }
+    ensures { IfOk result (λ o. o ≡ doubt_after stated leading.now sets.now sights.now) }
 {
-    let first = sight_at(sights, 0);
-    if begins_in_two(sights) {
-        return Ok(Some(flaw_at(MarkKind::FirstFace, first)));
-    }
-    let starts = starts_of(alloc, sights)?;
-    if may_be_shifted(leading, first_cut(&starts, sights)) {
+    let first = sight_at(sets, 0);
+    if may_be_shifted(leading, first_cut(starts, sets), part(0, end, sets)) {
         return Ok(Some(flaw_at(MarkKind::MayBeShifted, first)));
     }
-    if is_asked(are_by_targets(sights), stated.sets) {
+    if is_asked(are_by_targets(sets), stated.sets) {
         return Ok(Some(flaw_at(MarkKind::ByTargets, first)));
     }
-    let end = cut_end(alloc, &starts, sights)?;
-    if may_go_on(end, sights) {
+    if may_go_on(end, sets, sights) {
         return Ok(Some(flaw_at(MarkKind::PairAfter, sight_at(sights, end))));
     }
-    if let Some(flaw) = numbers_flaw(alloc, stated, &starts, end, sights)? {
+    if let Some(flaw) = numbers_flaw(alloc, stated, starts, end, sets)? {
         return Ok(Some(flaw));
     }
-    strangers_flaw(alloc, &starts, sights)
+    strangers_flaw(alloc, starts, sets)
 }
 
-/// The doubt about readings that are no details, where they divide with so many leading ones.
-fn doubt_of(
-    alloc: Global,
-    stated: Numbers,
-    rest: &[Sight],
-    leading: usize,
-) -> Result<Option<Flaw>, AllocError>
-    ensures { IfOk result
-        (λ o. o ≡ doubt_after stated (take leading rest.now) (drop leading rest.now)) }
+/// The sets that stand here, unless they are refused.
+pub(crate) fn divided_unless(flaw: Option<Flaw>, span: Span) -> Divided
+    ensures { result ≡ divided_unless flaw span }
 {
-    doubt_after(
-        alloc,
-        stated,
-        front(leading, rest),
-        rest_after(leading, rest),
-    )
-}
-
-/// What a station's readings are that has sets, or should have.
-///
-/// `rest` are those that are no details; the targets that are known are those that are read in
-/// face II.
-fn divide_rest(
-    alloc: Global,
-    stated: Numbers,
-    known: &mut Known,
-    sights: &[Sight],
-    rest: &[Sight],
-) -> Result<Divided, AllocError>
-    requires known { KnowsTargetsOf (seconds_of sights.now) known.old }
-    requires rest { rest.now ≡ rest_of sights.now }
-    ensures { IfOk result (λ d. d ≡ divided_by stated sights.now (leading_of sights.now)) }
-{
-    match find_leading(alloc, known, sights, rest)? {
-        Leading::Divides(leading) => match doubt_of(alloc, stated, rest, leading)? {
-            Some(flaw) => Ok(Divided::Flawed(flaw)),
-            None => Ok(Divided::Sets(place_of(known, leading, sights))),
-        },
-        Leading::Fails(flaw) => Ok(Divided::Flawed(flaw)),
+    match flaw {
+        Some(flaw) => Divided::Flawed(flaw),
+        None => Divided::Sets(span),
     }
+}
+
+/// Sets of readings that are no details, from this place of the station on and after these leading
+/// ones, unless there is a doubt about them; `sights` are they and all readings after them.
+pub(crate) fn divide_after(
+    alloc: Global,
+    stated: Numbers,
+    leading: &[Sight],
+    from: usize,
+    sets: &[Sight],
+    sights: &[Sight],
+) -> Result<Divided, AllocError>
+    requires fits { from + length sets.now < 2 ^ 64 }
+    ensures { IfOk result (λ d. d ≡ divided_unless
+        (doubt_after stated leading.now sets.now sights.now) (span_from from sets.now)) }
+{
+    let starts = starts_of(alloc, sets)?;
+    let end = cut_end(alloc, &starts, sets)?;
+    let doubt = doubt_after(alloc, stated, leading, &starts, end, sets, sights)?;
+    let to = from + end;
+    Ok(divided_unless(doubt, Span { from, to }))
 }
 
 /// Whether nothing is wrong with the sets that begin at these places.
@@ -632,9 +484,10 @@ fn are_sets(alloc: Global, starts: &[usize], sights: &[Sight]) -> Result<bool, A
 /// It is asked only where the last reading is of a target of the first half: else some readings
 /// stand outside, or there is one set.
 fn are_all_in_sets(alloc: Global, sights: &[Sight]) -> Result<bool, AllocError>
-    ensures { IfOk result (λ whole. OnTrue whole ((stated : Numbers)
-        → divided_by stated sights.now (leading_of sights.now)
-        ≡ divided_unless (doubt_after stated [] sights.now) 0)) }
+    ensures { IfOk result (λ whole. OnTrue whole (NoneOpen sights.now → (stated : Numbers)
+        → divided_by stated sights.now (ways_of sights.now)
+        ≡ divided_unless (doubt_after stated [] sights.now sights.now)
+        (span_from 0 sights.now))) }
 {
     let Some((last, _)) = sights.split_last() else {
         return Ok(false);
@@ -650,14 +503,11 @@ fn are_all_in_sets(alloc: Global, sights: &[Sight]) -> Result<bool, AllocError>
     Ok(end == sights.len())
 }
 
-/// What a station's readings are that are all in sets.
-fn divide_whole(alloc: Global, stated: Numbers, sights: &[Sight]) -> Result<Divided, AllocError>
-    ensures { IfOk result (λ d. d ≡ divided_unless (doubt_after stated [] sights.now) 0) }
+/// Whether another ending than none may give sets too.
+fn may_be_ended(sights: &[Sight]) -> bool
+    ensures { OnFalse result (NoneOpen sights.now) }
 {
-    match doubt_after(alloc, stated, &[], sights)? {
-        Some(flaw) => Ok(Divided::Flawed(flaw)),
-        None => Ok(Divided::Sets(0)),
-    }
+    is_open_somewhere(Ending::CheckSights, sights) || is_open_somewhere(Ending::CheckPair, sights)
 }
 
 /// What a station's readings are, of whose sets this is stated.
@@ -667,8 +517,8 @@ pub fn divide(alloc: Global, stated: Numbers, sights: &[Sight]) -> Result<Divide
     if has_no_sets(sights) {
         return Ok(Divided::NoSets);
     }
-    if are_all_in_sets(alloc, sights)? {
-        return divide_whole(alloc, stated, sights);
+    if are_all_in_sets(alloc, sights)? && !may_be_ended(sights) {
+        return divide_after(alloc, stated, &[], 0, sights, sights);
     }
     let seconds = seconds_of(alloc, sights)?;
     let mut known = Known::of(alloc, &seconds)?;

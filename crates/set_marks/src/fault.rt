@@ -44,8 +44,8 @@ pub enum MarkKind {
     /// target in this set; or without this detail point, where it stands among the sets.
     #[error("the target is read in one face of this set alone")]
     FaceMissing,
-    /// The set has one target alone: an orientation in both faces, or a closing pair. Mark a copy
-    /// without it.
+    /// The set has one target alone: an orientation in both faces, or a closing pair that is no
+    /// check of the target with which sets by faces begin. Mark a copy without it.
     #[error("the set has one target alone")]
     OneTarget,
     /// The set is read neither by faces nor by targets, or another way than the station's first.
@@ -58,15 +58,19 @@ pub enum MarkKind {
     /// The station has 40 sets, the most that it may have.
     #[error("the station has more than {MOST_SETS} sets")]
     TooManySets,
-    /// There is a single set, and before it stand other readings than sights to its targets:
-    /// nothing shows where it begins. Mark a copy without them.
+    /// There is a single set, and before it stand other readings than sights to its targets, all in
+    /// face I, or to one of them, or in both faces to each that is sighted: nothing shows where it
+    /// begins. Mark a copy without them.
     #[error("a single set stands after readings that are in no set")]
     OneSet,
-    /// The first set begins in face II: nothing shows that no reading is missing before it.
-    #[error("the first set begins in face II")]
+    /// The first set begins in face II, and readings stand before it: nothing shows that they are
+    /// no part of it. Mark a copy without them.
+    #[error("after other readings the first set begins in face II")]
     FirstFace,
-    /// The readings before the first set may belong to the sets, and these be shifted.
-    #[error("the readings before the first set may belong to the sets")]
+    /// The readings before the first set may belong to the sets, and these be shifted; or the sets
+    /// can be read in two ways, since those at the end may be check sights or not. Mark a copy
+    /// without these readings.
+    #[error("the sets may begin or end elsewhere")]
     MayBeShifted,
     /// The station's sets are read by targets, and a target in both faces follows them, as a set
     /// would go on: they may begin with another target.

@@ -7,7 +7,8 @@ ghost use Rattle.set_marks.specs.declared.fault.MarkKind.TheVariants.{TooManyTar
 ghost use Rattle.set_marks.specs.Divisions.{flaw_found, is_read_in_two, one_too_many};
 ghost use Rattle.set_marks.specs.Divisions.{targets_of};
 ghost use Rattle.set_marks.specs.Judging.{first_of_target, is_too_long};
-ghost use Rattle.set_marks.specs.Judging.{itself_fault, name_fault, sets_fault, twice_fault};
+ghost use Rattle.set_marks.specs.Judging.{itself_fault, name_fault, own_name_fault, sets_fault};
+ghost use Rattle.set_marks.specs.Judging.{twice_fault};
 ghost use Rattle.set_marks.specs.Judging.{called, was_before};
 ghost use Rattle.set_marks.specs.Keeping.{before_in};
 
@@ -19,6 +20,7 @@ use crate::mark::width;
 use crate::names::Names;
 use crate::set::{is_of, sight_at};
 use crate::sight::Sight;
+use crate::span::Span;
 use crate::visits::{Visits, visit_name};
 use adjust_kernel::{MOST_TARGETS, Name};
 use station_book::MOST_STATIONS;
@@ -104,14 +106,28 @@ fn first_of_target<'a>(name: &Name, sights: &'a [Sight]) -> Option<&'a Sight>
     None
 }
 
-/// The fault of a station with sets that it reads a target of the name of its set-up line in face II.
-fn itself_fault(line: &Name, sights: &[Sight]) -> Option<Flaw>
-    ensures { result ≡ itself_fault line.now sights.now }
+/// The fault of a station with sets of this name that it reads a target of it in face II.
+fn itself_fault(name: &Name, sights: &[Sight]) -> Option<Flaw>
+    ensures { result ≡ itself_fault name.now sights.now }
 {
-    if !is_read_in_two(line, sights) {
+    if !is_read_in_two(name, sights) {
         return None;
     }
-    flaw_when(true, MarkKind::SightsItself, first_of_target(line, sights))
+    flaw_when(true, MarkKind::SightsItself, first_of_target(name, sights))
+}
+
+/// The same of the name of the set-up line, and of that which the station is called.
+#[tactic(auto, using(crate::proofs::OwnNames::is_called_so))]
+fn own_name_fault(line: &Name, name: &Name, sights: &[Sight]) -> Option<Flaw>
+    ensures { result ≡ own_name_fault line.now (record { name = name.now; sights = sights.now }) }
+{
+    if let Some(flaw) = itself_fault(line, sights) {
+        return Some(flaw);
+    }
+    if name.is_same(line) {
+        return None;
+    }
+    itself_fault(name, sights)
 }
 
 /// Whether a name has no room in the width of the line of a reading.
@@ -124,39 +140,38 @@ fn is_too_long(name: &Name, sight: Option<&Sight>) -> bool
     }
 }
 
-/// The fault of the name of a station with sets after so many leading readings, after the stations
-/// of these names.
-fn name_fault(names: &StationNames, name: &Name, sights: &[Sight], leading: usize) -> Option<Flaw>
+/// The fault of the name of a station whose sets stand here, after the stations of these names.
+fn name_fault(names: &StationNames, name: &Name, sights: &[Sight], span: Span) -> Option<Flaw>
     ensures { result ≡ name_fault (before_in names.now)
-        (record { name = name.now; sights = sights.now }) leading }
+        (record { name = name.now; sights = sights.now }) span }
 {
     if names.marked.len() >= MOST_STATIONS {
         return flaw_when(true, MarkKind::TooManyStations, sight_at(sights, 0));
     }
-    let opening = sight_at(sights, leading);
+    let opening = sight_at(sights, span.from);
     flaw_when(is_too_long(name, opening), MarkKind::NameTooLong, opening)
 }
 
-/// The fault of a station of the name of this set-up line, whose readings are sets after so many
-/// leading ones, after the stations of these names, but for that of its targets.
+/// The fault of a station of the name of this set-up line, whose sets stand here, after the stations
+/// of these names, but for that of its targets.
 pub(crate) fn sets_fault(
     names: &mut StationNames,
     line: &Name,
     name: &Name,
     sights: &[Sight],
-    leading: usize,
+    span: Span,
 ) -> Option<Flaw>
     ensures fault { result ≡ sets_fault (before_in names.old) line.now
-        (record { name = name.now; sights = sights.now }) leading }
+        (record { name = name.now; sights = sights.now }) span }
     ensures unchanged { names.new ≡ names.old }
 {
     if let Some(flaw) = names.twice_fault(name, sights) {
         return Some(flaw);
     }
-    if let Some(flaw) = itself_fault(line, sights) {
+    if let Some(flaw) = own_name_fault(line, name, sights) {
         return Some(flaw);
     }
-    name_fault(names, name, sights, leading)
+    name_fault(names, name, sights, span)
 }
 
 /// The first target too many of the readings of a station's sets, which have so many targets.

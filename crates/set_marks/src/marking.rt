@@ -1,11 +1,11 @@
 //! The code lines of a file's stations, and what is told of them.
 
 ghost use Rattle.std.specs.Prelude.{◌≡◌, ◌<◌, ◌≤◌, ◌+◌, ◌++◌, ◌∷◌, [], All, IfOk, IfSome, None};
-ghost use Rattle.std.specs.Prelude.{OnOk, Some, length, drop, false, option_map, slice_get, nat_lt};
+ghost use Rattle.std.specs.Prelude.{OnOk, Some, length, false, option_map, slice_get, nat_lt};
 ghost use Rattle.std.specs.Prelude.{◌&&◌};
 ghost use Rattle.adjust_kernel.specs.declared.bounds.TheConstants.{MOST_SETS};
 ghost use Rattle.set_marks.specs.declared.division.Divided.TheVariants.{Flawed, NoSets, Sets};
-ghost use Rattle.set_marks.specs.Divisions.{divided_unless, starts_of, end_in};
+ghost use Rattle.set_marks.specs.Divisions.{divided_unless, starts_of, in_span};
 ghost use Rattle.set_marks.specs.Judging.{is_too_long, judged, sets_fault, targets_fault};
 ghost use Rattle.set_marks.specs.Judging.{called, judged_called, none_before};
 ghost use Rattle.station_book.specs.Places.{is_empty};
@@ -14,7 +14,7 @@ ghost use Rattle.set_marks.specs.Numbers.{said_in};
 ghost use Rattle.set_marks.specs.Marking.{close_mark, mark_at, outside, set_marks, sets_marks};
 ghost use Rattle.set_marks.specs.Keeping.{TakesStation, before_in};
 
-use crate::division::{Divided, are_by_targets, divide, end_by, part, rest_after};
+use crate::division::{Divided, are_by_targets, divide, part, rest_after};
 use crate::flaw::Flaw;
 use crate::judging::{StationNames, sets_fault, targets_fault};
 use crate::known::count_targets;
@@ -23,6 +23,7 @@ use crate::recognized::Recognized;
 use crate::remarks::remarks_of;
 use crate::set::sight_at;
 use crate::sight::Sight;
+use crate::span::Span;
 use crate::starts::starts_of;
 use crate::stated::Stated;
 use adjust_kernel::Name;
@@ -97,41 +98,39 @@ fn put_close(marks: &mut Vec<BlockMark>, in_set: bool, sights: &[Sight]) -> Resu
     Ok(())
 }
 
-/// Whether a set of an earlier station is open at leading readings.
-fn is_left_open(in_set: bool, leading: usize) -> bool
-    ensures { result ≡ (in_set && nat_lt 0 leading) }
+/// Whether a set of an earlier station is open at readings before these sets.
+fn is_left_open(in_set: bool, span: Span) -> bool
+    ensures { result ≡ (in_set && nat_lt 0 span.from) }
 {
-    in_set && leading > 0
+    in_set && span.from > 0
 }
 
-/// Puts the code lines of a station whose readings are sets after so many leading ones.
+/// Puts the code lines of a station whose sets stand here, and begin at these places of their own
+/// readings.
 #[tactic(auto, using(crate::proofs::Joins::has_its_room))]
 fn put_station(
     marks: &mut Vec<BlockMark>,
     in_set: bool,
     name: &Name,
     sights: &[Sight],
-    leading: usize,
+    span: Span,
     starts: &[usize],
-    end: usize,
 ) -> Result<(), AllocError>
     requires few { length starts.now ≤ MOST_SETS }
-    requires starts { starts.now ≡ starts_of (drop leading sights.now) }
-    requires end { end ≡ end_in (drop leading sights.now) }
-    requires here { is_too_long name.now (slice_get sights.now leading) ≡ false }
+    requires starts { starts.now ≡ starts_of (in_span span sights.now) }
+    requires here { is_too_long name.now (slice_get sights.now span.from) ≡ false }
     requires room { All IsRoomy marks.old.items }
     ensures room { All IsRoomy marks.new.items }
     ensures put { OnOk result (marks.new.items ≡ marks.old.items
-        ++ sets_marks in_set (record { name = name.now; sights = sights.now }) leading) }
+        ++ sets_marks in_set (record { name = name.now; sights = sights.now }) span) }
 {
-    let rest = rest_after(leading, sights);
     // For the proof alone: a name keeps the rules of names.
     name.recall();
-    put_close(marks, is_left_open(in_set, leading), sights)?;
-    let opening = sight_at(sights, leading);
+    put_close(marks, is_left_open(in_set, span), sights)?;
+    let opening = sight_at(sights, span.from);
     put(marks, opening, Code::Station(*name))?;
-    put_sets(marks, starts, rest)?;
-    let after_sets = sight_at(rest, end);
+    put_sets(marks, starts, part(span.from, span.to, sights))?;
+    let after_sets = sight_at(sights, span.to);
     put(marks, after_sets, Code::Close)?;
     Ok(())
 }
@@ -223,45 +222,34 @@ impl Marking {
         Ok(())
     }
 
-    /// Takes a station whose readings are sets after so many leading ones, unless its targets are
-    /// too many.
+    /// Takes a station whose sets stand here, unless its targets are too many.
     fn take_sets(
         &mut self,
         alloc: Global,
         line: &Name,
         name: &Name,
         sights: &[Sight],
-        leading: usize,
+        span: Span,
     ) -> Result<(), AllocError>
-        requires few { length (starts_of (drop leading sights.now)) ≤ MOST_SETS }
-        requires here { is_too_long name.now (slice_get sights.now leading) ≡ false }
+        requires few { length (starts_of (in_span span sights.now)) ≤ MOST_SETS }
+        requires here { is_too_long name.now (slice_get sights.now span.from) ≡ false }
         requires room { All IsRoomy self.old.marks.items }
         ensures room { All IsRoomy self.new.marks.items }
         ensures takes { OnOk result (TakesStation line.now
             (record { name = name.now; sights = sights.now })
             (divided_unless (targets_fault (record { name = name.now; sights = sights.now })
-            leading) leading) self.old self.new) }
+            span) span) self.old self.new) }
     {
-        let rest = rest_after(leading, sights);
-        let starts = starts_of(alloc, rest)?;
-        let end = end_by(alloc, &starts, rest)?;
-        let in_sets = part(0, end, rest);
+        let in_sets = part(span.from, span.to, sights);
+        let starts = starts_of(alloc, in_sets)?;
         let targets = count_targets(alloc, in_sets)?;
         if let Some(flaw) = targets_fault(alloc, targets, in_sets)? {
             return self.take_faulty(line, name, sights, flaw);
         }
-        let after = rest_after(end, rest);
+        let after = rest_after(span.to, sights);
         let remarks = remarks_of(alloc, &starts, in_sets, targets, after)?;
-        put_station(
-            &mut self.marks,
-            self.in_set,
-            name,
-            sights,
-            leading,
-            &starts,
-            end,
-        )?;
-        self.in_set = sight_at(rest, end).is_none();
+        put_station(&mut self.marks, self.in_set, name, sights, span, &starts)?;
+        self.in_set = sight_at(sights, span.to).is_none();
         self.names.marked.add(name)?;
         self.names.visits.add(line)?;
         self.stations.push(Recognized {
@@ -269,9 +257,9 @@ impl Marking {
             fault: None,
             sets: starts.len(),
             targets,
-            by_targets: are_by_targets(rest),
-            before: leading,
-            after: rest.len().saturating_sub(end),
+            by_targets: are_by_targets(in_sets),
+            before: span.from,
+            after: sights.len().saturating_sub(span.to),
             remarks,
         })?;
         Ok(())
@@ -318,12 +306,10 @@ impl Marking {
                 Some(twice) => self.take_faulty(line, name, sights, twice),
                 None => self.take_faulty(line, name, sights, flaw),
             },
-            Divided::Sets(leading) => {
-                match sets_fault(&mut self.names, line, name, sights, leading) {
-                    Some(flaw) => self.take_faulty(line, name, sights, flaw),
-                    None => self.take_sets(alloc, line, name, sights, leading),
-                }
-            }
+            Divided::Sets(span) => match sets_fault(&mut self.names, line, name, sights, span) {
+                Some(flaw) => self.take_faulty(line, name, sights, flaw),
+                None => self.take_sets(alloc, line, name, sights, span),
+            },
         }
     }
 }

@@ -302,9 +302,12 @@ impl Readings {
                 self.take_measurement(alloc, number, block, read(block), beginnings)
             }
             Role::Other => {
-                if beginnings.code.is_none() {
+                if !has_code(&beginnings.code, block) {
                     self.blocks = number;
                     return Ok(());
+                }
+                if !has_word(block, CODE_INFORMATION) {
+                    return Err(MarkFault::Reading(number, BookKind::StationName));
                 }
                 self.take_beginning(alloc, number, block, beginnings)
             }
@@ -431,6 +434,7 @@ impl Readings {
           target = reading.now.target;
           second = nat_lt HALF_CIRCLE reading.now.angles.zenith
               && nat_lt reading.now.angles.zenith CIRCLE;
+          angles = reading.now.angles;
         } ∷ []) }
         ensures blocks { OnOk result (self.new.blocks ≡ number) }
     {
@@ -440,6 +444,7 @@ impl Readings {
             wide,
             target: reading.target,
             second: is_second(reading.angles.zenith),
+            angles: reading.angles,
         })?;
         Ok(())
     }

@@ -5,7 +5,7 @@ use crate::remarks::Remarks;
 use adjust_kernel::Name;
 
 /// What was recognized of a station: to be compared with the field book.
-#[derive(Clone, Copy, Debug, PartialEq, Eq, Drop)]
+#[derive(Debug, Drop)]
 pub struct Recognized {
     /// Its name.
     pub name: Name,

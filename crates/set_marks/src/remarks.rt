@@ -4,23 +4,26 @@ ghost use Rattle.std.specs.Prelude.{◌≡◌, ◌≤◌, ◌*◌, List, IfOk, l
 ghost use Rattle.std.specs.List.{list_any};
 ghost use Rattle.adjust_kernel.specs.declared.bounds.TheConstants.{MOST_SETS, MOST_TARGETS};
 ghost use Rattle.set_marks.specs.declared.sight.Sight.{Sight};
-ghost use Rattle.set_marks.specs.Divisions.{targets_of};
+ghost use Rattle.set_marks.specs.Divisions.{starts_of, targets_of};
 ghost use Rattle.set_marks.specs.Remarks.{length_to_turn, turning_of, full_count, missing_count};
 ghost use Rattle.set_marks.specs.Remarks.{seems_of_another, others_after, remarks_by, remarks_of};
+ghost use Rattle.set_marks.specs.Remarks.{is_opened_again};
 ghost use Rattle.set_marks.specs.Searching.{KnowsTargetsOf, KeepsFaces};
 
 use crate::bounds::MOST_READINGS;
-use crate::division::first_cut;
+use crate::division::{are_by_targets, first_cut};
+use crate::equal_sets::{SetPairs, equal_sets};
 use crate::faces::Faces;
 use crate::known::Known;
 use crate::names::Names;
-use crate::set::{is_by_targets, sight_at};
+use crate::set::{first_target, is_by_targets, reads_target, sight_at};
 use crate::sight::Sight;
+use crate::zeniths::{ZenithRanges, spread_ranges};
 use adjust_kernel::Name;
 use std::alloc::{AllocError, Global};
 
 /// What is told of a station's sets beyond their numbers: to be compared with the field book.
-#[derive(Clone, Copy, Debug, PartialEq, Eq, Drop)]
+#[derive(Debug, Drop)]
 pub struct Remarks {
     /// The target that opens the sets.
     pub opening: Name,
@@ -34,6 +37,13 @@ pub struct Remarks {
     /// How many targets that no set has are read in both faces after the sets, as those of another
     /// station are.
     pub others: usize,
+    /// Whether the sets are read by targets, and a reading of the target that opens them stands after
+    /// them.
+    pub opened_again: bool,
+    /// The sets that are equal to the last digit.
+    pub equal_sets: SetPairs,
+    /// The targets whose zenith angles differ within the sets.
+    pub zeniths: ZenithRanges,
 }
 
 /// How many readings of a set come before it turns.
@@ -111,6 +121,16 @@ fn count_others(alloc: Global, in_sets: &[Sight], after: &[Sight]) -> Result<usi
     Ok(others.len())
 }
 
+/// Whether sets that are read by targets are followed by a reading of the target that opens them.
+fn is_opened_again(in_sets: &[Sight], after: &[Sight]) -> bool
+    ensures { result ≡ is_opened_again in_sets.now after.now }
+{
+    match first_target(in_sets) {
+        Some(opening) => are_by_targets(in_sets) && reads_target(after, &opening),
+        None => false,
+    }
+}
+
 /// What is told of sets that begin with the one reading, and turn at the other.
 fn remarks_by(
     opening: Option<&Sight>,
@@ -118,9 +138,13 @@ fn remarks_by(
     directions: usize,
     missing: usize,
     others: usize,
+    opened_again: bool,
+    equal_sets: SetPairs,
+    zeniths: ZenithRanges,
 ) -> Option<Remarks>
     ensures { result ≡ remarks_by (option_map (λ s. s.now) opening.entry)
-        (option_map (λ s. s.now) turning.entry) directions missing others }
+        (option_map (λ s. s.now) turning.entry) directions missing others
+        opened_again equal_sets zeniths }
 {
     match (opening, turning) {
         (Some(opening), Some(turning)) => Some(Remarks {
@@ -129,13 +153,16 @@ fn remarks_by(
             directions,
             missing,
             others,
+            opened_again,
+            equal_sets,
+            zeniths,
         }),
         _ => None,
     }
 }
 
 /// What is told of the sets that begin at these places of readings that have so many targets and
-/// are all in sets, before those after the sets.
+/// are all in sets, before these readings after them.
 pub(crate) fn remarks_of(
     alloc: Global,
     starts: &[usize],
@@ -145,13 +172,19 @@ pub(crate) fn remarks_of(
 ) -> Result<Option<Remarks>, AllocError>
     requires few_sets { length starts.now ≤ MOST_SETS }
     requires few_targets { targets ≤ MOST_TARGETS }
+    requires starts { starts.now ≡ starts_of in_sets.now }
     requires targets { targets ≡ length (targets_of in_sets.now) }
-    ensures { IfOk result (λ r. r ≡ remarks_of starts.now in_sets.now after.now) }
+    ensures { IfOk result (λ r. r ≡ remarks_of in_sets.now after.now) }
 {
     let others = count_others(alloc, in_sets, after)?;
     let directions = starts.len() * targets;
     let missing = directions.saturating_sub(in_sets.len() / 2);
     let opening = sight_at(in_sets, 0);
     let turning = turning_of(first_cut(starts, in_sets));
-    Ok(remarks_by(opening, turning, directions, missing, others))
+    let again = is_opened_again(in_sets, after);
+    let equal = equal_sets(alloc, starts, in_sets)?;
+    let zeniths = spread_ranges(alloc, in_sets)?;
+    Ok(remarks_by(
+        opening, turning, directions, missing, others, again, equal, zeniths,
+    ))
 }

@@ -32,7 +32,8 @@ fn is_same_face(a: bool, b: bool) -> bool
     if a { b } else { !b }
 }
 
-fn is_again(a: &Sight, b: &Sight) -> bool
+/// Whether both are of one target, in one face.
+pub(crate) fn is_again(a: &Sight, b: &Sight) -> bool
     ensures { result ≡ is_again a.now b.now }
 {
     is_of(&a.target, b) && is_same_face(a.second, b.second)
@@ -86,7 +87,7 @@ pub(crate) fn repeats(first: &[Sight], set: &[Sight]) -> bool
 }
 
 /// The first reading whose target was read in its face before it.
-fn again_in(set: &[Sight]) -> Option<Sight>
+pub(crate) fn again_in(set: &[Sight]) -> Option<Sight>
     ensures { result ≡ again_in set.now }
 {
     let mut at = 0;

@@ -1,6 +1,7 @@
 //! A reading of a station, as the division into sets sees it.
 
 use adjust_kernel::Name;
+use station_book::Angles;
 
 /// A reading: a block of a measurement with a direction.
 #[derive(Clone, Copy, Debug, Drop)]
@@ -11,6 +12,8 @@ pub struct Sight {
     pub wide: bool,
     /// Whether it is read in face II.
     pub second: bool,
-    /// What is read. Last, so that a reading takes 32 bytes and not 40.
+    /// Its direction and its zenith angle, in units of 0.00001 gon.
+    pub angles: Angles,
+    /// What is read. Last, so that a reading takes 40 bytes and not 48.
     pub target: Name,
 }

@@ -1,6 +1,12 @@
 -- Texts that are added one after another.
 use Rattle.std.proofs.Common.{◌≡◌, ℕ, List, ◌++◌, append_assoc, ap, ◌∙◌, refl}
 
+-- Two texts after one.
+pub two_joined : (text a b first second : List ℕ) → first ≡ text ++ a → second ≡ first ++ b
+    → second ≡ text ++ (a ++ b)
+two_joined text a b first second ea eb =
+    eb ∙ ap (λ (t : List ℕ). t ++ b) ea ∙ append_assoc text a b
+
 -- Three texts after one.
 pub three_joined : (text a b c first second third : List ℕ) → first ≡ text ++ a
     → second ≡ first ++ b → third ≡ second ++ c → third ≡ text ++ (a ++ (b ++ c))

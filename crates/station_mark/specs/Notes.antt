@@ -1,14 +1,17 @@
 -- What is told of the stations of a field file, as text: to be compared with the field book
 -- (profile).
-use Rattle.std.specs.Prelude.{ℕ, Bool, false, ◌&&◌, not, List, [], ◌∷◌, ◌++◌, ◌==◌}
+use Rattle.std.specs.Prelude.{ℕ, ◌+◌, ◌/◌, Bool, false, ◌&&◌, not, List, [], ◌∷◌, ◌++◌, ◌==◌}
 use Rattle.std.specs.Prelude.{if◌then◌else◌, Option, Some, None, codes, decimal}
 use Rattle.std.specs.Str.{bytes_eq}
 use Rattle.station_book.specs.Places.{is_among, with_new}
 use Rattle.set_marks.specs.FaultNames.{mark_kind_name}
+use Rattle.set_marks.specs.Zeniths.{spread}
+use Rattle.set_marks.specs.declared.equal_sets.SetPair.{SetPair}
 use Rattle.set_marks.specs.declared.flaw.Flaw.{Flaw}
 use Rattle.set_marks.specs.declared.marked.Marked.{Marked}
 use Rattle.set_marks.specs.declared.recognized.Recognized.{Recognized}
 use Rattle.set_marks.specs.declared.remarks.Remarks.{Remarks}
+use Rattle.set_marks.specs.declared.zeniths.ZenithRange.{ZenithRange}
 
 -- the ending of a word for this many: none for one
 abbrev pub plural : ℕ → List ℕ
@@ -99,11 +102,52 @@ others_text m =
     counted m.others (codes "target")
     ++ codes " after the sets in both faces: of another station?"
 
+-- that sets which are read by targets are followed by a reading of the target that opens them:
+-- `TOWER is read again after the sets: is a reading of theirs missing?`
+abbrev pub opened_again_text : Remarks → List ℕ
+opened_again_text m =
+    m.opening ++ codes " is read again after the sets: is a reading of theirs missing?"
+
+-- the line that says so, where it is so
+abbrev pub opened_again_line : List ℕ → Remarks → List ℕ
+opened_again_line name m =
+    if m.opened_again then note_line name (opened_again_text m) else []
+
+-- that two sets are equal: `sets 1 and 3 are the same to the last digit`
+abbrev pub pair_text : SetPair → List ℕ
+pair_text p =
+    codes "sets " ++ (decimal p.earlier ++ (codes " and " ++ (decimal p.later
+    ++ codes " are the same to the last digit")))
+
+-- the lines of these pairs of sets
+abbrev pub pair_lines : List ℕ → List SetPair → List ℕ
+pair_lines name [] = []
+pair_lines name (p ∷ ps) = note_line name (pair_text p) ++ pair_lines name ps
+
+-- Units of 0.00001 gon in whole mgon, 100 in each: the nearest number, and of two as near the
+-- greater one.
+abbrev pub whole_mgon : ℕ → ℕ
+whole_mgon units = (units + 50) / 100
+
+-- how far apart the zenith angles of a target are: `the zenith angles of MAST differ by 84 mgon`
+abbrev pub zeniths_text : ZenithRange → List ℕ
+zeniths_text z =
+    codes "the zenith angles of " ++ (z.target ++ (codes " differ by "
+    ++ (decimal (whole_mgon (spread z)) ++ codes " mgon")))
+
+-- the lines of these targets
+abbrev pub zenith_lines : List ℕ → List ZenithRange → List ℕ
+zenith_lines name [] = []
+zenith_lines name (z ∷ zs) = note_line name (zeniths_text z) ++ zenith_lines name zs
+
 -- the lines of what is told of a station's sets beyond their numbers, where it has any
 abbrev pub remarks_lines : List ℕ → Option Remarks → List ℕ
 remarks_lines name None = []
 remarks_lines name (Some m) =
-    line_of_some m.missing name (missing_text m) ++ line_of_some m.others name (others_text m)
+    line_of_some m.missing name (missing_text m)
+    ++ (line_of_some m.others name (others_text m)
+    ++ (opened_again_line name m
+    ++ (pair_lines name m.equal_sets ++ zenith_lines name m.zeniths)))
 
 -- the line of a station that is set up again, where it is
 abbrev pub again_line : Bool → List ℕ → List ℕ

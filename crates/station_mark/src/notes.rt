@@ -8,15 +8,20 @@ ghost use Rattle.station_mark.specs.Notes.{names_after, next_lines, others_text,
 ghost use Rattle.station_mark.specs.Notes.{recognized_text, remarks_lines, sets_text};
 ghost use Rattle.station_mark.specs.Notes.{station_lines, stations_text, unread_line};
 ghost use Rattle.station_mark.specs.Notes.{with_sets_text, without_sets_text};
+ghost use Rattle.station_mark.specs.Notes.{pair_lines, pair_text, zenith_lines, zeniths_text};
+ghost use Rattle.station_mark.specs.Notes.{opened_again_line, opened_again_text, whole_mgon};
 ghost use Rattle.station_mark.specs.Notes as spec;
 
 use adjust_kernel::Name;
 use itoa::Buffer;
-use set_marks::{Flaw, Names, Recognized, Remarks};
+use set_marks::{Flaw, Names, Recognized, Remarks, SetPair, ZenithRange};
 use std::alloc::{AllocError, Global};
 
 /// The last line of the notes.
 const LAST_LINE: &[u8] = b"note: compare this with the field book\n";
+
+/// Units of 0.00001 gon in a mgon.
+const UNITS_IN_MGON: usize = 100;
 
 /// The notes of a marked file: lines for each station, and that they are to be compared with the
 /// field book.
@@ -267,6 +272,9 @@ fn add_remarks(text: &mut Vec<u8>, name: &Name, remarks: Option<&Remarks>) -> Re
     if let Some(remarks) = remarks {
         add_missing(text, name, remarks)?;
         add_others(text, name, remarks)?;
+        add_opened_again(text, name, remarks)?;
+        add_pairs(text, name, remarks.equal_sets.pairs())?;
+        add_zeniths(text, name, remarks.zeniths.ranges())?;
     }
     Ok(())
 }
@@ -321,6 +329,89 @@ fn add_others(text: &mut Vec<u8>, name: &Name, remarks: &Remarks) -> Result<(), 
     text.extend_from_slice(b" after the sets in both faces: of another station?")?;
     text.extend_from_slice(b"\n")?;
     Ok(())
+}
+
+/// Adds the line of a reading of the opening target after sets that are read by targets, where there
+/// is one.
+fn add_opened_again(text: &mut Vec<u8>, name: &Name, remarks: &Remarks) -> Result<(), AllocError>
+    ensures { OnOk result (text.new.items
+        ≡ text.old.items ++ opened_again_line name.now remarks.now) }
+{
+    if !remarks.opened_again {
+        return Ok(());
+    }
+    add_head(text, name)?;
+    add_opening(text, remarks)?;
+    text.extend_from_slice(b"\n")?;
+    Ok(())
+}
+
+/// Adds that the target that opens the sets is read after them.
+fn add_opening(text: &mut Vec<u8>, remarks: &Remarks) -> Result<(), AllocError>
+    ensures { OnOk result (text.new.items ≡ text.old.items ++ opened_again_text remarks.now) }
+{
+    text.extend_from_slice(remarks.opening.bytes())?;
+    text.extend_from_slice(b" is read again after the sets: is a reading of theirs missing?")?;
+    Ok(())
+}
+
+/// Adds the lines of sets that are equal.
+fn add_pairs(text: &mut Vec<u8>, name: &Name, pairs: &[SetPair]) -> Result<(), AllocError>
+    ensures { OnOk result (text.new.items ≡ text.old.items ++ pair_lines name.now pairs.now) }
+{
+    let mut left = pairs;
+    'pairs: while let Some((pair, rest)) = left.split_first() {
+        add_head(text, name)?;
+        add_pair(text, pair)?;
+        text.extend_from_slice(b"\n")?;
+        left = rest;
+    }
+    Ok(())
+}
+
+/// Adds that two sets are equal.
+fn add_pair(text: &mut Vec<u8>, pair: &SetPair) -> Result<(), AllocError>
+    ensures { OnOk result (text.new.items ≡ text.old.items ++ pair_text pair.now) }
+{
+    text.extend_from_slice(b"sets ")?;
+    add_count(text, pair.earlier)?;
+    text.extend_from_slice(b" and ")?;
+    add_count(text, pair.later)?;
+    text.extend_from_slice(b" are the same to the last digit")?;
+    Ok(())
+}
+
+/// Adds the lines of targets whose zenith angles differ.
+fn add_zeniths(text: &mut Vec<u8>, name: &Name, ranges: &[ZenithRange]) -> Result<(), AllocError>
+    ensures { OnOk result (text.new.items ≡ text.old.items ++ zenith_lines name.now ranges.now) }
+{
+    let mut left = ranges;
+    'targets: while let Some((range, rest)) = left.split_first() {
+        add_head(text, name)?;
+        add_spread(text, range)?;
+        text.extend_from_slice(b"\n")?;
+        left = rest;
+    }
+    Ok(())
+}
+
+/// Adds how far apart the zenith angles of a target are.
+fn add_spread(text: &mut Vec<u8>, range: &ZenithRange) -> Result<(), AllocError>
+    ensures { OnOk result (text.new.items ≡ text.old.items ++ zeniths_text range.now) }
+{
+    text.extend_from_slice(b"the zenith angles of ")?;
+    text.extend_from_slice(range.target.bytes())?;
+    text.extend_from_slice(b" differ by ")?;
+    add_count(text, whole_mgon(range.spread()))?;
+    text.extend_from_slice(b" mgon")?;
+    Ok(())
+}
+
+/// Units of 0.00001 gon in whole mgon: the nearest number, and of two as near the greater one.
+fn whole_mgon(units: u32) -> usize
+    ensures { result ≡ whole_mgon units }
+{
+    (units as usize + UNITS_IN_MGON / 2) / UNITS_IN_MGON
 }
 
 /// Adds so many of a thing.

@@ -1,7 +1,7 @@
 use adjust_kernel::Name;
 use set_marks::{
-    Beginnings, MarkFault, MarkKind, NamedNumber, Recognized, Refused, Stated, StatedNumber,
-    mark_file, marked_copy,
+    Beginnings, MarkFault, MarkKind, NamedNumber, Recognized, Refused, Remarks, Stated,
+    StatedNumber, mark_file, marked_copy,
 };
 use station_book::BookKind;
 use std::alloc::Global;
@@ -140,7 +140,7 @@ fn rows_are_marked(rt: HostRuntime) {
 #[test]
 fn each_fault_stands_at_its_block(rt: HostRuntime) {
     let a = rt.alloc();
-    let rows: [(&[u8], u32, MarkKind); 41] = [
+    let rows: [(&[u8], u32, MarkKind); 47] = [
         (b"1pA1B1B2A2++2pA1B1B2A2", 5, MarkKind::TwoLines),
         (b"A1B1++c2B2A2", 2, MarkKind::TwoLines),
         (b"A1c2++B1B2A2", 2, MarkKind::TwoLines),
@@ -166,7 +166,13 @@ fn each_fault_stands_at_its_block(rt: HostRuntime) {
         (b"1pA1B1B2A22pA1A2", 8, MarkKind::FaceMissing),
         (b"A1B1B2A2A1A2B1B2", 7, MarkKind::Order),
         (b"A1A2B1B2C1C2A1A2B1B2", 10, MarkKind::EndsElsewhere),
-        (b"A2A1B1B2A2A1B1B2", 1, MarkKind::FirstFace),
+        (b"B1A2C2B2B1C1A1", 2, MarkKind::FirstFace),
+        (b"A1A2B2B1A1A2B2B1A1", 2, MarkKind::FirstFace),
+        (b"A2A1B1B2A2A1B1B2", 1, MarkKind::ByTargets),
+        (b"A1B1B2A2A1B1B2A2A1", 2, MarkKind::MayBeShifted),
+        (b"A1B1B2A2A1B1B2A2A1A2", 10, MarkKind::ReadTwice),
+        (b"A1B1C1C2B2A2A1B1C1C2B2A2B1B2", 14, MarkKind::ReadTwice),
+        (b"A1A2B1B2C1C2A1A2B1B2C1C2A1B1C1C2B2A2", 16, MarkKind::Order),
         (b"B1B2A1A2B1B2A1A2B1B2", 3, MarkKind::MayBeShifted),
         (b"B1A1A2B2B1A1A2B2B1", 2, MarkKind::MayBeShifted),
         (b"A1A2B1B2C1C2D1D2", 1, MarkKind::ByTargets),
@@ -189,6 +195,51 @@ fn each_fault_stands_at_its_block(rt: HostRuntime) {
     ];
     for (text, block, kind) in rows {
         assert!(rt; fault(a, text, nothing(a)) == Some(MarkFault::At(block, kind)));
+    }
+}
+
+/// How many sets the station P7 has, and how many readings stand before and after them.
+fn numbers_told(alloc: Global, text: &[u8], stated: Stated) -> Option<(usize, usize, usize)> {
+    let bytes = file(alloc, text)?;
+    let marked = mark_file(alloc, &bytes, false, named(Name::new(b"P7")), stated).ok()?;
+    let station = marked.stations.as_slice().first()?;
+    Some((station.sets, station.before, station.after))
+}
+
+// Check sights, a check of the opening target, more than three leading readings, and sets that are
+// begun in face II, as a plain program of the rule divides them.
+#[test]
+fn what_begins_and_ends_a_station_stands_outside(rt: HostRuntime) {
+    let a = rt.alloc();
+    let rows: [(&[u8], Option<u32>, (usize, usize, usize)); 25] = [
+        (b"A1B1C1C2B2A2A1B1C1C2B2A2A1", None, (2, 0, 1)),
+        (b"A1B1C1C2B2A2A1B1C1C2B2A2A1B1C1", None, (2, 0, 3)),
+        (b"A1B1C1A2B2C2A1B1C1A2B2C2A1", None, (2, 0, 1)),
+        (b"C1A1B1C1C2B2A2A1B1C1C2B2A2A1B1", None, (2, 1, 2)),
+        (b"A1B1C1C2B2A2A1", None, (1, 0, 1)),
+        (b"A1B1C1C2B2A2B1A1C1", None, (1, 0, 3)),
+        (b"A1A2B1B2C1C2A1A2B1B2C1C2A1", Some(2), (2, 0, 1)),
+        (b"A1B1B2A2A1B1B2A2d1A1", None, (2, 0, 2)),
+        (b"A1A2B1B2A1A2B1B2e1B1", Some(2), (2, 0, 2)),
+        (b"A1B1C1C2B2A2A1B1C1C2B2A2A1A2", None, (2, 0, 2)),
+        (b"A1B1C1C2B2A2A1A2", None, (1, 0, 2)),
+        (b"A1B1B2A2A1B1B2A2d1A1A2", None, (2, 0, 3)),
+        (b"A1B1C1C2B2A2A1B1C1C2B2A2D1D2A1A2", None, (2, 0, 4)),
+        (b"A1A2B1B2C1C2A1B1C1C2B2A2", None, (1, 6, 0)),
+        (b"A1A2B1B2A1B1C1D1D2C2B2A2", None, (1, 4, 0)),
+        (b"A1A2B1B2C1C2A1B1C1C2B2A2A1B1C1C2B2A2", None, (2, 6, 0)),
+        (b"A1B1C1D1E1A1B1C1D1E1E2D2C2B2A2", None, (1, 5, 0)),
+        (b"A1B1C1A1B1C1A1B1C1C2B2A2A1B1C1C2B2A2", None, (2, 6, 0)),
+        (b"A2B2B1A1A2B2B1A1", None, (2, 0, 0)),
+        (b"A2A1B2B1A2A1B2B1", Some(2), (2, 0, 0)),
+        (b"A1A2B2B1A1A2B2B1", Some(2), (2, 0, 0)),
+        (b"C1A2B2B1A1A2B2B1A1", None, (2, 1, 0)),
+        (b"A2B2C2C1B1A1A2A1", None, (1, 0, 2)),
+        (b"d1A1B1C1C2B2A2A1B1C1C2B2A2A1e1", None, (2, 1, 2)),
+        (b"d1A1B1C1C2B2A2A1B1C1C2B2A2e1A1A2", None, (2, 1, 3)),
+    ];
+    for (text, sets, told) in rows {
+        assert!(rt; numbers_told(a, text, numbers(a, sets, None)) == Some(told));
     }
 }
 
@@ -351,6 +402,138 @@ fn a_second_set_up_of_a_name_is_called_apart_where_that_is_stated(rt: HostRuntim
     }
 }
 
+/// A reading of the station P7: the name of its target, its direction and its zenith angle, in units
+/// of 0.00001 gon.
+type Read = (u8, u32, u32);
+
+/// The last digit of a number.
+fn last_digit(number: u32) -> u8 {
+    b'0' + (number % 10) as u8
+}
+
+/// The eight digits of a number.
+fn digits_of(number: u32) -> [u8; 8] {
+    [
+        last_digit(number / 10_000_000),
+        last_digit(number / 1_000_000),
+        last_digit(number / 100_000),
+        last_digit(number / 10_000),
+        last_digit(number / 1_000),
+        last_digit(number / 100),
+        last_digit(number / 10),
+        last_digit(number),
+    ]
+}
+
+/// The bytes of a field file of GSI-8 with these readings.
+fn file_of(alloc: Global, reads: &[Read]) -> Option<Vec<u8>> {
+    let mut bytes = Vec::new(alloc);
+    for (target, direction, zenith) in reads {
+        bytes.extend_from_slice(b"11....+0000000").ok()?;
+        bytes.push(*target).ok()?;
+        bytes.extend_from_slice(b" 21.102+").ok()?;
+        bytes.extend_from_slice(&digits_of(*direction)).ok()?;
+        bytes.extend_from_slice(b" 22.102+").ok()?;
+        bytes.extend_from_slice(&digits_of(*zenith)).ok()?;
+        bytes.push(b'\n').ok()?;
+    }
+    Some(bytes)
+}
+
+/// What is told of these readings, beyond the numbers of their sets.
+fn remarks_of(alloc: Global, reads: &[Read]) -> Option<Remarks> {
+    let bytes = file_of(alloc, reads)?;
+    let beginnings = named(Name::new(b"P7"));
+    let mut marked = mark_file(alloc, &bytes, false, beginnings, nothing(alloc)).ok()?;
+    marked.stations.pop()?.remarks
+}
+
+#[test]
+fn equal_sets_are_told_in_pairs(rt: HostRuntime) {
+    let a = rt.alloc();
+    // Set 3 is the first once more, set 4 the second in another order; set 5 differs from the first
+    // by the last digit of a direction, set 6 by that of a zenith angle, set 7 by a target.
+    let reads = [
+        (b'A', 100, 9_000),
+        (b'B', 200, 9_000),
+        (b'B', 300, 39_991_000),
+        (b'A', 400, 39_991_000),
+        (b'A', 101, 9_000),
+        (b'B', 201, 9_000),
+        (b'B', 301, 39_991_000),
+        (b'A', 401, 39_991_000),
+        (b'A', 100, 9_000),
+        (b'B', 200, 9_000),
+        (b'B', 300, 39_991_000),
+        (b'A', 400, 39_991_000),
+        (b'A', 401, 39_991_000),
+        (b'B', 301, 39_991_000),
+        (b'B', 201, 9_000),
+        (b'A', 101, 9_000),
+        (b'A', 100, 9_000),
+        (b'B', 200, 9_000),
+        (b'B', 300, 39_991_000),
+        (b'A', 401, 39_991_000),
+        (b'A', 100, 9_000),
+        (b'B', 200, 9_001),
+        (b'B', 300, 39_991_000),
+        (b'A', 400, 39_991_000),
+        (b'A', 100, 9_000),
+        (b'C', 250, 9_000),
+        (b'B', 200, 9_000),
+        (b'B', 300, 39_991_000),
+        (b'C', 350, 39_991_000),
+        (b'A', 400, 39_991_000),
+    ];
+    let Some(remarks) = remarks_of(a, &reads) else {
+        assert!(rt; false);
+        return;
+    };
+    let pairs = [(1, 3), (2, 4)];
+    assert!(rt; remarks.equal_sets.pairs().len() == pairs.len());
+    for (pair, (earlier, later)) in remarks.equal_sets.pairs().iter().zip(pairs) {
+        assert!(rt; pair.earlier == earlier && pair.later == later);
+    }
+    assert!(rt; remarks.zeniths.ranges().is_empty());
+}
+
+#[test]
+fn zenith_angles_that_differ_by_more_than_20_mgon_are_told(rt: HostRuntime) {
+    let a = rt.alloc();
+    // Those of A differ by 20 mgon, those of D by a unit more, in face II; a reading outside of the
+    // sets counts for nothing.
+    let reads = [
+        (b'A', 1, 7_000),
+        (b'A', 100, 9_000),
+        (b'D', 200, 8_000),
+        (b'C', 300, 9_000),
+        (b'B', 400, 9_000),
+        (b'B', 500, 39_991_000),
+        (b'C', 600, 39_991_000),
+        (b'D', 700, 39_989_999),
+        (b'A', 800, 39_991_000),
+        (b'A', 101, 11_000),
+        (b'D', 201, 9_000),
+        (b'C', 301, 9_500),
+        (b'B', 401, 6_000),
+        (b'B', 501, 39_991_000),
+        (b'C', 601, 39_991_000),
+        (b'D', 701, 39_991_000),
+        (b'A', 801, 39_990_000),
+    ];
+    let Some(remarks) = remarks_of(a, &reads) else {
+        assert!(rt; false);
+        return;
+    };
+    let ranges = [(b"D", 8_000, 10_001), (b"B", 6_000, 9_000)];
+    assert!(rt; remarks.zeniths.ranges().len() == ranges.len());
+    for (range, (target, least, greatest)) in remarks.zeniths.ranges().iter().zip(ranges) {
+        assert!(rt; range.target.bytes() == target.as_slice());
+        assert!(rt; range.least == least && range.greatest == greatest);
+    }
+    assert!(rt; remarks.equal_sets.pairs().is_empty());
+}
+
 /// The names of the stations that are told, with the blocks of their faults, 0 for none.
 fn told(stations: &[Recognized]) -> [(u8, u32); 3] {
     let mut told = [(0, 0); 3];
@@ -507,8 +690,10 @@ fn stated_so(station: &[u8], same_set_up: bool, code: &[u8]) -> Beginnings {
 #[test]
 fn stations_begin_as_is_stated(rt: HostRuntime) {
     let a = rt.alloc();
-    let face_missing = |block| Some((block, MarkKind::FaceMissing));
-    let rows: [(&[u8], (&[u8], bool, &[u8]), Option<(u32, MarkKind)>); 17] = [
+    let at = |block, kind| Some(MarkFault::At(block, kind));
+    let face_missing = |block| at(block, MarkKind::FaceMissing);
+    let unnamed = |block| Some(MarkFault::Reading(block, BookKind::StationName));
+    let rows: [(&[u8], (&[u8], bool, &[u8]), Option<MarkFault>); 17] = [
         (b"1pA1B11pB2A2", (b"", false, b""), face_missing(6)),
         (b"1pA1B11pB2A2", (b"", true, b""), None),
         (b"1p1pA1B1B2A2", (b"", true, b""), None),
@@ -516,39 +701,35 @@ fn stations_begin_as_is_stated(rt: HostRuntime) {
         (
             b"1pA1B1B2A22pA1B1B2A21pA1B1B2A2",
             (b"", true, b""),
-            Some((12, MarkKind::StationTwice)),
+            at(12, MarkKind::StationTwice),
         ),
-        (
-            b"A1B17pB2A2",
-            (b"7", true, b""),
-            Some((3, MarkKind::HasSetUp)),
-        ),
+        (b"A1B17pB2A2", (b"7", true, b""), at(3, MarkKind::HasSetUp)),
         (b"k1A1B1B2A2k2A1B1B2A2", (b"", false, b"47"), None),
         (b"k1A1B1B2A2k2A1B1B2A2", (b"", false, b"0047"), None),
         (
             b"k1A1B1B2A2k2A1B1B2A2",
             (b"", false, b"48"),
-            Some((2, MarkKind::NoSetUp)),
+            at(2, MarkKind::NoSetUp),
         ),
         (
             b"k1A1B1B2A2k2A1B1B2A2",
             (b"", false, b""),
-            Some((2, MarkKind::NoSetUp)),
+            at(2, MarkKind::NoSetUp),
         ),
-        (b"k1A1B1k-B2A2", (b"", false, b"47"), None),
+        (b"k1A1B1k-B2A2", (b"", false, b"47"), unnamed(4)),
         (b"k1A1B1k1B2A2", (b"", false, b"47"), face_missing(6)),
         (b"k1A1B1k1B2A2", (b"", true, b"47"), None),
         (b"1pA1B1k1B2A2", (b"", true, b"47"), None),
         (
             b"A1B1k2B2A2",
             (b"P7", false, b"47"),
-            Some((3, MarkKind::HasSetUp)),
+            at(3, MarkKind::HasSetUp),
         ),
-        (b"A1B1k-B2A2", (b"P7", false, b"47"), None),
+        (b"A1B1k-B2A2", (b"P7", false, b"47"), unnamed(3)),
         (
             b"c1A1B1B2A2",
             (b"", false, b"10"),
-            Some((1, MarkKind::HasCodes)),
+            at(1, MarkKind::HasCodes),
         ),
     ];
     for (text, (station, same_set_up, code), refused) in rows {
@@ -556,21 +737,15 @@ fn stations_begin_as_is_stated(rt: HostRuntime) {
         let Some(bytes) = file(a, text) else {
             return;
         };
-        match refused {
-            Some((block, kind)) => {
-                let answer = copy_of(a, &bytes, beginnings, nothing(a)).err();
-                let fault = answer.map(|refused| refused.fault());
-                assert!(rt; fault == Some(MarkFault::At(block, kind)));
-            }
-            None => assert!(rt; copy_of(a, &bytes, beginnings, nothing(a)).is_ok()),
-        }
+        let answer = copy_of(a, &bytes, beginnings, nothing(a)).err();
+        assert!(rt; answer.map(|refused| refused.fault()) == refused);
     }
 }
 
 #[test]
 fn a_code_block_names_the_station_that_it_begins(rt: HostRuntime) {
     let a = rt.alloc();
-    let Some(bytes) = file(a, b"1pA1B1B2A2k-k2A1B1B2A2") else {
+    let Some(bytes) = file(a, b"1pA1B1B2A2k2A1B1B2A2") else {
         return;
     };
     let beginnings = stated_so(b"", false, b"47");

@@ -3,7 +3,10 @@
 use adjust_kernel::Name;
 use byte_ends::{Held, OfWrite, Script};
 use gsi_file::{FileFault, FileKind};
-use set_marks::{Beginnings, Flaw, MarkFault, MarkKind, Recognized, Remarks, Stated, StatedNumber};
+use set_marks::{
+    Beginnings, Flaw, MarkFault, MarkKind, Recognized, Remarks, SetPair, SetPairs, Stated,
+    StatedNumber, ZenithRange, ZenithRanges,
+};
 use station_book::BookKind;
 use station_mark::{PrintFault, notes_text, refusal_line, run_mark};
 use std::alloc::Global;
@@ -23,10 +26,10 @@ const JOB: &[u8] = b"110001+000000P1 88..10+00001543\n\
 110003+0000000B 21.102+13333326 22.102+10000000\n\
 110004+0000000B 21.102+33333333 22.102+30000003\n\
 110005+0000000A 21.102+32222222 22.102+30000003\n\
-110006+0000000A 21.102+12222215 22.102+10000000\n\
-110007+0000000B 21.102+13333326 22.102+10000000\n\
-110008+0000000B 21.102+33333333 22.102+30000003\n\
-110009+0000000A 21.102+32222222 22.102+30000003\n\
+110006+0000000A 21.102+12222216 22.102+10000000\n\
+110007+0000000B 21.102+13333327 22.102+10000000\n\
+110008+0000000B 21.102+33333334 22.102+30000003\n\
+110009+0000000A 21.102+32222223 22.102+30000003\n\
 110010+0000000D 21.102+15555548 22.102+10000000\n\
 110011+0000000E 21.102+16666659 22.102+10000000\n\
 110012+000000P2 88..10+00001543\n\
@@ -41,10 +44,10 @@ const COPY: &[u8] = b"110001+000000P1 88..10+00001543\n\
 110004+0000000B 21.102+33333333 22.102+30000003\n\
 110005+0000000A 21.102+32222222 22.102+30000003\n\
 41....+00000020 42....+00000002\n\
-110006+0000000A 21.102+12222215 22.102+10000000\n\
-110007+0000000B 21.102+13333326 22.102+10000000\n\
-110008+0000000B 21.102+33333333 22.102+30000003\n\
-110009+0000000A 21.102+32222222 22.102+30000003\n\
+110006+0000000A 21.102+12222216 22.102+10000000\n\
+110007+0000000B 21.102+13333327 22.102+10000000\n\
+110008+0000000B 21.102+33333334 22.102+30000003\n\
+110009+0000000A 21.102+32222223 22.102+30000003\n\
 41....+00000030\n\
 110010+0000000D 21.102+15555548 22.102+10000000\n\
 110011+0000000E 21.102+16666659 22.102+10000000\n\
@@ -210,7 +213,7 @@ refused: block 2: mark: SetCount\n";
 }
 
 /// A station of this name with one set of two targets and no other reading.
-fn with_sets(rt: &impl Abort, name: &[u8]) -> Recognized {
+fn with_sets(rt: &impl Abort, alloc: Global, name: &[u8]) -> Recognized {
     let target = Name::new(b"SIXTEEN OF BYTES").expect(rt, "name");
     Recognized {
         name: Name::new(name).expect(rt, "name"),
@@ -226,26 +229,35 @@ fn with_sets(rt: &impl Abort, name: &[u8]) -> Recognized {
             directions: 2,
             missing: 0,
             others: 0,
+            opened_again: false,
+            equal_sets: SetPairs::new(alloc),
+            zeniths: ZenithRanges::new(alloc),
         }),
     }
 }
 
 /// A station of this name without sets, and with so many readings.
-fn without_sets(rt: &impl Abort, name: &[u8], readings: usize) -> Recognized {
+fn without_sets(rt: &impl Abort, alloc: Global, name: &[u8], readings: usize) -> Recognized {
     Recognized {
         sets: 0,
         targets: 0,
         before: readings,
         remarks: None,
-        ..with_sets(rt, name)
+        ..with_sets(rt, alloc, name)
     }
 }
 
 /// A station of this name with a fault, and with so many readings.
-fn with_a_fault(rt: &impl Abort, name: &[u8], flaw: Flaw, readings: usize) -> Recognized {
+fn with_a_fault(
+    rt: &impl Abort,
+    alloc: Global,
+    name: &[u8],
+    flaw: Flaw,
+    readings: usize,
+) -> Recognized {
     Recognized {
         fault: Some(flaw),
-        ..without_sets(rt, name, readings)
+        ..without_sets(rt, alloc, name, readings)
     }
 }
 
@@ -301,14 +313,14 @@ SIXTEEN OF BYTES to SIXTEEN OF BYTES; 18446744073709551615 readings before them 
             targets,
             before,
             after,
-            ..with_sets(&rt, b"P1")
+            ..with_sets(&rt, alloc, b"P1")
         };
         expect_told(&rt, alloc, &[station], want)?;
     }
     let one: &[u8] = b"note: station P1: no sets; 1 reading stays outside\n";
-    expect_told(&rt, alloc, &[without_sets(&rt, b"P1", 1)], one)?;
+    expect_told(&rt, alloc, &[without_sets(&rt, alloc, b"P1", 1)], one)?;
     let many: &[u8] = b"note: station P1: no sets; 37 readings stay outside\n";
-    expect_told(&rt, alloc, &[without_sets(&rt, b"P1", 37)], many)
+    expect_told(&rt, alloc, &[without_sets(&rt, alloc, b"P1", 37)], many)
 }
 
 #[test]
@@ -316,40 +328,61 @@ fn what_is_missing_or_of_another_station_is_told(rt: HostRuntime) -> Result<(), 
     let alloc = rt.alloc();
     let numbers: &[u8] = b"note: station P1: 1 set, 2 targets, from SIXTEEN OF BYTES to SIXTEEN OF \
 BYTES; 0 readings before them and 0 after stay outside\n";
-    let cases: [(usize, usize, usize, &[u8]); 4] = [
+    let cases: [(usize, usize, usize, bool, &[u8]); 6] = [
         (
             28,
             4,
             0,
+            false,
             b"note: station P1: 4 of 28 directions are missing\n",
         ),
         (
             28,
             1,
             0,
+            false,
             b"note: station P1: 1 of 28 directions is missing\n",
         ),
         (
             28,
             0,
             2,
+            false,
             b"note: station P1: 2 targets after the sets in both faces: of another station?\n",
         ),
         (
             28,
             3,
             1,
+            false,
             b"note: station P1: 3 of 28 directions are missing\n\
 note: station P1: 1 target after the sets in both faces: of another station?\n",
         ),
+        (
+            28,
+            0,
+            0,
+            true,
+            b"note: station P1: SIXTEEN OF BYTES is read again after the sets: is a reading of \
+theirs missing?\n",
+        ),
+        (
+            28,
+            0,
+            1,
+            true,
+            b"note: station P1: 1 target after the sets in both faces: of another station?\n\
+note: station P1: SIXTEEN OF BYTES is read again after the sets: is a reading of theirs missing?\n",
+        ),
     ];
-    for (directions, missing, others, want) in cases {
-        let mut station = with_sets(&rt, b"P1");
+    for (directions, missing, others, opened_again, want) in cases {
+        let mut station = with_sets(&rt, alloc, b"P1");
         let remarks = station.remarks.expect(&rt, "remarks");
         station.remarks = Some(Remarks {
             directions,
             missing,
             others,
+            opened_again,
             ..remarks
         });
         let mut all = Vec::new(alloc);
@@ -360,16 +393,94 @@ note: station P1: 1 target after the sets in both faces: of another station?\n",
     Ok(())
 }
 
+/// A station of one set, of which these pairs of sets are equal, and whose zenith angles of the
+/// target MAST, in units of 0.00001 gon, are these at least and at most.
+fn doubtful(
+    rt: &impl Abort,
+    alloc: Global,
+    pairs: &[(usize, usize)],
+    zeniths: &[(u32, u32)],
+) -> Result<Recognized, Fail> {
+    let mut station = with_sets(rt, alloc, b"P1");
+    let mut remarks = station.remarks.expect(rt, "remarks");
+    for (earlier, later) in pairs {
+        let pair = SetPair {
+            earlier: *earlier,
+            later: *later,
+        };
+        remarks.equal_sets.add(pair).map_err(|_| "no memory")?;
+    }
+    for (least, greatest) in zeniths {
+        let range = ZenithRange {
+            least: *least,
+            greatest: *greatest,
+            target: Name::new(b"MAST").expect(rt, "name"),
+        };
+        remarks.zeniths.add(range).map_err(|_| "no memory")?;
+    }
+    station.remarks = Some(remarks);
+    Ok(station)
+}
+
+/// Pairs of sets, the least and the greatest zenith angles of targets, and what is told of them.
+type Doubts<'a> = (&'a [(usize, usize)], &'a [(u32, u32)], &'a [u8]);
+
+#[test]
+fn equal_sets_and_zenith_angles_that_differ_are_told(rt: HostRuntime) -> Result<(), Fail> {
+    let alloc = rt.alloc();
+    let numbers: &[u8] = b"note: station P1: 1 set, 2 targets, from SIXTEEN OF BYTES to SIXTEEN OF \
+BYTES; 0 readings before them and 0 after stay outside\n";
+    let cases: [Doubts; 5] = [
+        (
+            &[(1, 3)],
+            &[],
+            b"note: station P1: sets 1 and 3 are the same to the last digit\n",
+        ),
+        (
+            &[(1, 2), (usize::MAX, 40)],
+            &[],
+            b"note: station P1: sets 1 and 2 are the same to the last digit\n\
+note: station P1: sets 18446744073709551615 and 40 are the same to the last digit\n",
+        ),
+        (
+            &[],
+            &[(9_991_600, 10_000_000)],
+            b"note: station P1: the zenith angles of MAST differ by 84 mgon\n",
+        ),
+        (
+            &[],
+            &[(0, 2_049), (0, 2_050), (0, u32::MAX)],
+            b"note: station P1: the zenith angles of MAST differ by 20 mgon\n\
+note: station P1: the zenith angles of MAST differ by 21 mgon\n\
+note: station P1: the zenith angles of MAST differ by 42949673 mgon\n",
+        ),
+        (
+            &[(2, 4)],
+            &[(5, 2_006)],
+            b"note: station P1: sets 2 and 4 are the same to the last digit\n\
+note: station P1: the zenith angles of MAST differ by 20 mgon\n",
+        ),
+    ];
+    for (pairs, zeniths, want) in cases {
+        let mut all = Vec::new(alloc);
+        all.extend_from_slice(numbers).map_err(|_| "no memory")?;
+        all.extend_from_slice(want).map_err(|_| "no memory")?;
+        let station = doubtful(&rt, alloc, pairs, zeniths)?;
+        expect_told(&rt, alloc, &[station], &all)?;
+    }
+    Ok(())
+}
+
 #[test]
 fn a_name_that_comes_again_is_told_where_readings_follow(rt: HostRuntime) -> Result<(), Fail> {
     let alloc = rt.alloc();
     let stations = [
-        without_sets(&rt, b"P1", 0),
-        without_sets(&rt, b"P1", 2),
-        without_sets(&rt, b"P2", 0),
-        without_sets(&rt, b"P1", 0),
-        without_sets(&rt, b"P1", 3),
-        without_sets(&rt, b"P2", 0),
+        without_sets(&rt, alloc, b"P1", 0),
+        without_sets(&rt, alloc, b"P1", 2),
+        without_sets(&rt, alloc, b"P2", 0),
+        without_sets(&rt, alloc, b"P1", 0),
+        without_sets(&rt, alloc, b"P1", 3),
+        without_sets(&rt, alloc, b"P2", 0),
     ];
     let want: &[u8] = b"note: station P1: no sets; 2 readings stay outside\n\
 note: station P2: no readings\n\
@@ -401,7 +512,7 @@ fn a_station_with_a_fault_is_told_with_it(rt: HostRuntime) -> Result<(), Fail> {
         expect_told(
             &rt,
             alloc,
-            &[with_a_fault(&rt, b"P1", Flaw { block, kind }, readings)],
+            &[with_a_fault(&rt, alloc, b"P1", Flaw { block, kind }, readings)],
             want,
         )?;
     }
@@ -410,9 +521,9 @@ fn a_station_with_a_fault_is_told_with_it(rt: HostRuntime) -> Result<(), Fail> {
         kind: MarkKind::StationTwice,
     };
     let stations = [
-        without_sets(&rt, b"P1", 2),
-        with_a_fault(&rt, b"P1", flaw, 3),
-        without_sets(&rt, b"P1", 4),
+        without_sets(&rt, alloc, b"P1", 2),
+        with_a_fault(&rt, alloc, b"P1", flaw, 3),
+        without_sets(&rt, alloc, b"P1", 4),
     ];
     let want: &[u8] = b"note: station P1: no sets; 2 readings stay outside\n\
 note: station P1: set up again\n\

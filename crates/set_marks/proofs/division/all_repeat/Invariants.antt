@@ -1,5 +1,6 @@
 use Rattle.std.proofs.Common.{◌≡◌, length}
-use Rattle.set_marks.specs.Divisions.{stranger_among, parts_at, cut_end}
+use Rattle.set_marks.specs.Divisions.{parts_at, cut_end}
+use Rattle.set_marks.specs.Doubts.{stranger_among}
 use Rattle.set_marks.proofs.division.all_repeat.Given as goal
 
 abbrev pub invariant-sets : goal.invariant-sets

@@ -35,4 +35,4 @@ returns-then-count-ge-MOST_SETS c =
     (cut_end c.args.starts.now c.args.sights.now) l c.args.sights.now) (sym split)
     ∙ c.sets.invariant.found)
     ∙ ap (λ f. sets_flaw f 0 (cut_end c.args.starts.now c.args.sights.now) c.args.starts.now
-    c.args.sights.now) c.first_cut-first.ensures
+    c.args.sights.now) c.first_cut-first.ensures.cut

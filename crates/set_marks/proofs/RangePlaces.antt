@@ -1,0 +1,92 @@
+-- Where the range of a target stands among ranges, each of another target.
+use Rattle.std.proofs.Common.{◌≡◌, ℕ, zero, suc, true, false, ◌||◌, List, [], ◌∷◌, ◌++◌}
+use Rattle.std.proofs.Common.{refl, sym, ap, ◌∙◌, inl, inr}
+use Rattle.std.specs.Prelude.{slice_get, slice_set, Some, None}
+use Rattle.std.specs.Str.{bytes_eq}
+use Rattle.std.proofs.lemmas.Bool.{cases_Bool, false≢true}
+use Rattle.std.proofs.lemmas.Slice.Eq.{bytes_eq-Decides}
+use Rattle.station_book.proofs.lists.Elements.{same_bytes}
+use Rattle.set_marks.specs.declared.sight.Sight.{Sight}
+use Rattle.set_marks.specs.declared.zeniths.ZenithRange.{ZenithRange}
+use Rattle.set_marks.specs.Ranging.{IsUnique, has_range, place_in}
+use Rattle.set_marks.specs.Zeniths.{range_of, with_angle, with_reading, zenith_in_one}
+
+-- A range at a place is among them.
+there : (zs : List ZenithRange) (place : ℕ) (z : ZenithRange) (name : List ℕ)
+    → slice_get zs place ≡ Some z → bytes_eq z.target name ≡ true → has_range name zs ≡ true
+there [] place z name is e = cc
+there (y ∷ zs) zero z name is e =
+    let same : y ≡ z = cc in rw (same, e) refl
+there (y ∷ zs) (suc place) z name is e = elim (cases_Bool (bytes_eq y.target name)) [
+  | inl h ↦ rw h refl
+  | inr h ↦ rw h (there zs place z name is e)
+]
+
+-- Where each is of another target, a range stands at the place of its target.
+pub stands_at : (name : List ℕ) (place : ℕ) (zs : List ZenithRange) (z : ZenithRange)
+    → IsUnique zs → slice_get zs place ≡ Some z → bytes_eq z.target name ≡ true
+    → place_in name zs ≡ place
+stands_at name place [] z unique is e = cc
+stands_at name zero (y ∷ zs) z unique is e =
+    let same : y ≡ z = cc in rw (same, e) refl
+stands_at name (suc place) (y ∷ zs) z unique is e = elim (cases_Bool (bytes_eq y.target name)) [
+  | inl h ↦ absurd (false≢true (sym unique.0
+      ∙ ap (λ (n : List ℕ). has_range n zs) ((bytes_eq-Decides y.target name).0 h)
+      ∙ there zs place z name is e))
+  | inr h ↦ rw h (ap suc (stands_at name place zs z unique.1 is e))
+]
+
+widens_there : (zs : List ZenithRange) (z : ZenithRange) (r : Sight)
+    → slice_get zs (place_in r.target zs) ≡ Some z
+    → slice_set zs (place_in r.target zs) (with_angle z (zenith_in_one r)) ≡ with_reading zs r
+widens_there [] z r is = cc
+widens_there (y ∷ zs) z r is = elim (cases_Bool (bytes_eq y.target r.target)) [
+  | inl h ↦ let first : slice_get (y ∷ zs) 0 ≡ Some z = rw h at is in
+      let same : y ≡ z = cc in rw (h, same) refl
+  | inr h ↦ let later : slice_get zs (place_in r.target zs) ≡ Some z = rw h at is in
+      rw h (ap (λ (l : List ZenithRange). y ∷ l) (widens_there zs z r later))
+]
+
+-- A reading widens the range at the place of its target.
+pub widens : (zs : List ZenithRange) (z wider : ZenithRange) (r : Sight) (place : ℕ)
+    → place ≡ place_in r.target zs → slice_get zs place ≡ Some z
+    → wider ≡ with_angle z (zenith_in_one r) → slice_set zs place wider ≡ with_reading zs r
+widens zs z wider r place at is wide =
+    (λ i. slice_set zs (at i) (wide i))
+    ∙ widens_there zs z r (sym (ap (λ (k : ℕ). slice_get zs k) at) ∙ is)
+
+begins_last : (zs : List ZenithRange) (r : Sight)
+    → slice_get zs (place_in r.target zs) ≡ None
+    → zs ++ range_of r ∷ [] ≡ with_reading zs r
+begins_last [] r is = refl
+begins_last (y ∷ zs) r is = elim (cases_Bool (bytes_eq y.target r.target)) [
+  | inl h ↦ let first : slice_get (y ∷ zs) 0 ≡ None = rw h at is in cc
+  | inr h ↦ let later : slice_get zs (place_in r.target zs) ≡ None = rw h at is in
+      rw h (ap (λ (l : List ZenithRange). y ∷ l) (begins_last zs r later))
+]
+
+-- A reading begins a range where its target has none.
+pub begins : (zs : List ZenithRange) (r : Sight) (place : ℕ) → place ≡ place_in r.target zs
+    → slice_get zs place ≡ None → zs ++ range_of r ∷ [] ≡ with_reading zs r
+begins zs r place at is =
+    begins_last zs r (sym (ap (λ (k : ℕ). slice_get zs k) at) ∙ is)
+
+-- With a reading of another target, a target has a range where it had one.
+has_as_before : (zs : List ZenithRange) (r : Sight) (name : List ℕ)
+    → bytes_eq r.target name ≡ false → has_range name (with_reading zs r) ≡ has_range name zs
+has_as_before [] r name other = rw other refl
+has_as_before (z ∷ zs) r name other = elim (cases_Bool (bytes_eq z.target r.target)) [
+  | inl h ↦ rw h refl
+  | inr h ↦ rw h (ap (λ b. bytes_eq z.target name || b) (has_as_before zs r name other))
+]
+
+-- With a reading more, each range is of another target.
+pub stay_unique : (zs : List ZenithRange) (r : Sight) → IsUnique zs → IsUnique (with_reading zs r)
+stay_unique [] r unique = (refl, tt)
+stay_unique (z ∷ zs) r unique = elim (cases_Bool (bytes_eq z.target r.target)) [
+  | inl h ↦ rw h unique
+  | inr h ↦ rw h (
+    has_as_before zs r z.target (same_bytes r.target z.target ∙ h) ∙ unique.0,
+    stay_unique zs r unique.1,
+  )
+]
