@@ -121,13 +121,15 @@ def seen_in_job(shape: Shape, draw: Random, number: int, names: list[str]) -> li
 def job_file(shape: Shape) -> str:
     """The text of stations as an instrument records them: set-up lines, and no codes."""
     draw = Random(1)
-    lines = list[str]()
+    lines, zeniths = list[str](), dict[str, int]()
 
     def read(name: str, face: int) -> None:
-        hz, v = draw.randrange(CIRCLE), draw.randrange(9_000_000, 11_000_000)
+        hz, zenith = draw.randrange(CIRCLE), draw.randrange(9_000_000, 11_000_000)
+        v = zeniths.setdefault(name, zenith) + draw.randrange(-50, 51)
         lines.append(reading(shape, len(lines) + 1, name, hz, v if face == 1 else CIRCLE - v))
 
     for station in range(1, shape.stations + 1):
+        zeniths.clear()
         point = word(shape, "11", f"{len(lines) % 10000:04}+", f"S{station}")
         lines.append(line(shape, point, word(shape, "88", "..10+", 1543)))
         for number in range(shape.leading):

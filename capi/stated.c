@@ -1,6 +1,7 @@
-/* The three calls that are told whether something is stated. The proved exports take it as a `bool`,
- * which is 0 or 1 and nothing else: of another value they would see the lowest bit. These take any
- * number, of which 0 alone says that it is not stated, and hand on 0 or 1. link.sh links them. */
+/* The three calls that are told by numbers whether something is stated. The proved exports take a
+ * `bool`, which is 0 or 1 and nothing else: of another value they would see the lowest bit. These
+ * take any number, of which 0 alone says that it is not stated, and hand on 0 or 1. link.sh links
+ * them. */
 #include "station_check.h"
 
 #include <stdbool.h>
@@ -18,7 +19,10 @@ uint8_t station_page_compare(const void *gsi, size_t gsi_length,
 
 uint8_t station_page_mark(const void *gsi, size_t gsi_length,
                           const char *station, size_t station_length,
-                          uint32_t sets, uint32_t targets, bool others,
+                          const char *code, size_t code_length,
+                          const char *sets, size_t sets_length,
+                          const char *targets, size_t targets_length,
+                          bool same_set_up, bool again, bool others,
                           char *copy, size_t room, size_t *length,
                           char *notes, size_t notes_room, size_t *notes_length);
 
@@ -41,9 +45,14 @@ uint8_t station_check_compare(const void *gsi, size_t gsi_length,
 
 uint8_t station_check_mark(const void *gsi, size_t gsi_length,
                            const char *station, size_t station_length,
-                           uint32_t sets, uint32_t targets, uint32_t others,
+                           const char *code, size_t code_length,
+                           const char *sets, size_t sets_length,
+                           const char *targets, size_t targets_length,
+                           uint32_t same_set_up, uint32_t again, uint32_t others,
                            char *copy, size_t room, size_t *length,
                            char *notes, size_t notes_room, size_t *notes_length) {
-    return station_page_mark(gsi, gsi_length, station, station_length, sets, targets, others != 0,
+    return station_page_mark(gsi, gsi_length, station, station_length, code, code_length,
+                             sets, sets_length, targets, targets_length,
+                             same_set_up != 0, again != 0, others != 0,
                              copy, room, length, notes, notes_room, notes_length);
 }

@@ -116,16 +116,27 @@ uint8_t station_check_words(const void *gsi, size_t gsi_length,
                             char *refusal, size_t refusal_room, size_t *refusal_length);
 
 /* A copy of a job that was recorded without codes, with codes put in, and in `notes` what was
- * recognized, or the line of the refusal, after those of each station where these were judged.
- * `station` names the file's one station where its lines name none, and is else of length 0. `sets`
- * is how many sets were read to the end at each station that has any, and `targets` how many targets
- * they have, each 0 where it is not stated: sets that were read target by target are marked only
- * where it is. With `others`, if it is not 0, the readings of stations that aren't recognized stay
- * outside of the sets, and the others are marked. The status is 3 where either text has too little
- * room. */
+ * recognized, or the line of the refusal, after those of each station where these were judged. What
+ * no reading shows is stated; a text of length 0 states nothing, and a flag that is 0 neither.
+ *
+ * `station` names the file's one station where its lines name none. `code` is a code whose blocks
+ * begin a station each, of the name in their word 42; none of 10, 20 and 30. `sets` is how many
+ * sets were read to the end, and `targets` how many targets they have: lines of UTF-8 with a line
+ * feed between, each "N", 1 to 40 or to 100, at each station, or "NAME=N" at the one of this name.
+ * Sets that were read target by target are marked only where their number is stated.
+ *
+ * With `same_set_up` a set-up line that names the open station begins nothing. With `again` a
+ * station whose name comes again is another set-up, NAME-2. With `others` the readings of stations
+ * that aren't recognized stay outside of the sets, and the others are marked.
+ *
+ * The status is 2 where a name or a code can't be one, or a line states no number in its range, or
+ * a second one of a station; and 3 where either text has too little room. */
 uint8_t station_check_mark(const void *gsi, size_t gsi_length,
                            const char *station, size_t station_length,
-                           uint32_t sets, uint32_t targets, uint32_t others,
+                           const char *code, size_t code_length,
+                           const char *sets, size_t sets_length,
+                           const char *targets, size_t targets_length,
+                           uint32_t same_set_up, uint32_t again, uint32_t others,
                            char *copy, size_t room, size_t *length,
                            char *notes, size_t notes_room, size_t *notes_length);
 

@@ -21,7 +21,7 @@ from __future__ import annotations
 import ctypes
 import os
 from pathlib import Path
-from typing import NamedTuple, Sequence
+from typing import Mapping, NamedTuple, Sequence
 
 LIBRARY = "libstation_check.so.1"
 
@@ -52,6 +52,10 @@ class Refused(Exception):
         super().__init__(line)
         self.line = line
         self.text = text
+
+
+# A number of each station, or of single ones by their names, where None stands for each other one.
+Stated = int | Mapping[str | None, int] | None
 
 
 class Marked(NamedTuple):
@@ -137,20 +141,25 @@ def mark(
     gsi: bytes,
     station: str | None = None,
     *,
-    sets: int | None = None,
-    targets: int | None = None,
+    sets: Stated = None,
+    targets: Stated = None,
+    same_set_up: bool = False,
+    again: bool = False,
+    station_code: str | None = None,
     others: bool = False,
 ) -> Marked:
     """A copy of a job that was recorded without codes, with codes put in. `station` names the one
-    station of a job whose lines name none; `sets` is how many sets were read to the end at each
-    station that has any, and `targets` how many targets they have. With `others` the readings of
+    station of a job whose lines name none. `sets` is how many sets were read to the end, and
+    `targets` how many targets they have: a number of each station, or a mapping from names of
+    stations to theirs, where None stands for each other one. With `same_set_up` a set-up line that
+    names the open station begins nothing, and with `again` a name that comes again is another
+    set-up. Each block of the code `station_code` begins a station. With `others` the readings of
     stations that aren't recognized stay outside of the sets, and the others are marked."""
-    if station == "":
-        raise ValueError("a station has no empty name")
-    if 0 in (sets, targets):
-        raise ValueError("no sets or targets are stated by None, and not by 0")
-    numbers = _numbers(sets or 0, targets or 0, others)
-    reply = _call("mark", [gsi, (station or "").encode()], numbers, texts=2)
+    if "" in (station, station_code):
+        raise ValueError("a station or a code has no empty name")
+    texts = [station or "", station_code or "", _lines(sets), _lines(targets)]
+    inputs = [gsi, *(text.encode() for text in texts)]
+    reply = _call("mark", inputs, _numbers(same_set_up, again, others), texts=2)
     if reply.status == _REFUSED:
         notes, line = _told_before(reply.beside)
         raise Refused(line, notes)
@@ -173,6 +182,19 @@ def _numbers(*numbers: int) -> Sequence[ctypes.c_uint32]:
         if not 0 <= number < 1 << 32:
             raise ValueError(f"out of its range: {number}")
     return [ctypes.c_uint32(number) for number in numbers]
+
+
+def _lines(stated: Stated) -> str:
+    """Numbers of stations as the library takes them: a line for each."""
+    if stated is None:
+        return ""
+    if isinstance(stated, int):
+        return str(int(stated))
+    if not stated or any(name is not None and not name.isprintable() for name in stated):
+        raise ValueError("a mapping has a number at least, and each the name of a station or None")
+    return "\n".join(
+        str(int(n)) if name is None else f"{name}={int(n)}" for name, n in stated.items()
+    )
 
 
 def _stated(limit: int | None) -> Sequence[ctypes.c_uint32]:
@@ -206,7 +228,7 @@ def _call(
     while True:
         reply = _call_within(room, name, inputs, numbers, texts)
         if reply.status == _OUT_OF_RANGE:
-            raise ValueError("a number or a name is out of its range")
+            raise ValueError("a number, a name or a code is out of its range, or stated twice")
         if reply.status != _TOO_LITTLE_ROOM:
             return reply
         room *= _MORE

@@ -50,9 +50,6 @@ const MOST_READ = 200_000_000;
 /** The name by which it is tried whether a job lacks nothing else: no station has it. */
 const NAME_TO_TRY = '?';
 
-/** That no number of sets or of targets is stated. */
-const NO_NUMBERS = { sets: 0, targets: 0 };
-
 /** What the fault of a refusal means, in the words of the program. */
 async function explanationOf(/** @type {string} */ line) {
   const { status, text } = await ask('explain', line);
@@ -140,6 +137,9 @@ export const isUncounted = (/** @type {Answer} */ { line }) => /: mark: ByTarget
 export const isCountedOtherwise = (/** @type {Answer} */ { line }) =>
   /: mark: (SetCount|TargetCount)$/.test(line);
 
+/** Whether it has to be stated what a station is whose name comes again. */
+export const isTwice = (/** @type {Answer} */ { line }) => /: mark: StationTwice$/.test(line);
+
 /**
  * What a job without a name shows: what is recognized but for it, or what is wrong besides, so that
  * nobody states a name in vain.
@@ -160,22 +160,53 @@ export const mayLeaveOut = (/** @type {Answer} */ { told, field }) =>
   && !told.some(({ fault }) => fault === 'StationTwice');
 
 /**
+ * The numbers that are stated of a file's stations, as the program and the call take them.
+ * @param {Input} field
+ * @param {'sets' | 'targets'} which
+ */
+const numbersOf = ({ numbers = new Map() }, which) => [...numbers]
+  .filter(([, stated]) => stated[which] > 0)
+  .map(([station, stated]) => station ? `${station}=${stated[which]}` : `${stated[which]}`);
+
+/**
+ * Whether numbers were stated of stations that are no longer there, as after another answer to what
+ * begins them: these numbers are forgotten.
+ * @param {Input} field
+ * @param {import('./records.js').Recognized[]} told
+ */
+function forgets({ numbers }, told) {
+  const there = told.filter(({ sets, fault }) => sets > 0 || fault).map(({ station }) => station);
+  const gone = [...numbers.keys()].filter(name => name && !there.includes(name));
+  for (const name of gone) numbers.delete(name);
+  return gone.length > 0;
+}
+
+/**
  * The answer of putting codes into a copy of a field file: the copy is its other file.
  * @param {Input} field
  * @param {string} [station] the name that is stated
  */
 async function answerOfMark(field, station = '') {
-  const copy = `${stemOf(field)}_marked.gsi`;
-  const { sets, targets } = field.numbers ?? NO_NUMBERS, others = field.others ?? false;
+  const copy = `${stemOf(field)}_marked.gsi`, { code = '', again, others = false } = field;
+  const [sets, targets] = [numbersOf(field, 'sets'), numbersOf(field, 'targets')];
+  const isSame = again === 'same', isAnother = again === 'another';
+  const texts = [station, code, sets.join('\n'), targets.join('\n')];
   const { status, bytes, beside } =
-    await ask('mark', field.bytes, station, sets, targets, others);
-  const numbers = Object.entries({ station, sets, targets }).filter(([, value]) => value)
-    .flatMap(([option, value]) => [`--${option}`, String(value)]);
-  const stated = others ? [...numbers, '--others'] : numbers;
+    await ask('mark', field.bytes, ...texts, isSame, isAnother, others);
+  const of = (/** @type {string} */ option, /** @type {string[]} */ values) =>
+    values.flatMap(value => [`--${option}`, value]);
+  const flags = Object.entries({ 'same-set-up': isSame, again: isAnother, others });
+  const stated = [
+    ...of('station', station ? [station] : []), ...of('station-code', code ? [code] : []),
+    ...of('sets', sets), ...of('targets', targets),
+    ...flags.filter(([, stands]) => stands).map(([flag]) => `--${flag}`),
+  ];
   const command = `${commandOf('mark', [], {}, [field.name], stated)} > ${copy}`;
   // At a refusal its line comes after what is told of each station.
   const text = status === ACCEPTED ? beside : beside.trimEnd().split('\n').at(-1);
   const told = recognizedIn(beside);
+  const isGone = /: mark: NoSuchStation$/.test(text);
+  if (isGone && forgets(field, told)) return answerOfMark(field, station);
   const answer = await answered({ status, text }, { asked: 'mark', command, field, told });
   if (status !== ACCEPTED) return answer;
   const digest = await digestOf({ name: copy, bytes });

@@ -100,8 +100,8 @@ export const calls = {
     callOf(core, 'station_page_compare', [gsi, table, name], [twoC, twoI, ...stated(within)]),
   differences: (core, gsi, table, name, twoC, twoI) =>
     callOf(core, 'station_page_differences', [gsi, table, name], [twoC, twoI]),
-  mark: (core, gsi, name, sets, targets, others) =>
-    callOf(core, 'station_page_mark', [gsi, name], [sets, targets, Number(others)], 2),
+  mark: (core, gsi, name, code, sets, targets, ...flags) =>
+    callOf(core, 'station_page_mark', [gsi, name, code, sets, targets], flags.map(Number), 2),
   digest: (core, file, name) => callOf(core, 'station_page_digest', [file, name], []),
   explain: (core, line) => callOf(core, 'station_page_explain', [line], []),
 };

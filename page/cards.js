@@ -1,6 +1,6 @@
 // A card of a station: the answer first, then the fault or the results.
 import {
-  ACCEPTED, OUT_OF_RANGE, REFUSED, filesOf, isCountedOtherwise, isUncounted, isWithoutName,
+  ACCEPTED, OUT_OF_RANGE, REFUSED, filesOf, isCountedOtherwise, isTwice, isUncounted, isWithoutName,
   mayLeaveOut, meansOf, moodOfAnswer,
 } from './answers.js';
 import { button, element, menuOf, ofProgram, save } from './elements.js';
@@ -24,12 +24,15 @@ import { text } from './texts.js';
  * @typedef {import('./answers.js').Card} Card
  * @typedef {import('./answers.js').Answer} Answer
  * What a card asks of the page: the limits, to load its results, what its protocol says of what
- * else was handed in, to print it, to name the station of a field file, to state its numbers of
- * sets and targets, or that stations that aren't recognized stay outside.
+ * else was handed in, to print it, to name the station of a field file, or the code whose blocks
+ * begin its stations, to state the numbers of sets and targets of stations, what one is whose name
+ * comes again, or that stations that aren't recognized stay outside.
  * @typedef {{ limits: import('./limits.js').Limits, load: (card: Card) => Promise<void>,
  *   beside: (card: Card) => string[], print: (card: Card) => void,
  *   name: (field: Input, station: string) => void,
- *   count: (field: Input, numbers: import('./files.js').Numbers) => void,
+ *   begin: (field: Input, code: string) => void,
+ *   count: (field: Input, stations: string[], numbers: import('./files.js').Numbers) => void,
+ *   setUp: (field: Input, again?: import('./files.js').Again) => void,
  *   leaveOut: (field: Input, others: boolean) => void }} Desk
  * @typedef {import('./files.js').Input} Input
  * Gives what is in a file that can be saved; nothing where there is none, and it is said why.
@@ -216,7 +219,11 @@ function showMarked({ marked, recognized }, desk, parent) {
   const buttons = element('div', '', part, { className: 'buttons' });
   button(text('saveMarked'), buttons, () => save(other.name, other.bytes, 'text/plain'));
   if (field.station) askName(field, desk, 'changeName', buttons);
-  if (field.numbers) askNumbers(field, desk, 'changeNumbers', buttons);
+  if (field.code) askCode(field, desk, 'changeCode', buttons);
+  const counted = ['', ...recognized.map(({ station }) => station)];
+  for (const station of counted.filter(name => field.numbers?.has(name)))
+    askNumbers(field, station, desk, 'changeNumbers', buttons);
+  if (field.again) button(text('askAgain'), buttons, () => desk.setUp(field));
   if (field.others) button(text('leaveNone'), buttons, () => desk.leaveOut(field, false));
   const exact = element('details', '', part);
   element('summary', text('program'), exact);
@@ -244,34 +251,110 @@ function askName(field, desk, action, parent, className = 'button') {
 }
 
 /**
+ * Asks for the code whose blocks begin stations, where no line of the job sets one up.
+ * @param {Input} field
+ * @param {Desk} desk
+ * @param {string} action what the button says
+ * @param {Element} parent
+ */
+function askCode(field, desk, action, parent) {
+  const form = element('form', '', parent, { className: 'buttons' });
+  const label = element('label', `${text('stationCode')} `, form);
+  const about = { type: 'text', maxLength: 16, value: field.typedCode ?? field.code ?? '' };
+  const code = /** @type {HTMLInputElement} */ (element('input', '', label, about));
+  code.oninput = () => { field.typedCode = code.value; };
+  element('button', text(action), form, { type: 'submit', className: 'button' });
+  form.onsubmit = event => {
+    event.preventDefault();
+    desk.begin(field, code.value.trim());
+  };
+}
+
+/**
  * The numbers that are asked for, with what they are called and the most that each may be.
  * @type {['sets' | 'targets', string, number][]}
  */
 const ASKED = [['sets', 'setsRead', 40], ['targets', 'targetsRead', 100]];
 
 /**
- * Asks how many sets were read to the end, and how many targets they have, or for other numbers.
+ * Asks how many sets were read to the end at a station, and how many targets they have, or for
+ * other numbers. The only station of a job has no name here; where others are asked about too, the
+ * same numbers may be stated of all of these.
  * @param {Input} field
+ * @param {string} station
  * @param {Desk} desk
  * @param {string} action what the button says
  * @param {Element} parent
+ * @param {string} className
+ * @param {string[]} asked the stations that are asked about
  */
-function askNumbers(field, desk, action, parent, className = 'button') {
+function askNumbers(field, station, desk, action, parent, className = 'button', asked = [station]) {
   const form = element('form', '', parent, { className: 'buttons' });
-  const typing = field.typing ??= {};
+  if (station) form.setAttribute('aria-label', text('numbersOf', { station }));
+  const typed = field.typing ??= new Map(), stated = field.numbers?.get(station);
+  const typing = typed.get(station) ?? {};
+  typed.set(station, typing);
   const [sets, targets] = ASKED.map(([name, called, most]) => {
     const label = element('label', `${text(called)} `, form);
-    const value = typing[name] ?? (field.numbers?.[name] || '');
+    const value = typing[name] ?? (stated?.[name] || '');
     const about = { type: 'number', min: '1', max: String(most), value };
     const input = /** @type {HTMLInputElement} */ (element('input', '', label, about));
     input.oninput = () => { typing[name] = input.value; };
     return input;
   });
+  const each = element('label', '', form, { hidden: asked.length === 1 });
+  const box = element('input', '', each, { type: 'checkbox' });
+  const ofEach = /** @type {HTMLInputElement} */ (box);
+  each.append(` ${text('ofEach')}`);
   element('button', text(action), form, { type: 'submit', className });
   form.onsubmit = event => {
     event.preventDefault();
-    desk.count(field, { sets: Number(sets.value), targets: Number(targets.value) });
+    const numbers = { sets: Number(sets.value), targets: Number(targets.value) };
+    desk.count(field, ofEach.checked ? asked : [station], numbers);
   };
+}
+
+/**
+ * Asks what a station is whose name comes again, which would have another one as a set-up of its
+ * own: two buttons, of which the one that was chosen before is pressed.
+ * @param {Input} field
+ * @param {string} station
+ * @param {string} name
+ * @param {Desk} desk
+ * @param {Element} parent
+ */
+function askSetUp(field, station, name, desk, parent) {
+  const part = element('div', '', parent, { className: 'buttons' });
+  part.setAttribute('role', 'group');
+  part.setAttribute('aria-label', text('twice', { station }));
+  /** @type {['same' | 'another', string][]} */
+  const ways = [['same', 'sameSetUp'], ['another', 'anotherSetUp']];
+  for (const [again, said] of ways) {
+    const one = button(text(said, { name }), part, () => desk.setUp(field, again));
+    one.setAttribute('aria-pressed', String(field.again === again));
+  }
+}
+
+/**
+ * Asks for what the fault of a station needs to be stated, if it needs anything: just below what is
+ * told of it.
+ * @param {import('./records.js').Recognized} told
+ * @param {Card} card
+ * @param {Desk} desk
+ * @param {Element} parent
+ */
+function askOf(told, { field, recognized }, desk, parent) {
+  const { station, fault } = told, before = recognized.slice(0, recognized.indexOf(told));
+  const isCounted = (/** @type {typeof told} */ one) => one.station === station
+    && (one.sets > 0 || one.fault);
+  const nth = before.filter(isCounted).length + 1;
+  const asked = recognized.filter(one => one.fault === 'ByTargets').map(one => one.station);
+  if (fault === 'ByTargets')
+    askNumbers(field, station, desk, 'markSets', parent, 'button primary', asked);
+  else if (fault === 'SetCount' || fault === 'TargetCount')
+    askNumbers(field, station, desk, 'changeNumbers', parent);
+  else if (fault === 'StationTwice')
+    askSetUp(field, station, `${station}-${nth}`, desk, parent);
 }
 
 /**
@@ -290,15 +373,32 @@ function showUnmarked(card, desk, parent) {
     if (place) showPlace(place, parent);
     if (marked.explanation) showExplanation(marked.explanation, parent);
   }
-  for (const said of (recognized ?? []).flatMap(recognizedTexts)) element('p', said, parent);
-  if (isAsked) askName(field, desk, 'markSets', parent, 'button primary');
-  else if (isUncounted(marked)) askNumbers(field, desk, 'markSets', parent, 'button primary');
-  else if (isCountedOtherwise(marked)) askNumbers(field, desk, 'changeNumbers', parent);
+  for (const told of recognized ?? []) {
+    for (const said of recognizedTexts(told)) element('p', said, parent);
+    if (!isAsked) askOf(told, card, desk, parent);
+  }
+  if (isAsked) {
+    askName(field, desk, 'markSets', parent, 'button primary');
+    askCode(field, desk, 'markSets', parent);
+  } else if (!recognized) askAlone(marked, desk, parent);
   if (mayLeaveOut(marked)) button(text('leaveOut'), parent, () => desk.leaveOut(field, true));
   if (!isAsked && field.station) askName(field, desk, 'changeName', parent);
+  if (!isAsked && field.code) askCode(field, desk, 'changeCode', parent);
   const outside = text('outside', { n: card.readings });
   if (!recognized) element('p', outside, parent, { className: 'quiet' });
   showCommand(marked, parent);
+}
+
+/**
+ * Asks for the numbers of a job's only station, where these are missing or others.
+ * @param {Answer} marked
+ * @param {Desk} desk
+ * @param {Element} parent
+ */
+function askAlone(marked, desk, parent) {
+  const { field } = marked;
+  if (isUncounted(marked)) askNumbers(field, '', desk, 'markSets', parent, 'button primary');
+  else if (isCountedOtherwise(marked)) askNumbers(field, '', desk, 'changeNumbers', parent);
 }
 
 // ---------------------------------------------------------------- a card

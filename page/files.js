@@ -8,17 +8,22 @@ import { each, recordsOf } from './records.js';
  * A file that was handed in: `shown` is its name as the page shows it, `choice` the station that
  * the user chose for it, `station` the name that the user gave to a field file without one, `typed`
  * the name that is being typed, and `original` the field file that a marked copy is of. `numbers`
- * are those of sets and of targets that the user stated, and `typing` what is being typed of them;
- * `others` says whether stations that aren't recognized stay outside.
+ * are those of sets and of targets that the user stated of a station by its name, or of a job's
+ * only one by no name, and `typing` what is being typed of them. `code` is the one whose blocks
+ * begin stations, `again` what a name that comes again is; `others` says whether stations that
+ * aren't recognized stay outside.
  * `opened` says of the stations of a field file by their names whether the user opened or closed
  * their results. The digest is there once the file was judged.
  * @typedef {{ name: string, shown: string, bytes: Uint8Array, kind: Kind, digest: string,
  *   choice?: { field: Input, name: string }, station?: string, typed?: string, original?: Input,
- *   numbers?: Numbers, typing?: Record<string, string>, others?: boolean,
+ *   numbers?: Map<string, Numbers>, typing?: Map<string, Record<string, string>>, code?: string,
+ *   typedCode?: string, again?: Again, others?: boolean,
  *   opened?: Map<string, boolean> }} Input
- * How many sets were read to the end at each station of a field file, and how many targets they
- * have: each 0 where it is not stated.
+ * How many sets were read to the end at a station, and how many targets they have: each 0 where it
+ * is not stated.
  * @typedef {{ sets: number, targets: number }} Numbers
+ * What a station is whose name comes again: the same set-up, whose readings go on, or another one.
+ * @typedef {'same' | 'another'} Again
  * A station of a field file, with its residuals once they were asked for.
  * @typedef {{ field: Input, listed: import('./records.js').Listed,
  *   residuals?: import('./answers.js').Answer }} Station

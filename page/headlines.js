@@ -1,6 +1,6 @@
 // The answer in words and mgon, of each kind.
 import {
-  ACCEPTED, OUT_OF_RANGE, TOO_LITTLE_ROOM, isCountedOtherwise, isUncounted, isWithoutName,
+  ACCEPTED, OUT_OF_RANGE, TOO_LITTLE_ROOM, isCountedOtherwise, isTwice, isUncounted, isWithoutName,
 } from './answers.js';
 import { isUsed, originalOf, stationOfSheet } from './files.js';
 import { HALF, mgonOf, plain, signed } from './numbers.js';
@@ -100,12 +100,15 @@ function setsText(/** @type {import('./records.js').Recognized} */ one) {
 
 /** What was recognized of a station, in sentences that stand one below the other. */
 export function recognizedTexts(/** @type {import('./records.js').Recognized} */ one) {
-  const { isAgain, missing, full, others } = one;
+  const { isAgain, missing, full, others, isOpenedAgain, equal, zeniths, opening } = one;
   return [
     setsText(one),
     ...isAgain ? [text('recognizedAgain', { station: one.station })] : [],
     ...missing > 0 ? [text('recognizedMissing', { n: missing, full })] : [],
     ...others > 0 ? [text('recognizedOthers', { n: others })] : [],
+    ...isOpenedAgain ? [text('recognizedOpenedAgain', { opening })] : [],
+    ...equal.map(pair => text('recognizedEqual', pair)),
+    ...zeniths.map(range => text('recognizedZeniths', range)),
   ];
 }
 
@@ -121,6 +124,7 @@ export function headlineOfCard(/** @type {Card} */ card) {
 function headlineOfMark(/** @type {Answer} */ marked) {
   if (isWithoutName(marked)) return 'nothingNamed';
   if (isUncounted(marked)) return 'nothingCounted';
+  if (isTwice(marked)) return 'nothingSetUp';
   return isCountedOtherwise(marked) ? 'countedOtherwise' : 'nothingRecognized';
 }
 

@@ -312,8 +312,19 @@ const desk = {
     field.others = others;
     await checkAgain(field);
   },
-  async count(/** @type {Input} */ field, /** @type {import('./files.js').Numbers} */ numbers) {
-    field.numbers = numbers;
+  /** @type {import('./cards.js').Desk['count']} */
+  async count(field, stations, numbers) {
+    field.numbers ??= new Map();
+    for (const station of stations) field.numbers.set(station, numbers);
+    await checkAgain(field);
+  },
+  async begin(/** @type {Input} */ field, /** @type {string} */ code) {
+    field.code = code;
+    await checkAgain(field);
+  },
+  /** @type {import('./cards.js').Desk['setUp']} */
+  async setUp(field, again) {
+    field.again = again;
     await checkAgain(field);
   },
 };

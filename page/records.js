@@ -56,21 +56,30 @@ const SET_UP_AGAIN = /^note: station (?:.*): set up again$/;
 const MISSING = /^note: station (?:.*): (\d+) of (\d+) directions? (?:is|are) missing$/;
 const OF_ANOTHER =
   /^note: station (?:.*): (\d+) targets? after the sets in both faces: of another station\?$/;
+const OPENED_AGAIN =
+  /^note: station (?:.*): .* is read again after the sets: is a reading of theirs missing\?$/;
+const EQUAL_SETS =
+  /^note: station (?:.*): sets (\d+) and (\d+) are the same to the last digit$/;
+const ZENITHS = /^note: station (?:.*): the zenith angles of (.*) differ by (\d+) mgon$/;
 
 /**
  * What was told of a station where codes were put in: its sets, the target that opens them and the
  * one at which the first turns, and how many readings stay outside before and after them; how many
  * directions are missing of how many, and how many targets after the sets seem to be of another
- * station. Of one without sets no more than its readings, as if all came after; and of one that
- * isn't recognized these, its fault, and the number of the block.
+ * station; whether the target that opens sets by targets is read again after them; which sets are
+ * equal, and the targets whose zenith angles differ. Of one without sets no more than its readings,
+ * as if all came after; and of one that isn't recognized these, its fault, and the number of the
+ * block.
  * @typedef {{ station: string, isAgain: boolean, sets: number, targets: number, opening: string,
  *   turning: string, before: number, after: number, missing: number, full: number,
- *   others: number, fault?: string, block?: number }} Recognized
+ *   others: number, isOpenedAgain: boolean, equal: { earlier: string, later: string }[],
+ *   zeniths: { target: string, mgon: number }[], fault?: string, block?: number }} Recognized
  */
 
+/** @type {Omit<Recognized, 'station'>} */
 const NO_SETS = {
   isAgain: false, sets: 0, targets: 0, opening: '', turning: '', before: 0, after: 0, missing: 0,
-  full: 0, others: 0,
+  full: 0, others: 0, isOpenedAgain: false, equal: [], zeniths: [],
 };
 
 /**
@@ -106,6 +115,11 @@ export function recognizedIn(/** @type {string} */ notes) {
     if (station) stations.push({ ...station, isAgain });
     else if (last && missing) Object.assign(last, { missing: Number(missing), full: Number(full) });
     else if (last && others) last.others = Number(others);
+    if (last && OPENED_AGAIN.test(note)) last.isOpenedAgain = true;
+    const [, earlier, later] = note.match(EQUAL_SETS) ?? [];
+    if (last && earlier && later) last.equal = [...last.equal, { earlier, later }];
+    const [, target, mgon] = note.match(ZENITHS) ?? [];
+    if (last && target) last.zeniths = [...last.zeniths, { target, mgon: Number(mgon) }];
     isAgain = SET_UP_AGAIN.test(note);
   }
   return stations;

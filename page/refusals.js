@@ -55,6 +55,7 @@ const HERE = [
   [/--(two-c|two-i|residual|within)/, 'hereLimits'],
   [/--degrees/, 'hereGon'],
   [/--sets/, 'hereNumbers'],
+  [/--(again|same-set-up)/, 'hereSetUp'],
   [/prepare\.py/, 'hereEditor'],
 ];
 

@@ -259,6 +259,11 @@ export const TEXTS = {
     de: 'Noch nichts wurde geprüft: Die Sätze wurden Ziel für Ziel beobachtet, und ihre Anzahl fehlt.',
     fr: 'Rien n’a encore été vérifié : les séries ont été lues cible par cible, et il faut leur nombre.',
   },
+  nothingSetUp: {
+    en: 'Nothing was checked yet: a station is set up twice, and it is not said whether that is one set-up or two.',
+    de: 'Noch nichts wurde geprüft: Eine Station ist zweimal aufgestellt, und es ist nicht gesagt, ob das eine Aufstellung ist oder zwei.',
+    fr: 'Rien n’a encore été vérifié : une station est mise en place deux fois, et il n’est pas dit si c’est une mise en station ou deux.',
+  },
   countedOtherwise: {
     en: 'Nothing was checked: the sets of this job are not as many as you stated, or have other targets.',
     de: 'Nichts wurde geprüft: Die Sätze dieses Jobs sind nicht so viele, wie Sie angeben, oder haben andere Ziele.',
@@ -319,6 +324,21 @@ export const TEXTS = {
     de: 'Nach den Sätzen ist {n} Ziel, das kein Satz hat, in beiden Lagen gelesen: Fehlt davor eine Aufstellungszeile?|Nach den Sätzen sind {n} Ziele, die kein Satz hat, in beiden Lagen gelesen: Fehlt davor eine Aufstellungszeile?',
     fr: 'Après les séries, {n} cible qu’aucune série n’a est lue aux deux cercles : manque-t-il une ligne de mise en station ?|Après les séries, {n} cibles qu’aucune série n’a sont lues aux deux cercles : manque-t-il une ligne de mise en station ?',
   },
+  recognizedOpenedAgain: {
+    en: '{opening}, which opens the sets, is read again after them: is a reading of theirs missing?',
+    de: '{opening}, mit dem die Sätze beginnen, ist nach ihnen noch einmal gelesen: Fehlt ihnen eine Ablesung?',
+    fr: '{opening}, qui ouvre les séries, est relue après elles : leur manque-t-il une lecture ?',
+  },
+  recognizedEqual: {
+    en: 'Sets {earlier} and {later} are the same to the last digit: was one set transferred twice?',
+    de: 'Die Sätze {earlier} und {later} sind bis auf die letzte Stelle gleich: Wurde ein Satz zweimal übertragen?',
+    fr: 'Les séries {earlier} et {later} sont les mêmes jusqu’au dernier chiffre : une série a-t-elle été transférée deux fois ?',
+  },
+  recognizedZeniths: {
+    en: 'The zenith angles of {target} differ by {mgon} mgon: was another point sighted in some set?',
+    de: 'Die Zenitwinkel von {target} weichen um {mgon} mgon voneinander ab: Wurde in einem Satz ein anderer Punkt angezielt?',
+    fr: 'Les angles zénithaux de {target} diffèrent de {mgon} mgon : un autre point a-t-il été visé dans une série ?',
+  },
   recognizedNot: {
     en: 'Station {station}: not recognized, block {block}: {fault}. Its {n} reading stays outside, and nothing of it was checked.|Station {station}: not recognized, block {block}: {fault}. Its {n} readings stay outside, and nothing of them was checked.',
     de: 'Station {station}: nicht erkannt, Block {block}: {fault}. Ihre {n} Ablesung bleibt außerhalb; nichts davon wurde geprüft.|Station {station}: nicht erkannt, Block {block}: {fault}. Ihre {n} Ablesungen bleiben außerhalb; nichts davon wurde geprüft.',
@@ -342,17 +362,53 @@ export const TEXTS = {
   },
   saveMarked: { en: 'Save the copy with codes', de: 'Kopie mit Codes speichern', fr: 'Enregistrer la copie avec codes' },
   needName: {
-    en: 'The job was recorded without codes, and no line of it names the station. State its name, and the sets are recognized.',
-    de: 'Der Job wurde ohne Codes aufgezeichnet, und keine Zeile nennt die Station. Geben Sie ihren Namen an, dann werden die Sätze erkannt.',
-    fr: 'Le job a été enregistré sans codes, et aucune ligne ne nomme la station. Indiquez son nom, et les séries seront reconnues.',
+    en: 'The job was recorded without codes, and no line of it names the station. State its name, or the code whose lines begin its stations, and the sets are recognized.',
+    de: 'Der Job wurde ohne Codes aufgezeichnet, und keine Zeile nennt die Station. Geben Sie ihren Namen an, oder den Code, mit dessen Zeilen seine Stationen beginnen, dann werden die Sätze erkannt.',
+    fr: 'Le job a été enregistré sans codes, et aucune ligne ne nomme la station. Indiquez son nom, ou le code dont les lignes commencent ses stations, et les séries seront reconnues.',
   },
   wrongName: {
-    en: 'A station cannot have this name: it has 1 to 16 plain letters, digits and signs.',
-    de: 'So kann keine Station heißen: Der Name hat 1 bis 16 einfache Buchstaben, Ziffern und Zeichen.',
-    fr: 'Une station ne peut pas porter ce nom : il a de 1 à 16 lettres sans accent, chiffres et signes.',
+    en: 'A station cannot have this name, or stations this code: it has 1 to 16 plain letters, digits and signs, and a code is none of 10, 20 and 30.',
+    de: 'So kann keine Station heißen, oder keine mit diesem Code beginnen: Er hat 1 bis 16 einfache Buchstaben, Ziffern und Zeichen, und ein Code ist nicht 10, 20 oder 30.',
+    fr: 'Une station ne peut pas porter ce nom, ni commencer par ce code : il a de 1 à 16 lettres sans accent, chiffres et signes, et un code n’est pas 10, 20 ou 30.',
   },
   stationName: { en: 'Name of the station', de: 'Name der Station', fr: 'Nom de la station' },
   changeName: { en: 'Change the name', de: 'Namen ändern', fr: 'Changer le nom' },
+  stationCode: {
+    en: 'Code that begins a station',
+    de: 'Code, mit dem eine Station beginnt',
+    fr: 'Code par lequel une station commence',
+  },
+  changeCode: { en: 'Change the code', de: 'Code ändern', fr: 'Changer le code' },
+  twice: {
+    en: 'Station {station} is set up twice',
+    de: 'Station {station} ist zweimal aufgestellt',
+    fr: 'Station {station} mise en place deux fois',
+  },
+  sameSetUp: {
+    en: 'The same set-up: its readings go on',
+    de: 'Dieselbe Aufstellung: Ihre Ablesungen gehen weiter',
+    fr: 'La même mise en station : ses lectures continuent',
+  },
+  anotherSetUp: {
+    en: 'Another one, as {name}',
+    de: 'Eine andere, als {name}',
+    fr: 'Une autre, comme {name}',
+  },
+  askAgain: {
+    en: 'Ask again about stations that are set up twice',
+    de: 'Nach zweimal aufgestellten Stationen wieder fragen',
+    fr: 'Redemander pour les stations mises en place deux fois',
+  },
+  numbersOf: {
+    en: 'Sets and targets of {station}',
+    de: 'Sätze und Ziele von {station}',
+    fr: 'Séries et cibles de {station}',
+  },
+  ofEach: {
+    en: 'the same at each station that needs it',
+    de: 'ebenso an jeder Station, der das fehlt',
+    fr: 'de même à chaque station qui le demande',
+  },
   setsRead: {
     en: 'Sets read to the end, by the field book',
     de: 'Zu Ende beobachtete Sätze, laut Feldbuch',
@@ -456,6 +512,11 @@ export const TEXTS = {
     en: 'You state --sets and --targets below.',
     de: 'Sie geben --sets und --targets unten an.',
     fr: 'Vous indiquez --sets et --targets plus bas.',
+  },
+  hereSetUp: {
+    en: 'You say below what a station is that is set up twice.',
+    de: 'Was eine zweimal aufgestellte Station ist, sagen Sie unten.',
+    fr: 'Vous dites plus bas ce qu’est une station mise en place deux fois.',
   },
   hereEditor: {
     en: 'If you have no prepare.py, change a copy of the file in a text editor, whose lines have the numbers shown here; keep the original, and write down what you changed and why.',

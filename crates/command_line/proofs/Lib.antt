@@ -2,4 +2,3 @@ pub mod CommandsLaws
 pub mod NamingLaws
 pub mod LimitLaws
 pub mod MistakeLaws
-pub mod NumberLaws

@@ -9,14 +9,16 @@ use Rattle.command_line.specs.CountOptions.{count_largest, count_name}
 use Rattle.command_line.specs.LimitOptions.{option_largest, place}
 use Rattle.command_line.specs.Mistakes.{HasRightCounts, IsMistakeAmong, IsMistakeFrom}
 use Rattle.command_line.specs.Mistakes.{IsRightLimit, NoneIsBefore, rank}
-use Rattle.command_line.specs.StatedNumbers.{IsStatedBy, texts_of}
+use Rattle.command_line.specs.StatedNumbers.{texts_of}
 use Rattle.command_line.specs.declared.count_option.CountOption.{CountOption}
+use Rattle.command_line.specs.declared.count_option.CountOption.TheVariants.{Sets, Targets}
 use Rattle.command_line.specs.declared.limit_option.LimitOption.{LimitOption}
 use Rattle.command_line.specs.declared.limit_option.LimitOption.TheVariants.{TwoC, TwoI, Residual}
 use Rattle.command_line.specs.declared.limit_option.LimitOption.TheVariants.{Within}
 use Rattle.command_line.specs.declared.limit_option.TheConstants.{LIMIT_OPTIONS}
 use Rattle.command_line.specs.declared.mistakes.Mistake.{Mistake}
-use Rattle.command_line.proofs.NumberLaws.{no_numbers}
+use Rattle.set_marks.specs.StatedNumbers.{IsStatedBy}
+use Rattle.set_marks.proofs.NumberLaws.{no_numbers}
 
 -- 32 bits hold each limit that may be stated.
 pub small-largest : (option : LimitOption) → option_largest option < 4_294_967_296
@@ -62,13 +64,19 @@ next-right found n before right =
     (λ k less other at. before other (omega (arith, less, at)))
     (here found n right) (place option) small option refl
 
+-- 32 bits hold each number that may be stated.
+pub small-count : (option : CountOption) → count_largest option < 4_294_967_296
+small-count Sets = lit< tt
+small-count Targets = lit< tt
+
 -- Where texts state numbers, none of them is wrong.
 pub right-counts : (found : Found) (option : CountOption) (stated : StatedNumber)
     → IsStatedBy (count_largest option) (texts_of found (count_name option)) stated
     → HasRightCounts found option
 right-counts found option stated is =
     λ text why wrong.
-    no_numbers (count_largest option) (texts_of found (count_name option)) text why wrong is.0 is.1
+    no_numbers (count_largest option) (texts_of found (count_name option)) text why
+    (small-count option) wrong is.0 is.1
 
 -- The first mistake from a place on is the first of all, where none is before that place.
 pub first-of-all : (place : ℕ) (found : Found) (mistake : Mistake) → NoneIsBefore place found

@@ -6,5 +6,4 @@ pub mod CommandLine
 -- The inside.
 pub mod LimitOptions
 pub mod CountOptions
-pub mod WrongTexts
 pub mod Mistakes

@@ -6,7 +6,7 @@ use Rattle.std.specs.Str.Parse.{IsNumeral, digits_value, without_leading_plus}
 use Rattle.clap.specs.Words.{one_text, matched_of, first_value}
 use Rattle.clap.specs.declared.parser.matches.Found.{Found}
 use Rattle.adjust_kernel.specs.Names.{IsName}
-use Rattle.gsi_word.specs.Names.{name_of}
+use Rattle.set_marks.specs.StationCodes.{IsNoStationCode, IsStationCode}
 use Rattle.set_marks.specs.declared.beginnings.Beginnings.{Beginnings}
 use Rattle.adjust_kernel.specs.declared.bounds.TheConstants.{LARGEST_RESIDUAL_LIMIT}
 use Rattle.limit_texts.specs.Limits.{StatesLimit}
@@ -119,23 +119,16 @@ StatesName found (Some name) = IsGiven found (codes "station") name × IsName na
 abbrev pub StatesNoName : Found → Type 0
 StatesNoName found = (text : List ℕ) × IsGiven found (codes "station") text × ¬ (IsName text)
 
--- The codes that are put into a copy, so that no other block has them.
-abbrev pub IsPutIn : List ℕ → Type 0
-IsPutIn code = (code ≡ codes "10") ⊎ (code ≡ codes "20") ⊎ (code ≡ codes "30")
-
--- This code is stated as one whose blocks begin a station, or none is: a code is a text as a name
--- is, without the zeros before it, and none of those that are put in.
+-- This code is stated as one whose blocks begin a station, or none is.
 abbrev pub StatesCode : Found → Option (List ℕ) → Type 0
 StatesCode found None = IsMissing found (codes "station-code")
 StatesCode found (Some code) =
-    (text : List ℕ) × IsGiven found (codes "station-code") text × IsName text
-    × (code ≡ name_of text) × ¬ (IsPutIn code)
+    (text : List ℕ) × IsGiven found (codes "station-code") text × IsStationCode text code
 
 -- A text is stated that is no such code.
 abbrev pub StatesNoCode : Found → Type 0
 StatesNoCode found =
-    (text : List ℕ) × IsGiven found (codes "station-code") text
-    × (¬ (IsName text) ⊎ IsPutIn (name_of text))
+    (text : List ℕ) × IsGiven found (codes "station-code") text × IsNoStationCode text
 
 -- Stations begin as it is stated: by the name of the file's one station or by set-up lines, of
 -- which one of the station that is open may begin nothing, and by blocks of a code.

@@ -9,22 +9,21 @@ ghost use Rattle.command_line.specs.Stated.{StatesName, StatesNoBeginnings, Stat
 ghost use Rattle.command_line.specs.Stated.{StatesNoLimits, StatesNoName, StatesNoNumber};
 ghost use Rattle.command_line.specs.Stated.{StatesNoResidual, StatesNoWithin, StatesNumber};
 ghost use Rattle.command_line.specs.Stated.{StatesResidual, StatesUnit, StatesWithin};
-ghost use Rattle.command_line.specs.StatedNumbers.{IsStatedBy, StatesNoNumbers, StatesNumbers};
-ghost use Rattle.command_line.specs.StatedNumbers.{texts_of};
-ghost use Rattle.command_line.specs.WrongTexts.{IsUnstated};
+ghost use Rattle.command_line.specs.StatedNumbers.{StatesNoNumbers, StatesNumbers, texts_of};
+ghost use Rattle.set_marks.specs.StatedNumbers.{IsStatedBy};
+ghost use Rattle.set_marks.specs.WrongTexts.{IsUnstated};
 
 use crate::arguments::{
     CSV, DECIMALS, DEGREES, RESIDUAL, SAME_SET_UP, SHA256, STATED_NAME, STATION_CODE, TWO_C, TWO_I,
     WITHIN,
 };
 use crate::count_option::CountOption;
-use crate::numbers::{Unstated, numbers_of};
 use crate::request::{Digests, ListForm};
 use adjust_kernel::{Name, ResidualLimit};
 use clap::ArgMatches;
 use direction_table::{AngleUnit, Decimals, LARGEST_WITHIN, MOST_WRITTEN};
 use limit_texts::{LimitUnit, limit_stated};
-use set_marks::{Beginnings, StatedNumber, bare_name};
+use set_marks::{Beginnings, StatedNumber, Unstated, numbers_of, station_code};
 use station_book::Limits;
 use std::alloc::{AllocError, Global};
 
@@ -61,11 +60,7 @@ pub(crate) fn stated_code_of(found: &ArgMatches<'_>) -> Option<Option<Name>>
     let Some(text) = found.get_str(STATION_CODE) else {
         return Some(None);
     };
-    let code = bare_name(&Name::new(text.as_bytes())?);
-    match code.bytes() {
-        b"10" | b"20" | b"30" => None,
-        _ => Some(Some(code)),
-    }
+    Some(Some(station_code(text.as_bytes())?))
 }
 
 /// What an option states of how many sets or targets there are, unless its texts state none.
@@ -98,8 +93,8 @@ pub(crate) fn counted<'a>(
         (texts_of (found_of found.now) (count_name option))) }
 {
     match found.get_strs(option.name()) {
-        Some(texts) => numbers_of(alloc, texts, option),
-        None => numbers_of(alloc, &[], option),
+        Some(texts) => numbers_of(alloc, texts, option.largest()),
+        None => numbers_of(alloc, &[], option.largest()),
     }
 }
 

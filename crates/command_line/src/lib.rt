@@ -6,7 +6,7 @@
 //! | `request` | the types of a request |
 //! | `commands`, `arguments`, `help` | the grammar as `clap` builds it, and its help |
 //! | `subcommands`, `found` | the request of each subcommand, by the words after its name |
-//! | `numbers`, `count_option` | the numbers of sets or targets that are stated of stations |
+//! | `count_option` | the options that state numbers of sets or targets of stations |
 //! | `mistakes`, `limit_option` | the mistakes of words that the grammar takes, and their texts |
 //! | `laws` | a law of what is stated |
 #![tactic(auto)]
@@ -20,7 +20,6 @@ mod help;
 pub mod laws;
 mod limit_option;
 mod mistakes;
-mod numbers;
 mod request;
 mod subcommands;
 

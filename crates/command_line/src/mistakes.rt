@@ -15,11 +15,11 @@ use crate::count_option::CountOption;
 use crate::found::{counted, digests_of, form_of, limit_of, stated_code_of, unit_of};
 use crate::help;
 use crate::limit_option::{LIMIT_OPTIONS, LimitOption};
-use crate::numbers::{CountFault, Unstated};
 use crate::request::{Digests, ListForm};
 use clap::error::ErrorKind;
 use clap::{ArgMatches, Error};
 use direction_table::AngleUnit;
+use set_marks::{CountFault, Unstated};
 use station_explain::{Explanation, list_of_near_names};
 use std::alloc::{AllocError, Global};
 

@@ -1,6 +1,6 @@
 -- What each call answers, of the very bytes that it was given. `room` is how many bytes there is
 -- room for, `answered` the status, and `shown` what was handed out.
-use Rattle.std.specs.Prelude.{◌≡◌, ◌≢◌, ◌<◌, ◌≤◌, ◌+◌, ◌*◌, ℕ, Bool, List, [], length, Some}
+use Rattle.std.specs.Prelude.{◌≡◌, ◌≢◌, ◌⊎◌, ◌<◌, ◌≤◌, ◌+◌, ◌*◌, ℕ, Bool, List, [], length, Some}
 use Rattle.std.specs.Prelude.{Result, Err, IfErr, ⊤}
 use Rattle.std.specs.Borrow.{Bor}
 use Rattle.byte_digests.specs.DigestLines.{digest_line}
@@ -11,8 +11,12 @@ use Rattle.adjust_kernel.specs.declared.accepted.Accepted.{Accepted}
 use Rattle.station_book.specs.Limits.{FaceLimits}
 use Rattle.station_book.specs.ResultLimits.{of_faces}
 use Rattle.set_marks.specs.Markings.{AnswersMark}
+use Rattle.set_marks.specs.Numbers.{said_in}
+use Rattle.set_marks.specs.declared.beginnings.Beginnings.{Beginnings}
+use Rattle.set_marks.specs.declared.fault.MarkFault.TheVariants as mark
 use Rattle.set_marks.specs.declared.marked.Marked.{Marked}
 use Rattle.set_marks.specs.declared.refused.Refused.{Refused}
+use Rattle.set_marks.specs.declared.stated.Stated.{Stated}
 use Rattle.station_check.specs.Came.{source_of}
 use Rattle.station_check.specs.Answerable.{IsOfCheck}
 use Rattle.sha2.specs.Sha256.{sha256}
@@ -23,7 +27,7 @@ use Rattle.station_check.specs.Listing.{WritesList}
 use Rattle.station_check.specs.Means.{WritesMeans}
 use Rattle.station_check.specs.Promise.{KeepsPromise}
 use Rattle.station_check.specs.Words.{WritesWords}
-use Rattle.station_check.specs.declared.runs.TheConstants.{ACCEPTED}
+use Rattle.station_check.specs.declared.runs.TheConstants.{ACCEPTED, REFUSED}
 use Rattle.station_check.specs.declared.verdict_line.TheConstants.{LONGEST_VERDICT_LINE}
 use Rattle.station_compare.specs.Answers.{Compares}
 use Rattle.station_compare.specs.Directions.{TellsDirections}
@@ -31,14 +35,17 @@ use Rattle.station_compare.specs.declared.agreement.Agreement.{Agreement}
 use Rattle.station_compare.specs.declared.fault.CompareFault.{CompareFault}
 use Rattle.station_differences.specs.Answers.{TellsDifferences}
 use Rattle.station_explain.specs.Table.{Explanation, IsTheTable}
+use Rattle.station_mark.specs.FaultTexts.{refusal_line}
+use Rattle.station_mark.specs.declared.fault.PrintFault.TheVariants.{Mark}
 use Rattle.station_report.specs.Answers.{TellsReport}
 use Rattle.station_residuals.specs.Answers.{TellsResiduals}
 use Rattle.page_calls.specs.Explained.{AnswersLine, explanation_or_refusal}
 use Rattle.page_calls.specs.HandedOut.{HandsOut, verdict_line, text_or_refusal, refusal_text}
 use Rattle.page_calls.specs.HandedOut.{comparison_line, table_or_refusal, copy_text}
 use Rattle.page_calls.specs.HandedOut.{notes_or_refusal}
-use Rattle.page_calls.specs.Limits.{States, stated_limit, stated_file, stated_beginnings}
+use Rattle.page_calls.specs.Limits.{States, stated_limit}
 use Rattle.page_calls.specs.declared.explain.Unexplained.{Unexplained}
+use Rattle.page_calls.specs.declared.hand_out.TheConstants.{OUT_OF_RANGE}
 
 -- The status and the line are those of the verdict on these bytes, of which the whole promise is
 -- kept; with room for the longest line of one it is answered.
@@ -146,16 +153,44 @@ pub record IsDifferencesOf (two_c two_i : ℕ) (gsi table name : List ℕ) (room
   pub hands_out : HandsOut (status_of answer) (table_or_refusal answer) room answered shown
 
 -- The status, the copy and what is told of it, or the text of the refusal, are those of putting
--- codes into these bytes, by the name and the numbers of sets and targets that are stated, and
--- whether stations with a fault stay outside.
-pub record IsMarkOf (gsi name : List ℕ) (sets targets : ℕ) (others : Bool) (notes_room : ℕ)
-    (notes : List ℕ) (room answered : ℕ) (shown : List ℕ) : Type 0 where
+-- codes into these bytes, by beginnings and by what is stated of the file.
+pub record IsMarkOf (AreBeginnings : Beginnings → Type 0) (IsStated : Stated → Type 0)
+    (gsi : List ℕ) (notes_room : ℕ) (notes : List ℕ) (room answered : ℕ) (shown : List ℕ)
+    : Type 0 where
+  pub beginnings : Beginnings
+  pub are_beginnings : AreBeginnings beginnings
+  pub stated : Stated
+  pub is_stated : IsStated stated
   pub answer : Result Marked Refused
-  pub marks : AnswersMark (stated_beginnings name) (stated_file sets targets others) gsi
-      (file_answers (source_of gsi)) answer
+  pub marks : AnswersMark beginnings (said_in stated) gsi (file_answers (source_of gsi)) answer
   pub status : ℕ
   pub hands_copy_out : HandsOut (status_of answer) (copy_text gsi answer) room status shown
   pub hands_notes_out : HandsOut status (notes_or_refusal answer) notes_room answered notes
+
+-- Memory ran out for what is stated: no copy is handed out, and in the place of the notes the line
+-- that says so.
+pub record RanOut (notes_room : ℕ) (notes : List ℕ) (room answered : ℕ) (shown : List ℕ)
+    : Type 0 where
+  pub status : ℕ
+  pub hands_no_copy_out : HandsOut REFUSED [] room status shown
+  pub hands_line_out : HandsOut status (refusal_line (Mark mark.Memory)) notes_room answered notes
+
+-- What is stated can't be: nothing is handed out, and the status says so.
+pub record IsBeyond (AreBeginnings : Beginnings → Type 0) (IsStated : Stated → Type 0)
+    (notes : List ℕ) (answered : ℕ) (shown : List ℕ) : Type 0 where
+  pub none : (beginnings : Beginnings) (stated : Stated) → AreBeginnings beginnings
+      → ¬ (IsStated stated)
+  pub status : answered ≡ OUT_OF_RANGE
+  pub no_copy : shown ≡ []
+  pub no_notes : notes ≡ []
+
+-- One of these is answered.
+abbrev pub IsMarkAnswer : (Beginnings → Type 0) → (Stated → Type 0) → List ℕ → ℕ → List ℕ → ℕ → ℕ
+    → List ℕ → Type 0
+IsMarkAnswer AreBeginnings IsStated gsi notes_room notes room answered shown =
+    IsMarkOf AreBeginnings IsStated gsi notes_room notes room answered shown
+    ⊎ RanOut notes_room notes room answered shown
+    ⊎ IsBeyond AreBeginnings IsStated notes answered shown
 
 -- The line of these bytes' digest and of this name is handed out; with so much room it always is.
 pub record IsDigestOf (file name : List ℕ) (room answered : ℕ) (shown : List ℕ) : Type 0 where

@@ -1,6 +1,7 @@
 -- The public definitions, which public contracts and laws cite, in the order in which a reader
 -- needs them.
 pub mod Limits
+pub mod Statements
 pub mod Answers
 pub mod HandedOut
 pub mod Explained

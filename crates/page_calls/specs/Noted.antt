@@ -1,5 +1,5 @@
 -- A copy with codes in memory, and what is told of it.
-use Rattle.std.specs.Prelude.{◌≡◌, ℕ, List, [], Result, Ok, Err}
+use Rattle.std.specs.Prelude.{◌≡◌, ◌⊎◌, ℕ, List, [], Result, Ok, Err}
 use Rattle.gsi_file.specs.FileAnswers.{file_answers}
 use Rattle.set_marks.specs.Markings.{AnswersMark, copy_of}
 use Rattle.set_marks.specs.declared.beginnings.Beginnings.{Beginnings}
@@ -7,7 +7,8 @@ use Rattle.set_marks.specs.declared.fault.MarkFault.TheVariants.{Memory}
 use Rattle.set_marks.specs.declared.marked.Marked.{Marked}
 use Rattle.set_marks.specs.declared.refused.Refused.{Refused}
 use Rattle.set_marks.specs.declared.refused.Refused.TheVariants.{File}
-use Rattle.set_marks.specs.Numbers.{Said}
+use Rattle.set_marks.specs.Numbers.{Said, said_in}
+use Rattle.set_marks.specs.declared.stated.Stated.{Stated}
 use Rattle.station_check.specs.Came.{source_of}
 use Rattle.station_mark.specs.FaultTexts.{refusal_line, refusal_text, unmarked}
 use Rattle.station_mark.specs.Notes.{notes_of}
@@ -30,6 +31,12 @@ pub record IsNoted (beginnings : Beginnings) (stated : Said) (gsi : List ℕ) (n
   pub marking : Result Marked Refused
   pub marks : AnswersMark beginnings stated gsi (file_answers (source_of gsi)) marking
   pub notes : Notes gsi marking n
+
+-- It is so by something that is stated of the file, or memory ran out.
+abbrev pub IsNotedAs : Beginnings → (Stated → Type 0) → List ℕ → Noted → Type 0
+IsNotedAs beginnings IsStated gsi n =
+    ((stated : Stated) × IsStated stated × IsNoted beginnings (said_in stated) gsi n)
+    ⊎ (n ≡ noted.OutOfMemory)
 
 -- the status: 1 for a refusal of any kind, and else 0
 abbrev pub status_in : Noted → ℕ

@@ -37,6 +37,7 @@ mod mark;
 mod means;
 mod report;
 mod residuals;
+mod statement;
 mod text;
 mod words;
 

@@ -1,15 +1,16 @@
 //! The copy of a field file with codes put in, for a page.
 
-ghost use Rattle.std.specs.Prelude.{◌≡◌, IfOk, IfErr, length, take};
+ghost use Rattle.std.specs.Prelude.{◌≡◌, IfOk, IfNone, IfSome, length, take};
 ghost use Rattle.set_marks.specs.Numbers.{said_in};
-ghost use Rattle.page_calls.specs.Answers.{IsMarkOf};
-ghost use Rattle.page_calls.specs.Limits.{MayBeStated, stated_file, stated_name, stated_number};
-ghost use Rattle.page_calls.specs.HandedOut.{HandsOut, Leaves, Shows, ShowsInRange};
-ghost use Rattle.page_calls.specs.Noted.{IsNoted, copy_in, notes_in, status_in};
+ghost use Rattle.set_marks.specs.declared.stated.Stated.{Stated};
+ghost use Rattle.page_calls.specs.Answers.{IsMarkAnswer};
+ghost use Rattle.page_calls.specs.HandedOut.{HandsOut, Leaves, Shows};
+ghost use Rattle.page_calls.specs.Noted.{IsNoted, IsNotedAs, copy_in, notes_in, status_in};
+ghost use Rattle.page_calls.specs.Statements.{StatesBeginnings, StatesFile};
 
 use crate::hand_out::{OUT_OF_RANGE, hand_out};
-use adjust_kernel::Name;
-use set_marks::{Beginnings, MarkFault, Stated, StatedNumber, mark_file, marked_copy};
+use crate::statement::{Untaken, beginnings_in, stated_in};
+use set_marks::{Beginnings, MarkFault, Stated, mark_file, marked_copy};
 use station_check::{ACCEPTED, REFUSED};
 use station_mark::{PrintFault, notes_text, refusal_line, refusal_text};
 use std::alloc::{AllocError, Global};
@@ -18,43 +19,68 @@ use std::alloc::{AllocError, Global};
 /// a refusal no copy, and in `notes` the line of it, after the lines of each station where these
 /// were judged.
 ///
-/// `name` is that of the file's one station, where its lines set none up, and else no bytes. `sets`
-/// is how many sets were read to the end, and `targets` how many targets they have, each 0 where it
-/// is not stated. `others` is whether stations with a fault stay outside. Answers 0 for the copy, 1
-/// for a refusal, 2 where `name` can't be that of a station, and 3 where `out` or `notes` has too
-/// little room.
+/// `name` is that of the file's one station, where its lines set none up, and `code` the code whose
+/// blocks begin a station each; each is no bytes where none is stated. `same_set_up` is whether a
+/// set-up line of the station that is open begins nothing, `again` whether a name that comes again
+/// is another set-up. `sets` states how many sets were read to the end, and `targets` how many
+/// targets they have: lines in UTF-8, each `N`, the number of each station, or `NAME=N`, that of
+/// one, and none where no number is stated. `others` is whether stations with a fault stay outside.
+///
+/// Answers 0 for the copy, 1 for a refusal, 2 where `name` or `code` can't be one, or a line of
+/// `sets` or `targets` can't stand where it does, and 3 where `out` or `notes` has too little room.
 pub fn page_mark(
     alloc: Global,
     gsi: &[u8],
     name: &[u8],
-    sets: u32,
-    targets: u32,
+    code: &[u8],
+    sets: &[u8],
+    targets: &[u8],
+    same_set_up: bool,
+    again: bool,
     others: bool,
     out: &mut [u8],
     written: &mut usize,
     notes: &mut [u8],
     notes_written: &mut usize,
 ) -> u8
-    ensures copy { ShowsInRange (MayBeStated name.now)
-        (IsMarkOf gsi.now name.now sets targets others (length notes.old)
+    ensures copy { Shows (IsMarkAnswer (StatesBeginnings name.now code.now same_set_up)
+        (StatesFile sets.now targets.now again others) gsi.now (length notes.old)
         (take notes_written.new notes.new)) out.old out.new written.new result }
     ensures notes { Leaves notes.old notes.new notes_written.new }
-    ensures beyond { ¬ MayBeStated name.now → notes_written.new ≡ 0 }
 {
     *written = 0;
     *notes_written = 0;
-    let Ok(station) = stated_name(name) else {
+    let Some(beginnings) = beginnings_in(name, code, same_set_up) else {
         return OUT_OF_RANGE;
     };
-    let stated = stated_file(alloc, sets, targets, others);
-    let beginnings = Beginnings {
-        station,
-        same_set_up: false,
-        code: None,
+    let Some(noted) = noted_as(alloc, gsi, beginnings, sets, targets, again, others) else {
+        return OUT_OF_RANGE;
     };
-    let noted = with_notes(alloc, gsi, beginnings, stated);
     let status = hand_out(noted.status(), noted.copy(), out, written);
     hand_out_notes(&noted, status, notes, notes_written)
+}
+
+/// A copy with codes and its notes, or the text of the refusal, by what is stated of the file;
+/// nothing where that can't be stated.
+fn noted_as(
+    alloc: Global,
+    gsi: &[u8],
+    beginnings: Beginnings,
+    sets: &[u8],
+    targets: &[u8],
+    again: bool,
+    others: bool,
+) -> Option<Noted>
+    ensures noted { IfSome result (IsNotedAs beginnings
+        (StatesFile sets.now targets.now again others) gsi.now) }
+    ensures none { IfNone result ((stated : Stated)
+        → ¬ (StatesFile sets.now targets.now again others stated)) }
+{
+    match stated_in(alloc, sets, targets, again, others) {
+        Ok(stated) => Some(with_notes(alloc, gsi, beginnings, stated)),
+        Err(Untaken::Memory) => Some(Noted::OutOfMemory),
+        Err(Untaken::Wrong) => None,
+    }
 }
 
 /// A copy with codes, and what is told of it; or why there is none.
@@ -102,44 +128,6 @@ fn hand_out_notes(noted: &Noted, status: u8, notes: &mut [u8], written: &mut usi
             let line = refusal_line(PrintFault::Mark(MarkFault::Memory));
             hand_out(status, line.as_slice(), notes, written)
         }
-    }
-}
-
-/// A text is not the name of a station.
-#[derive(Clone, Copy, Drop)]
-struct NoName;
-
-/// The name of the file's one station, where one is stated.
-fn stated_name(name: &[u8]) -> Result<Option<Name>, NoName>
-    ensures ok { IfOk result (λ station. station ≡ stated_name name.now) }
-    ensures valid { IfOk result (λ _. MayBeStated name.now) }
-    ensures invalid { IfErr result (λ _. MayBeStated name.now → ⊥) }
-{
-    if name.is_empty() {
-        return Ok(None);
-    }
-    match Name::new(name) {
-        Some(name) => Ok(Some(name)),
-        None => Err(NoName),
-    }
-}
-
-/// A number that is stated, or 0 for none.
-fn stated_number(number: u32) -> Option<u32>
-    ensures { result ≡ stated_number number }
-{
-    if number == 0 { None } else { Some(number) }
-}
-
-/// What is stated of a file, each number 0 for none.
-fn stated_file(alloc: Global, sets: u32, targets: u32, others: bool) -> Stated
-    ensures { said_in result ≡ stated_file sets targets others }
-{
-    Stated {
-        sets: StatedNumber::of_each(alloc, stated_number(sets)),
-        targets: StatedNumber::of_each(alloc, stated_number(targets)),
-        again: false,
-        others,
     }
 }
 

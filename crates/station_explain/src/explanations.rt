@@ -271,7 +271,8 @@ See which of the words is right, and check a copy without the others.",
         names: &["StationName"],
         meaning: "a station is opened without a name",
         when: "\
-A block of code 10 opens a station, whose name is in word 42. This one has no word 42.",
+A block of code 10 opens a station, whose name is in word 42. This one has no word 42. So it is with
+a block of the code that 'mark --station-code N' states.",
         example: "refused: block 1: StationName",
         remedy: "\
 Check a copy that has the name of the station as word 42 of that block.",
@@ -597,9 +598,9 @@ const SET_MARK_FAULTS: &[Explanation] = &[
         names: &["ReadTwice"],
         meaning: "a target is read again in one face before the next set begins",
         when: "\
-Sets begin at the 1st, 3rd, 5th .. reading of the first target, or of that after up to three
-readings outside. This reading repeats a target of its set in the same face: a repeated pointing, a
-closing sight, a name with other letters in face II, small ones too, another station whose set-up
+Sets begin at the 1st, 3rd, 5th .. reading of the first target, or of that after sights that stand
+outside before them. This reading repeats a target of its set in the same face: a repeated pointing,
+a closing sight, a name with other letters in face II, small ones too, another station whose set-up
 line is missing, or a set that begins with another target than the first set.",
         example: "refused: block 7: mark: ReadTwice",
         remedy: "\
@@ -615,25 +616,27 @@ LAST ends them.",
         names: &["FaceMissing"],
         meaning: "a target is read in one face only before the next set begins",
         when: "\
-Sets begin at the 1st, 3rd, 5th .. reading of the first target, or of that after up to three
-readings outside. In the set of this reading its target has none in the other face: a reading is
-missing, a name is spelled in two ways, the set was broken off, this is a check sight after the
-sets, a detail point stands between the first reading of the sets and the last, or the sets begin
-elsewhere: an orientation sight or detail points stand before a single set.",
+Sets begin at the 1st, 3rd, 5th .. reading of the first target, or of that after sights that stand
+outside before them. In the set of this reading its target has none in the other face: a reading is
+missing, a name is spelled in two ways, the set was broken off, a detail point stands between the
+first reading of the sets and the last, or the sets begin elsewhere. Check sights in face I may end
+a station, but behind sets of two targets only where detail stands between.",
         example: "refused: block 10: mark: FaceMissing",
         remedy: "\
 Compare the set with the field book by 'station_check words GSI', and let prepare.py of
 the examples make a copy. If the station has one set, leave out with --blocks what stands before it,
-as an orientation sight or detail points. Else --broken-off leaves out a last set that was broken
-off, --blocks a lone reading or a check sight at the end, and --rename BLOCK NAME corrects a
-misspelled name. Mark that copy.",
+as sights to other targets or detail points. Else --broken-off leaves out a last set that was broken
+off, --blocks a lone reading or a check sight, and --rename BLOCK NAME corrects a misspelled name.
+Mark that copy.",
     },
     Said {
         names: &["OneTarget"],
         meaning: "a set would have one target",
         when: "\
 The first target is read in both faces and then comes again, as an orientation in both faces before
-the sets does, or a closing pair. Nothing shows where that set ends.",
+the sets does, or a closing pair. Nothing shows where that set ends. After sets that are read by
+faces the target that opens them may be checked in both faces, after sets of two targets only behind
+detail; but no other target, and not after sets that are read target by target.",
         example: "refused: block 4: mark: OneTarget",
         remedy: "\
 Leave the pair that belongs to no set out of a copy, with 'prepare.py --blocks' of the
@@ -671,10 +674,11 @@ the examples, and mark that. If only the last target is missing, put the codes i
         names: &["OneSet"],
         meaning: "before the only set stands what is no sight to its targets",
         when: "\
-There is one set, which begins at this reading. Before it may stand up to three sights to its own
-targets, all in face I or all to one target; where it has two targets, only to the one that opens
-it. After other readings, detail points too, it could begin elsewhere: a second set shows that sets
-begin there, and nothing else does.",
+There is one set, which begins at this reading. Before it may stand sights to its own targets: all
+in face I; or up to three to one target; or, where it is read by faces and has more than two
+targets, a pair of each that is sighted. Where it has two targets, only the one that opens it may be
+sighted. After other readings, detail points too, it could begin elsewhere: a second set shows that
+sets begin there, and nothing else does.",
         example: "refused: block 4: mark: OneSet",
         remedy: "\
 Leave the orientation sights, check sights and detail points before the set out
@@ -682,34 +686,35 @@ of a copy, with 'prepare.py --blocks' of the examples, and mark that.",
     },
     Said {
         names: &["FirstFace"],
-        meaning: "the first set begins in face II",
+        meaning: "after other readings the first set begins in face II",
         when: "\
-The readings fit as sets only if the first set begins with this reading, in face II. Sets mostly
-begin in face I, so these may begin elsewhere: a reading is missing or too many before it or further
-on, for example if the last set was broken off.",
-        example: "refused: block 1: mark: FirstFace",
+The readings fit as sets only if the first set begins with this reading, in face II, after others
+that stand outside. Sets mostly begin in face I, so these may begin elsewhere: a reading is missing
+or too many before it or further on. Sets that are begun in face II are taken where nothing but
+detail stands before them.",
+        example: "refused: block 2: mark: FirstFace",
         remedy: "\
 See in the field book where the sets begin. Of the examples, prepare.py leaves out of a
-copy what belongs to no set: a last set that was broken off with --broken-off, the lone reading of a
-target with --blocks. Mark that copy. If the sets were begun in face II, put the codes in with
-'prepare.py --codes STATION BLOCKS LAST' of the examples: BLOCKS are the first ones of the sets, as
-2,14,26, and LAST ends them.",
+copy what belongs to no set: the sights before sets that were begun in face II with --blocks, as the
+lone reading of a target; a last set that was broken off with --broken-off. Mark that copy. Or put
+the codes in with 'prepare.py --codes STATION BLOCKS LAST' of the examples: BLOCKS are the first
+ones of the sets, as 2,14,26, and LAST ends them.",
     },
     Said {
         names: &["MayBeShifted"],
-        meaning: "readings before the first set may belong to the sets",
+        meaning: "the sets may begin or end elsewhere",
         when: "\
-The readings fit as sets only if the first set begins with this reading, after up to three others.
-One of these is in face II without its reading in face I; or the sets are read target by target and
-it is of the target that ends them. Then each set may be shifted by some readings, for example if a
-check sight comes at the end.",
+The readings fit as sets if the first set begins with this reading. But a reading before it is in
+face II without its reading in face I; or the sets are read target by target, and before them stands
+a pair to another of their targets than the first, or a sight to the one that ends them, where they
+have two targets or a pair stands there too: then each set may be shifted by some readings. Or
+the last readings can be taken in two ways, as check sights and as readings to targets of no set.",
         example: "refused: block 3: mark: MayBeShifted",
         remedy: "\
-See in the field book where the sets begin. If all readings of the station before this
-one are orientation or check sights, leave them out of a copy with 'prepare.py --blocks' of the
-examples. If only some of them are, the sets begin before this block: then leave out what is too
-many at the end, a check sight with --blocks, a last set that was broken off with --broken-off. Mark
-that copy.",
+See in the field book which target opened the first set, and put the codes in with
+'prepare.py --codes STATION BLOCKS LAST' of the examples: BLOCKS are the first ones of the sets, as
+2,14,26, and LAST ends them. Or leave out of a copy, with --blocks, the orientation and check sights
+that the field book tells, before the sets and after them, and mark that.",
     },
     Said {
         names: &["PairAfter"],

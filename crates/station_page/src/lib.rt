@@ -2,14 +2,15 @@
 //! says what it says.
 #![tactic(auto)]
 
-ghost use Rattle.std.specs.Prelude.{◌≡◌, length, take};
+ghost use Rattle.std.specs.Prelude.{length, take};
 ghost use Rattle.direction_table.specs.Texts.{AreDecimals};
 ghost use Rattle.page_calls.specs.Answers.{IsCheckOf, IsListOf, IsMeansOf, IsWordsOf};
 ghost use Rattle.page_calls.specs.Answers.{IsDirectionsOf, IsResidualsOf, IsReportOf};
-ghost use Rattle.page_calls.specs.Answers.{IsComparisonOf, IsDifferencesOf, IsMarkOf, IsDigestOf};
-ghost use Rattle.page_calls.specs.Answers.{IsExplanationOf};
+ghost use Rattle.page_calls.specs.Answers.{IsComparisonOf, IsDifferencesOf, IsMarkAnswer};
+ghost use Rattle.page_calls.specs.Answers.{IsDigestOf, IsExplanationOf};
 ghost use Rattle.page_calls.specs.HandedOut.{Leaves, Shows, ShowsInRange};
-ghost use Rattle.page_calls.specs.Limits.{AreFaceLimits, IsResidualLimit, IsWithin, MayBeStated};
+ghost use Rattle.page_calls.specs.Limits.{AreFaceLimits, IsResidualLimit, IsWithin};
+ghost use Rattle.page_calls.specs.Statements.{StatesBeginnings, StatesFile};
 
 use page_calls::{
     page_check, page_compare, page_differences, page_digest, page_directions, page_explain,
@@ -190,26 +191,31 @@ pub extern "C" fn station_page_mark(
     alloc: Global,
     gsi: &[u8],
     name: &[u8],
-    sets: u32,
-    targets: u32,
+    code: &[u8],
+    sets: &[u8],
+    targets: &[u8],
+    same_set_up: bool,
+    again: bool,
     others: bool,
     out: &mut [u8],
     written: &mut usize,
     notes: &mut [u8],
     notes_written: &mut usize,
 ) -> u8
-    ensures copy { ShowsInRange (MayBeStated name.now)
-        (IsMarkOf gsi.now name.now sets targets others (length notes.old)
+    ensures copy { Shows (IsMarkAnswer (StatesBeginnings name.now code.now same_set_up)
+        (StatesFile sets.now targets.now again others) gsi.now (length notes.old)
         (take notes_written.new notes.new)) out.old out.new written.new result }
     ensures notes { Leaves notes.old notes.new notes_written.new }
-    ensures beyond { ¬ MayBeStated name.now → notes_written.new ≡ 0 }
 {
     page_mark(
         alloc,
         gsi,
         name,
+        code,
         sets,
         targets,
+        same_set_up,
+        again,
         others,
         out,
         written,

@@ -1,32 +1,37 @@
-use Rattle.std.proofs.Common.{ℕ, Bool, false, List, Option, None, Result, Ok, Err, subst, rules}
+use Rattle.std.proofs.Common.{ℕ, List, Result, Ok, Err, inl, inr, refl, rules, subst}
 use Rattle.gsi_file.specs.FileAnswers.{file_answers}
 use Rattle.set_marks.specs.Markings.{AnswersMark}
+use Rattle.set_marks.specs.Numbers.{said_in}
 use Rattle.set_marks.specs.declared.beginnings.Beginnings.{Beginnings}
 use Rattle.set_marks.specs.declared.fault.MarkFault.TheVariants.{Memory}
 use Rattle.set_marks.specs.declared.marked.Marked.{Marked}
 use Rattle.set_marks.specs.declared.refused.Refused.{Refused}
 use Rattle.set_marks.specs.declared.refused.Refused.TheVariants.{File}
-use Rattle.set_marks.specs.Numbers.{Said}
+use Rattle.set_marks.specs.declared.stated.Stated.{Stated}
 use Rattle.station_check.specs.Came.{source_of}
-use Rattle.page_calls.specs.Answers.{IsMarkOf}
+use Rattle.page_calls.specs.Answers.{IsMarkAnswer, IsMarkOf}
 use Rattle.page_calls.specs.HandedOut.{HandsOut}
-use Rattle.page_calls.specs.Limits.{stated_beginnings, stated_file}
-use Rattle.page_calls.specs.Noted.{IsNoted, Notes, copy_in, notes_in, status_in}
+use Rattle.page_calls.specs.Noted.{IsNotedAs, Notes, copy_in, notes_in, status_in}
+use Rattle.page_calls.specs.Statements.{StatesBeginnings, StatesFile}
 use Rattle.page_calls.specs.declared.mark.Noted.{Noted}
 use Rattle.page_calls.specs.declared.mark.Noted.TheVariants as noted
 use Rattle.page_calls.proofs.mark.page_mark.Goals as goal
 
--- An answer, handed out.
-of_answer : (gsi name : List ℕ) (sets targets : ℕ) (others : Bool)
-    (room notes_room status answered : ℕ) (shown notes : List ℕ) (n : Noted)
-    (marking : Result Marked Refused)
-    → AnswersMark (stated_beginnings name) (stated_file sets targets others) gsi
-    (file_answers (source_of gsi)) marking
+-- An answer by what is stated, handed out.
+of_answer : (AreBeginnings : Beginnings → Type 0) (IsStated : Stated → Type 0) (gsi : List ℕ)
+    (beginnings : Beginnings) (stated : Stated) (room notes_room status answered : ℕ)
+    (shown notes : List ℕ) (n : Noted) (marking : Result Marked Refused)
+    → AreBeginnings beginnings → IsStated stated
+    → AnswersMark beginnings (said_in stated) gsi (file_answers (source_of gsi)) marking
     → Notes gsi marking n → HandsOut (status_in n) (copy_in n) room status shown
     → HandsOut status (notes_in n) notes_room answered notes
-    → IsMarkOf gsi name sets targets others notes_room notes room answered shown
-of_answer gsi name sets targets others room notes_room status answered shown notes
-    (noted.Marked text told) (Ok m) marks same copy handed = record {
+    → IsMarkOf AreBeginnings IsStated gsi notes_room notes room answered shown
+of_answer AreBeginnings IsStated gsi beginnings stated room notes_room status answered shown notes
+    (noted.Marked text told) (Ok m) begun is marks same copy handed = record {
+      beginnings = beginnings;
+      are_beginnings = begun;
+      stated = stated;
+      is_stated = is;
       answer = Ok m;
       marks = marks;
       status = status;
@@ -34,12 +39,16 @@ of_answer gsi name sets targets others room notes_room status answered shown not
       hands_notes_out =
           subst (λ (t : List ℕ). HandsOut status t notes_room answered notes) same.1 handed;
     }
-of_answer gsi name sets targets others room notes_room status answered shown notes
-    (noted.Marked text told) (Err refused) marks same copy handed = absurd same
-of_answer gsi name sets targets others room notes_room status answered shown notes
-    (noted.Unmarked text) (Ok m) marks same copy handed = absurd same
-of_answer gsi name sets targets others room notes_room status answered shown notes
-    (noted.Unmarked text) (Err refused) marks same copy handed = record {
+of_answer AreBeginnings IsStated gsi beginnings stated room notes_room status answered shown notes
+    (noted.Marked text told) (Err refused) begun is marks same copy handed = absurd same
+of_answer AreBeginnings IsStated gsi beginnings stated room notes_room status answered shown notes
+    (noted.Unmarked text) (Ok m) begun is marks same copy handed = absurd same
+of_answer AreBeginnings IsStated gsi beginnings stated room notes_room status answered shown notes
+    (noted.Unmarked text) (Err refused) begun is marks same copy handed = record {
+      beginnings = beginnings;
+      are_beginnings = begun;
+      stated = stated;
+      is_stated = is;
       answer = Err refused;
       marks = marks;
       status = status;
@@ -47,10 +56,14 @@ of_answer gsi name sets targets others room notes_room status answered shown not
       hands_notes_out =
           subst (λ (t : List ℕ). HandsOut status t notes_room answered notes) same handed;
     }
-of_answer gsi name sets targets others room notes_room status answered shown notes
-    noted.OutOfMemory (Ok m) marks same copy handed = absurd same
-of_answer gsi name sets targets others room notes_room status answered shown notes
-    noted.OutOfMemory (Err refused) marks same copy handed = record {
+of_answer AreBeginnings IsStated gsi beginnings stated room notes_room status answered shown notes
+    noted.OutOfMemory (Ok m) begun is marks same copy handed = absurd same
+of_answer AreBeginnings IsStated gsi beginnings stated room notes_room status answered shown notes
+    noted.OutOfMemory (Err refused) begun is marks same copy handed = record {
+      beginnings = beginnings;
+      are_beginnings = begun;
+      stated = stated;
+      is_stated = is;
       answer = Err (File Memory);
       marks = tt;
       status = status;
@@ -58,23 +71,45 @@ of_answer gsi name sets targets others room notes_room status answered shown not
       hands_notes_out = handed;
     }
 
--- What is stated of beginnings where the name of the one station is, or nothing.
-abbrev beginnings : Option (List ℕ) → Beginnings
-beginnings station = record { station = station; same_set_up = false; code = None }
+-- The same of what is noted, or memory ran out.
+of_noted : (AreBeginnings : Beginnings → Type 0) (IsStated : Stated → Type 0) (gsi : List ℕ)
+    (beginnings : Beginnings) (room notes_room status answered : ℕ) (shown notes : List ℕ)
+    (n : Noted) → AreBeginnings beginnings → IsNotedAs beginnings IsStated gsi n
+    → HandsOut (status_in n) (copy_in n) room status shown
+    → HandsOut status (notes_in n) notes_room answered notes
+    → IsMarkAnswer AreBeginnings IsStated gsi notes_room notes room answered shown
+of_noted AreBeginnings IsStated gsi beginnings room notes_room status answered shown notes n begun
+    (inl its) copy handed =
+    let done = its.2 in
+    inl (of_answer AreBeginnings IsStated gsi beginnings its.0 room notes_room status answered shown
+    notes n done.marking begun its.1 done.marks done.notes copy handed)
+of_noted AreBeginnings IsStated gsi beginnings room notes_room status answered shown notes n begun
+    (inr out) copy handed =
+    inr (inl (record {
+      status = status;
+      hands_no_copy_out =
+          subst (λ (m : Noted). HandsOut (status_in m) (copy_in m) room status shown) out copy;
+      hands_line_out =
+          subst (λ (m : Noted). HandsOut status (notes_in m) notes_room answered notes) out handed;
+    }))
+
+pub returns-in_default-noted_as-clause-copy : goal.returns-in_default-noted_as-clause-copy
+returns-in_default-noted_as-clause-copy c = record {
+  shows = inr (inr (record {
+    none = λ beginnings stated begun. c.in_default-noted_as.ensures.none stated;
+    status = refl;
+    no_copy = refl;
+    no_notes = refl;
+  }));
+  leaves = search rules;
+}
 
 pub returns-clause-copy : goal.returns-clause-copy
 returns-clause-copy c = record {
-  shows = λ may.
-      let its =
-      subst (λ (s : Option (List ℕ)). IsNoted (beginnings s)
-      (stated_file c.args.sets c.args.targets c.args.others) c.args.gsi.now
-      c.with_notes-noted.result) c.in-Ok.ensures.ok
-      (subst (λ (s : Said). IsNoted (beginnings c.in-Ok.station) s c.args.gsi.now
-      c.with_notes-noted.result)
-      c.stated_file-stated.ensures c.with_notes-noted.ensures) in
-      of_answer c.args.gsi.now c.args.name.now c.args.sets c.args.targets c.args.others _ _
-      c.hand_out-status.result _ _ _
-      c.with_notes-noted.result its.marking its.marks its.notes (search rules) (search rules);
-  beyond = search rules;
+  shows =
+      of_noted (StatesBeginnings c.args.name.now c.args.code.now c.args.same_set_up)
+      (StatesFile c.args.sets.now c.args.targets.now c.args.again c.args.others) c.args.gsi.now
+      c.in-Some.beginnings _ _ c.hand_out-status.result _ _ _ c.in-Some-noted_as.noted
+      c.in-Some.ensures.stated c.in-Some-noted_as.ensures.noted (search rules) (search rules);
   leaves = search rules;
 }
