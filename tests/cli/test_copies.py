@@ -76,12 +76,15 @@ WAYS = {
 
 def sights_before(targets):
     """Sights before the sets, three at most: to their targets and to another, X, in one face or in
-    both."""
+    both; or more to different targets."""
     for one in [*targets, "X"]:
         yield from (one, one + one.lower(), one.lower() + one)
         for other in [*targets, "X"]:
             pair = other + other.lower()
             yield from (one + other, one + pair, pair + one, one + other + one)
+            if other != one:
+                yield from (one + one.lower() + pair, one.lower() + one + pair)
+    yield from (targets + "XY", pairs_of(targets), "XY" + pairs_of(targets[-1]))
 
 
 def clean_jobs():
@@ -239,9 +242,16 @@ class PrepareTest(ProgramTest):
             status, _, said = self.prepared(sights_of(sights), "--closing")
             self.assertEqual((1, "prepare.py: no set has a closing sight\n"), (status, said))
         # An orientation in both faces to the last target, and then whole sets.
-        for sights in ("CcAaBbCcAaBbCc", "AaBbAa"):
+        # Or one to each of two; or an orientation sight, and a check sight at the end.
+        for sights, first in [
+            ("CcAaBbCcAaBbCc", 3),
+            ("AaBbAa", 3),
+            ("DdCcAaBbCcDdAaBbCcDd", 5),
+            ("CABCcbaA", 2),
+        ]:
             status, _, answer = self.prepared(sights_of(sights), "--closing")
-            said = "prepare.py: all sets are whole, and no sight closes one, if the first begins at block 3: "
+            said = "prepare.py: all sets are whole, and no sight closes one, if the first begins at "
+            said += f"block {first}: "
             self.assertEqual((1, said), (status, answer[: len(said)]))
 
     def test_a_last_set_that_was_broken_off_is_found_in_a_job_without_codes(self):
@@ -252,8 +262,6 @@ class PrepareTest(ProgramTest):
             ("ABCabcABCab", "......xxxxx"),
             ("ABCcbacbaABCABCc", "............xxxx"),  # faces alternate
             ("abcCBAabc", "......xxx"),  # sets begin in face II
-            ("XYAaBbCcAaBbCcAaB", "..............xxx"),
-            ("XYAaBbCcAaBb", "........xxxx"),  # each face is there, and the last target is not
             ("ABCcbaABba|ABCcbaAB", ".................xx"),  # a gap; the second station is broken off
             ("ABCcbaAB|ABCcbaAB", "......xx.......xx"),
             ("AABCcbaABC", ".......xxx"),  # an orientation sight comes first
@@ -275,12 +283,14 @@ class PrepareTest(ProgramTest):
         said = "prepare.py: the file has codes: leave the set out by --set\n"
         self.assertEqual((1, "", said), self.prepared(P7, "--broken-off"))
         # An orientation in both faces to the last target, and then whole sets.
-        whole = self.prepared(sights_of("CcAaBbCcAaBbCc"), "--broken-off")
-        self.assertEqual((1, "", none), whole)
+        of_two = ["XxCcAaBbCcAaBbCc", "XYCcAaBbCcAaBbCc", "XYAaBbCcAaBb", "AaBbCcAaBb"]
+        for sights in ["CcAaBbCcAaBbCc", *of_two]:
+            whole = self.prepared(sights_of(sights), "--broken-off")
+            self.assertEqual((1, "", none), whole)
         # The first sights may be those of a set or an orientation before it.
         for sights, either in [
-            ("AaBbCcAaBbCcAaB", "block 15 or blocks 13-15"),
-            ("AaBbCcAaBb", "blocks 7-10 or blocks 9-10"),
+            ("AaBbCcAaBbCcAaB", "block 15 or blocks 11-15 or blocks 13-15"),
+            ("XYAaBbCcAaBbCcAaB", "block 17 or blocks 13-17 or blocks 15-17"),
             ("ABbaAB", "block 6 or blocks 5-6"),
         ]:
             said = f"prepare.py: the last set that was broken off may have {either}: leave out by"

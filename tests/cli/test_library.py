@@ -45,14 +45,15 @@ OPERANDS: dict[str, list[type]] = {
 OF_ONE_LINE = {"check", "compare"}
 
 # The options that the module's functions have, each with its kind; a limit of residuals has one alone.
-OPTIONS = {
+OPTIONS: dict[str, type] = {
     **{"two-c": int, "two-i": int, "residual": int, "within": int, "decimals": int},
-    **{"station": str, "sets": int, "targets": int},
+    **{"station": str, "station-code": str},
 }
 OF_SHEETS = "check"
 
-# The options that the command line also takes of a single station, as NAME=N.
-NUMBERS = {"--sets", "--targets"}
+# The options that state a number of each station, or as NAME=N that of one; and the flags.
+NUMBERS = {"sets", "targets"}
+FLAGS = {"same-set-up", "again", "others"}
 
 # What is out of its range: a number that is one too large, is negative, or would be 0 in 32 bits.
 BEYOND: list[tuple[str, dict[str, Any]]] = [
@@ -71,6 +72,14 @@ BEYOND: list[tuple[str, dict[str, Any]]] = [
     ("mark", {"sets": 0}),
     ("mark", {"sets": 1 << 32}),
     ("mark", {"targets": -1}),
+    ("mark", {"sets": {}}),
+    ("mark", {"sets": {"P1": 41}}),
+    ("mark", {"sets": {"SEVENTEEN LETTERS": 3}}),
+    ("mark", {"targets": {"P1": 101, None: 3}}),
+    ("mark", {"targets": {"P1": 3, "0P1": 3}}),
+    ("mark", {"targets": {"P1=3\nP2": 3}}),
+    ("mark", {"station_code": ""}),
+    ("mark", {"station_code": "20"}),
 ]
 GIVEN: dict[str, list[bytes | str]] = {
     "check": [GSI.read_bytes(), SHEET.read_bytes()],
@@ -123,7 +132,8 @@ int main(int count, char **words) {
         station_check_means(gsi, n, "P7", 2, 2000, 2000, out, sizeof out, &length);
         station_check_list(gsi, n, 2000, 2000, out, sizeof out, &length);
         station_check_words(gsi, n, out, sizeof out, &length, more, sizeof more, &second);
-        station_check_mark(gsi, n, "", 0, 0, 0, 0, out, sizeof out, &length, more, sizeof more, &second);
+        station_check_mark(gsi, n, "", 0, "", 0, "3\nP1=2", 6, "P1=4", 4, 0, 0, 0, out, sizeof out, &length,
+                           more, sizeof more, &second);
         station_check_digest(gsi, n, "gsi", 3, out, sizeof out, &length);
         station_check_explain("TwoC", 4, out, sizeof out, &length);
     }
@@ -194,16 +204,20 @@ def call_of(case: run.Case) -> Call | None:
         return None
     operands, options = list[str](), dict[str, Any]()
     while words:
-        name, _, value = words.pop(0).partition("=")
-        if name.startswith("--"):
-            if name[2:] not in OPTIONS or (name == "--residual" and command != OF_SHEETS):
-                return None
-            stated = value or words.pop(0)
-            if name in NUMBERS and "=" in stated:
-                return None
-            options[name[2:].replace("-", "_")] = OPTIONS[name[2:]](stated)
+        word = words.pop(0)
+        name, _, value = word.removeprefix("--").partition("=")
+        given = name.replace("-", "_")
+        if not word.startswith("--"):
+            operands.append(word)
+        elif name in FLAGS:
+            options[given] = True
+        elif name in NUMBERS:
+            station, _, number = (value or words.pop(0)).rpartition("=")
+            options.setdefault(given, {})[station or None] = int(number)
+        elif name not in OPTIONS or (name == "residual" and command != OF_SHEETS):
+            return None
         else:
-            operands.append(name)
+            options[given] = OPTIONS[name](value or words.pop(0))
     folder, kinds = case.folder, OPERANDS[command]
     paths = [folder / word for word, kind in zip(operands, kinds) if kind is bytes]
     if len(operands) != len(kinds) or not all(path.is_file() for path in paths):
@@ -211,10 +225,10 @@ def call_of(case: run.Case) -> Call | None:
     # (what stands beside an empty list is the program's own)
     if command == "list" and case.expected[2] and case.expected[0] == 0:
         return None
-    given: list[bytes | str] = []
+    files: list[bytes | str] = []
     for word, kind in zip(operands, kinds):
-        given.append((folder / word).read_bytes() if kind is bytes else word)
-    return Call(command, given, options)
+        files.append((folder / word).read_bytes() if kind is bytes else word)
+    return Call(command, files, options)
 
 
 class LibraryTest(ProgramTest):

@@ -161,8 +161,8 @@ class MarkTest(AgainstModel):
             (set_of("AB") * 300, refused_station("S1", "block 164: TooManySets", 1_200)),
             (set_of("AB") * 2 + b"title\n", refused("block 9: Word 1")),
             (
-                set_of("ABCD") * 2 + set_of("ABCD")[: 4 * LINE],
-                refused_station("S1", "block 17: FaceMissing", 20),
+                set_of("ABCD") * 2 + set_of("ABCD")[: 5 * LINE],
+                refused_station("S1", "block 17: FaceMissing", 21),
             ),
         ]:
             field.write_bytes(text)

@@ -70,13 +70,16 @@ def without_codes(field):
     return b"\n".join(kept)
 
 
-def told(name, sets, targets):
-    """What `mark` tells of a station with so many sets of these targets and no other reading."""
+def told(name, sets, targets, are_alike):
+    """What `mark` tells of a station with so many sets of these targets and no other reading, of
+    which all are alike or no two."""
     ends = f"from {targets[0]} to {targets[-1]}"
     words = f"{sets} set{'s' * (sets > 1)}, {len(targets)} targets, {ends}"
     outside = "0 readings before them and 0 after stay outside"
-    notes = f"note: station {name}: {words}; {outside}\nnote: compare this with the field book\n"
-    return notes.encode()
+    pairs = [(a, b) for b in range(2, sets + 1) for a in range(1, b)] if are_alike else []
+    alike = [f"sets {a} and {b} are the same to the last digit" for a, b in pairs]
+    notes = [f"note: station {name}: {one}\n" for one in [f"{words}; {outside}", *alike]]
+    return "".join([*notes, "note: compare this with the field book\n"]).encode()
 
 
 def agrees(sets, targets):
@@ -175,7 +178,8 @@ class SizesTest(ProgramTest):
         self.check_others(field, sets, targets)
         # A set has two targets at least.
         if targets > 1:
-            self.check_marked("S1", field, sets, [str(n) for n in range(1, targets + 1)])
+            names = [str(n) for n in range(1, targets + 1)]
+            self.check_marked("S1", field, sets, names, are_alike=True)
 
     def check_others(self, field, sets, targets):
         """Each other command, with each kind of rows and of report, has the model's answer."""
@@ -187,13 +191,13 @@ class SizesTest(ProgramTest):
             self.assertEqual((0, b""), (expected[0], expected[2]), (command, sets, targets))
             self.assertEqual(expected, answer_of(case.args(field, table)), (command, sets, targets))
 
-    def check_marked(self, name, field, sets, targets):
+    def check_marked(self, name, field, sets, targets, are_alike=False):
         """Without its codes the file of sets of these targets gets the same codes again."""
         text = field.read_bytes()
         job = self.file(f"{field.name} {name.encode().hex()}.job", without_codes(text))
         stated = [f"--station={name}", f"--sets={sets}", f"--targets={len(targets)}"]
         mark = answer_of(["mark", *stated, job])
-        self.assertEqual((0, text, told(name, sets, targets)), mark, field.name)
+        self.assertEqual((0, text, told(name, sets, targets, are_alike)), mark, field.name)
         job.unlink()
 
     def test_each_number_of_sets_and_of_targets(self):
@@ -230,13 +234,14 @@ class SizesTest(ProgramTest):
         names = [f"S{n}" for n in range(1, model.MOST_STATIONS + 1)]
         set_ups = [f"11....+{name:0>8} 88..10+00001543\n".encode() for name in names]
         fields = [lines(station(name, 2, 2)) + b"\n" for name in names]
-        notes = [told(name, 2, "12").splitlines(keepends=True) for name in names]
+        notes = [told(name, 2, "12", True).splitlines(keepends=True) for name in names]
 
         def check(count):
             parts = list(zip(set_ups[:count], fields))
             text = b"".join(set_up + without_codes(field) for set_up, field in parts)
             copy = b"".join(set_up + field for set_up, field in parts)
-            said = b"".join([*(first for first, _ in notes[:count]), notes[0][1]])
+            *_, last = notes[0]
+            said = b"".join([*(line for one in notes[:count] for line in one[:-1]), last])
             path = self.file(f"{count}.job", text)
             self.assertEqual((0, copy, said), answer_of(["mark", "--sets=2", path]), count)
             path.unlink()

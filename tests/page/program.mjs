@@ -9,7 +9,6 @@ import vm from 'node:vm';
 
 const DEFAULTS = {
   '--two-c': 2000, '--two-i': 2000, '--residual': null, '--within': null, '--decimals': 6, '--room': null,
-  '--sets': 0, '--targets': 0,
 };
 const RUNS = 5;
 
@@ -23,11 +22,13 @@ const calls = vm.runInThisContext('calls');
 const core = await WebAssembly.compile(Buffer.from(part('module'), 'base64'));
 
 const options = { ...DEFAULTS }, operands = [];
-let station = '', others = false;
+// What is stated to `mark`: texts, of which each stands on a line, and flags.
+const stated = { '--station': [], '--station-code': [], '--sets': [], '--targets': [] };
+const flags = { '--same-set-up': false, '--again': false, '--others': false };
 while (words.length > 0) {
-  const [word, value] = words.shift().split('=');
-  if (word === '--station') station = value ?? words.shift();
-  else if (word === '--others') others = true;
+  const whole = words.shift(), [, word = whole, value] = whole.match(/^(--[^=]*)(?:=([^]*))?$/) ?? [];
+  if (word in stated) stated[word].push(value ?? words.shift());
+  else if (word in flags) flags[word] = true;
   else if (word in options) options[word] = Number(value ?? words.shift());
   else operands.push(word);
 }
@@ -54,8 +55,10 @@ const answers = {
     calls.compare(core, bytesOf(gsi), bytesOf(table), nameOf(name), ...faces, options['--within']),
   differences: (gsi, name, table) =>
     calls.differences(core, bytesOf(gsi), bytesOf(table), nameOf(name), ...faces),
-  mark: gsi =>
-    calls.mark(core, bytesOf(gsi), nameOf(station), options['--sets'], options['--targets'], others),
+  mark: gsi => {
+    const texts = Object.values(stated).map(lines => nameOf(lines.join('\n')));
+    return calls.mark(core, bytesOf(gsi), ...texts, ...Object.values(flags));
+  },
   digest: (file, name) => calls.digest(core, bytesOf(file), nameOf(name)),
   explain: (line = '') => calls.explain(core, nameOf(line)),
   'explain-bytes': file => calls.explain(core, bytesOf(file)),

@@ -7,7 +7,6 @@ import io
 import math
 import os
 import random
-import re
 import shutil
 import signal
 import subprocess
@@ -81,22 +80,15 @@ def node():
     return next((words for words, one in zip(commands, ran) if one.returncode == 0), None)
 
 
-# The options of `mark` that the page hasn't: how stations begin, and a number of a single one.
-OF_MARK = re.compile(r"--(again|same-set-up|station-code\b.*)|(--(sets|targets)=)?[^-].*=\d+")
-
-
 def is_of_page(case):
     """Whether the files of a case can be handed in: they are there, and none is a folder. What the
     program notes beside an empty list is its own, and so are the rows of a list, tables in degrees,
-    reports with a table, limits in mgon, a limit of residuals but of a sheet, and what is stated of
-    single stations."""
+    reports with a table, limits in mgon, and a limit of residuals but of a sheet."""
     paths = [case.folder / word for word in case.args if "." in word]
     is_noted = case.args[:1] == ["list"] and case.expected[0] == 0 and case.expected[2]
     is_stated = any(word in ("--csv", "--degrees") or word.startswith("--table") for word in case.args)
     is_held = case.args[:1] != ["check"] and any(word.startswith("--residual") for word in case.args)
-    is_marked = case.args[:1] == ["mark"] and any(map(OF_MARK.fullmatch, case.args))
-    is_own = is_noted or is_stated or is_held or is_marked
-    is_own = is_own or any(word.endswith("mgon") for word in case.args)
+    is_own = is_noted or is_stated or is_held or any(word.endswith("mgon") for word in case.args)
     return not is_own and case.expected[0] < 2 and all(path.is_file() for path in paths)
 
 
@@ -179,6 +171,15 @@ class PageCallsTest(TimedTest):
             ["differences", "--two-c=1000001", gsi, "P7", table],
             ["mark", "--station=SEVENTEEN LETTERS", gsi],
             ["mark", "--station=P\u00e47", gsi],
+            ["mark", "--station-code=20", gsi],
+            ["mark", "--sets=41", gsi],
+            ["mark", "--sets=three", gsi],
+            ["mark", "--sets=3", "--sets=4", gsi],
+            ["mark", "--sets=P7=3", "--sets=0P7=3", gsi],
+            ["mark", "--sets=SEVENTEEN LETTERS=3", gsi],
+            ["mark", "--targets=P7=101", gsi],
+            ["mark", "--targets=4294967296", gsi],
+            ["mark", "--targets=P\u00e47=3", gsi],
         ]:
             with self.subTest(words):
                 self.assertEqual((2, b"", b""), answer_to([*self.command(), *words]))

@@ -560,38 +560,97 @@ class PageInBrowserTest(TimedTest):
         # Who has the page alone has no script of the program's.
         self.assertIn("If you have no prepare.py, change a copy of the file in a text editor", page.text(".here"))
 
-    def state_numbers(self, page, *numbers):
-        """States how many sets were read to the end, and how many targets they have."""
+    def state_numbers(self, page, station, *numbers, each=False):
+        """States how many sets were read to the end at a station, and how many targets they have; or the
+        same of each that needs it."""
+        form = f"form[aria-label='Sets and targets of {station}']" if station else "form:has(input[type=number])"
         with page.answered():
             page.js(
-                f"[...document.querySelectorAll('.card input[type=number]')].forEach((input, nth) =>"
+                f"(form => {{ [...form.querySelectorAll('input[type=number]')].forEach((input, nth) =>"
                 f" input.value = {json.dumps(numbers)}[nth] ?? '');"
-                " document.querySelector('.card form:has(input[type=number])').requestSubmit()"
+                f" if ({json.dumps(each)}) form.querySelector('input[type=checkbox]').checked = true;"
+                f" form.requestSubmit() }})(document.querySelector({json.dumps(f'.card {form}')}))"
             )
 
-    def test_the_number_of_sets_is_asked_where_they_were_read_target_by_target(self):
+    def test_the_number_of_sets_is_asked_at_each_station_that_was_read_target_by_target(self):
         job = (CASES / "mark" / "mark_of_stated_sets_at_two_stations" / "field.gsi").read_bytes()
         page = self.page(self.file("targets.gsi", job))
         self.assertEqual([["open", "targets.gsi", NOTHING_COUNTED]], self.cards(page))
         self.assertEqual("refused: block 2: mark: ByTargets", page.text(".exact samp"))
+        labels = "[...document.querySelectorAll('.card form')].map(form => form.getAttribute('aria-label'))"
+        self.assertEqual(["Sets and targets of P1", "Sets and targets of P3"], page.js(labels))
         # The number that would be found is not told.
         self.assertNotIn("Station P1: 2 sets", page.text(".card"))
         page.give(self.file("targets.P1.csv", b"A,0\nB,0\n"))
         self.assertIn("Checked as soon as the number of sets is stated", page.text(".card"))
         page.empty()
         page.give(self.folder / "targets.gsi")
-        self.state_numbers(page, 3)
+        self.state_numbers(page, "P1", 3)
         self.assertEqual([["open", "targets.gsi", COUNTED_OTHERWISE]], self.cards(page))
         self.assertEqual("refused: block 2: mark: SetCount", page.text(".exact samp"))
-        self.state_numbers(page, 2, 3)
+        self.state_numbers(page, "P1", 2, 3)
         self.assertEqual("refused: block 2: mark: TargetCount", page.text(".exact samp"))
-        self.state_numbers(page, 2, 2)
+        # What was stated of one station is no answer for the other.
+        self.state_numbers(page, "P1", 2, 2)
+        self.assertEqual([["open", "targets.gsi", NOTHING_COUNTED]], self.cards(page))
+        self.assertEqual(["Sets and targets of P3"], page.js(labels))
+        self.state_numbers(page, "P3", 2)
         self.assertEqual([("read", "Station P1"), ("read", "Station P3")], [tuple(card[:2]) for card in self.cards(page)])
-        command = "station_check mark --sets 2 --targets 2 targets.gsi > targets_marked.gsi"
+        command = "station_check mark --sets 'P1=2' --sets 'P3=2' --targets 'P1=2' targets.gsi > targets_marked.gsi"
         self.assertIn(command, page.text(".marked pre"))
         # Other numbers may be stated.
-        self.state_numbers(page, 2)
-        self.assertIn(command.replace(" --targets 2", ""), page.text(".marked pre"))
+        self.state_numbers(page, "P1", 2)
+        self.assertIn(command.replace(" --targets 'P1=2'", ""), page.text(".marked pre"))
+
+    def test_the_same_numbers_may_be_stated_of_each_station_that_needs_them(self):
+        job = (CASES / "mark" / "mark_of_stated_sets_at_two_stations" / "field.gsi").read_bytes()
+        page = self.page(self.file("targets.gsi", job))
+        self.state_numbers(page, "P3", 2, each=True)
+        self.assertEqual([("read", "Station P1"), ("read", "Station P3")], [tuple(card[:2]) for card in self.cards(page)])
+        command = "station_check mark --sets 'P1=2' --sets 'P3=2' targets.gsi > targets_marked.gsi"
+        self.assertIn(command, page.text(".marked pre"))
+
+    def test_the_number_of_the_only_station_is_stated_without_its_name(self):
+        job = (CASES / "mark" / "mark_of_sets_by_targets" / "field.gsi").read_bytes()
+        page = self.page(self.file("alone.gsi", job))
+        # (a name would be stated in vain, as long as the number is missing)
+        self.assertEqual([["open", "alone.gsi", NOTHING_COUNTED]], self.cards(page))
+        self.assertEqual([0], page.js("[...document.querySelectorAll('.card input[type=checkbox]')].map(box => box.offsetWidth)"))
+        self.state_numbers(page, None, 2)
+        self.state_name(page, "S1")
+        command = "station_check mark --station S1 --sets 2 alone.gsi > alone_marked.gsi"
+        self.assertIn(command, page.text(".marked pre"))
+
+    def test_a_station_that_is_set_up_twice_is_asked_about(self):
+        cases = {"mark_of_the_same_set_up": "The same set-up: its readings go on", "mark_of_a_name_that_is_set_up_again": "Another one, as P1-2"}
+        for case, button in cases.items():
+            job = (CASES / "mark" / case / "field.gsi").read_bytes()
+            page = self.page(self.file(f"{case}.gsi", job))
+            self.assertEqual(["open", f"{case}.gsi"], self.cards(page)[0][:2])
+            self.assertTrue(page.text(".exact samp").endswith(": mark: StationTwice"), page.text(".exact samp"))
+            buttons = page.texts(".card [role=group] button")[:2]
+            self.assertEqual(["The same set-up: its readings go on", "Another one, as P1-2"], buttons)
+            with page.answered():
+                page.press(button)
+            with self.subTest(case):
+                self.assertEqual({"read"}, {card[0] for card in self.cards(page)})
+                option = "--same-set-up" if button == buttons[0] else "--again"
+                self.assertIn(f"station_check mark {option} {case}.gsi > {case}_marked.gsi", page.text(".marked pre"))
+            # It is asked again where the user wants it.
+            with page.answered():
+                page.press("Ask again about stations that are set up twice")
+            self.assertTrue(page.text(".exact samp").endswith(": mark: StationTwice"), page.text(".exact samp"))
+
+    def test_the_code_that_begins_stations_is_asked_for_where_none_is_named(self):
+        job = (CASES / "mark" / "mark_of_stations_in_a_code" / "field.gsi").read_bytes()
+        page = self.page(self.file("coded.gsi", job))
+        with page.answered():
+            page.js(
+                "(form => { form.querySelector('input').value = '1'; form.requestSubmit() })"
+                "([...document.querySelectorAll('.card form')].at(-1))"
+            )
+        self.assertEqual({"read"}, {card[0] for card in self.cards(page)})
+        self.assertIn("station_check mark --station-code 1 coded.gsi > coded_marked.gsi", page.text(".marked pre"))
 
     def test_stations_that_are_not_recognized_may_be_left_outside(self):
         job = (CASES / "mark" / "mark_with_others" / "field.gsi").read_bytes()

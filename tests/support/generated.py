@@ -257,7 +257,13 @@ class Job:
         self.lines.reading(target, direction + error, zenith)
 
     def leading(self, targets: Sequence[str]) -> None:
-        """Sights for orientation and checks."""
+        """Sights for orientation and checks, or of a resection."""
+        if self.random.random() < 0.12:
+            faces = self.random.choice([[1], [1, 2], [1, 2]])
+            for target in self.random.sample([*targets, "X"], self.random.randint(1, len(targets))):
+                for face in faces:
+                    self.sight(target, face)
+            return
         chosen = self.random.choice([*targets, "X"])
         none = [list[int]()] * 6
         for face in self.random.choice([*none, [1], [1], [1, 2], [2], [1, 1], [1, 1, 1, 1]]):
@@ -282,6 +288,7 @@ class Job:
     def sets(self, targets: Sequence[str]) -> None:
         """Sets of these targets, of which some are read in another way or are no sets."""
         way = WAYS[self.random.choice(list(WAYS))]
+        is_begun_in_two = self.random.random() < 0.08
         turned = self.random.random() < 0.1  # the first face changes from set to set
         other = self.random.random() < 0.04
         count = self.random.choice([0, 1, 1, 2, 2, 3])
@@ -298,7 +305,7 @@ class Job:
                 seen = [seen[0], *between, *seen[1:][-1:]]
             way = WAYS[self.random.choice(list(WAYS))] if other else way
             sights = way(seen)
-            if turned and number % 2:
+            if is_begun_in_two != (turned and number % 2 == 1):
                 sights = [(target, 3 - face) for target, face in sights]
             sights = self.changed(sights) if self.random.random() < 0.12 else sights
             for sight in sights:
@@ -314,12 +321,22 @@ class Job:
             self.sight(f"{number}", 1)
 
     def trailing(self, targets: Sequence[str]) -> None:
-        """Check sights and detail points."""
-        if self.random.random() < 0.1:
-            for face in self.random.choice([[1], [1, 2]]):
-                self.sight(targets[0], face)
+        """Detail points, a new target in both faces, and check sights: in face I to one target or
+        all, or a pair."""
         for number in range(self.random.choice([0, 0, 0, 1, 3])):
             self.sight(f"{100 + number}", self.random.choice([1, 1, 1, 2]))
+        if self.random.random() < 0.05:
+            self.ending(["N"], [1, 2])
+        if self.random.random() < 0.25:
+            checked = self.random.choice([targets[:1], targets[:1], targets[-1:], targets])
+            self.ending(checked, self.random.choice([[1], [1], [1, 2], [2, 1]]))
+        self.details(110, [0, 0, 0, 0, 1, 2])
+
+    def ending(self, targets: Sequence[str], faces: Sequence[int]) -> None:
+        """Sights to these targets after the sets, in these faces."""
+        for target in targets:
+            for face in faces:
+                self.sight(target, face)
 
     def station(self) -> None:
         """A station: sights before its sets, the sets, and sights after them."""
