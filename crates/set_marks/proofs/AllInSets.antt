@@ -17,18 +17,18 @@ use Rattle.set_marks.specs.declared.outside.Ending.TheVariants.{Nothing, CheckSi
 use Rattle.set_marks.specs.declared.sight.Sight.{Sight}
 use Rattle.set_marks.specs.declared.stated.Numbers.{Numbers}
 use Rattle.set_marks.specs.Divisions.{is_of, seconds_of, rest_of, place_of, unknown_in, starts_of}
-use Rattle.set_marks.specs.Divisions.{starts_from, sets_flaw, first_cut, cut_end, flaw_at}
+use Rattle.set_marks.specs.Divisions.{sets_flaw, first_cut, cut_end, flaw_at}
 use Rattle.set_marks.specs.Divisions.{flaw_when, flaw_found, parts_at, divided_unless, span_from}
 use Rattle.set_marks.specs.Doubts.{doubt_after}
 use Rattle.set_marks.specs.Ways.{Way, cut_flaw, flaw_after, flaw_of, is_division, most_leading}
-use Rattle.set_marks.specs.Ways.{leading_of, ways_of, divided_by}
-use Rattle.set_marks.specs.Searching.{NoneOpen}
+use Rattle.set_marks.specs.Ways.{leading_of, ways_of, divided_by, detail_between}
+use Rattle.set_marks.specs.Searching.{starts_from, NoneOpen}
 use Rattle.set_marks.specs.SetsInWords.{one_after_another, ReadsEachOnce}
 use Rattle.set_marks.proofs.AmongDetails.{is_known, all_kept, first_place}
 use Rattle.set_marks.proofs.BeginsAndEnds.{first_start}
 use Rattle.set_marks.proofs.FewStarts.{few_are_all}
 use Rattle.set_marks.proofs.RowsOfSets.{joined}
-use Rattle.set_marks.proofs.SameSets.{all_so, some_second, whole}
+use Rattle.set_marks.proofs.SameSets.{all_so, some_second, whole, detail_among}
 use Rattle.set_marks.proofs.Tries.{least_at, closed_none}
 
 -- Each target of sets is read in face II.
@@ -96,12 +96,13 @@ no_flaw_beside : (r : Sight) (rs : List Sight)
     → cut_flaw (r ∷ rs) [] 0 (starts_of (r ∷ rs)) (r ∷ rs) ≡ None
 no_flaw_beside r rs none known =
     let all = r ∷ rs in
-    let clean = none_unknown (seconds_of all) (take (cut_end (starts_of all) all) all)
+    let clean : detail_between all 0 (0 + cut_end (starts_of all) all) ≡ None =
+    sym (detail_among all 0 (cut_end (starts_of all) all))
+    ∙ none_unknown (seconds_of all) (take (cut_end (starts_of all) all) all)
     (All-take (λ (x : Sight). is_known (seconds_of all) x ≡ true) (cut_end (starts_of all) all) all
     known) in
     ap (λ (o : Option Flaw). first_of (o
-    ∷ flaw_found kinds.FaceMissing (unknown_in (seconds_of all)
-    (take (cut_end (starts_of all) all) all))
+    ∷ flaw_found kinds.FaceMissing (detail_between all 0 (0 + cut_end (starts_of all) all))
     ∷ flaw_when (not (nat_le 2 (length (starts_of all)) || true)) kinds.OneSet (Some r)
     ∷ [])) none
     ∙ ap (λ (o : Option Sight). first_of (flaw_found kinds.FaceMissing o

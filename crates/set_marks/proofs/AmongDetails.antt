@@ -1,15 +1,15 @@
 -- The sets among the readings that are no details are sets of all.
-use Rattle.std.proofs.Common.{◌≡◌, ℕ, zero, suc, ◌+◌, ◌≤◌, Bool, true, false, List}
-use Rattle.std.proofs.Common.{[], ◌∷◌, length, drop, Some, None, refl, sym}
+use Rattle.std.proofs.Common.{◌≡◌, ℕ, zero, suc, ◌≤◌, Bool, true, false, List}
+use Rattle.std.proofs.Common.{[], ◌∷◌, length, take, drop, Some, None, refl, sym}
 use Rattle.std.proofs.Common.{ap, subst, ◌∙◌, inl, inr, arith, All}
+use Rattle.std.specs.Prelude.{if◌then◌else◌}
 use Rattle.std.specs.List.{list_any}
 use Rattle.std.proofs.lemmas.Bool.{cases_Bool, or_cases, false≢true}
 use Rattle.std.proofs.lemmas.List.Elements.{All-nil, All-cons, All-head, All-tail}
 use Rattle.std.proofs.lemmas.Slice.Eq.{bytes_eq-Decides}
-use Rattle.station_book.specs.Places.{is_among}
 use Rattle.set_marks.specs.declared.sight.Sight.{Sight}
 use Rattle.set_marks.specs.Divisions.{is_of, known_in, place_of, unknown_in}
-use Rattle.set_marks.specs.Divisions.{end_of}
+use Rattle.set_marks.specs.Divisions.{is_some_known, end_of}
 
 -- whether a reading's target is one of the others'
 abbrev pub is_known : List Sight → Sight → Bool
@@ -33,6 +33,31 @@ known_after others (suc count) (r ∷ rs) = elim (cases_Bool (is_known others r)
   | inl h ↦ rw h (known_after others count rs)
   | inr h ↦ rw h (known_after others (suc count) rs)
 ]
+
+-- The reading at the place of one of the others' targets is known.
+pub next_known : (others : List Sight) (count : ℕ) (rs : List Sight)
+    → All (λ r. is_known others r ≡ true) (take 1 (drop (place_of others count rs) rs))
+next_known others zero [] = All-nil (λ (r : Sight). is_known others r ≡ true)
+next_known others (suc count) [] = All-nil (λ (r : Sight). is_known others r ≡ true)
+next_known others zero (r ∷ rs) = elim (cases_Bool (is_known others r)) [
+  | inl h ↦ subst (λ (k : ℕ). All (λ s. is_known others s ≡ true) (take 1 (drop k (r ∷ rs))))
+      (sym (first_place others r rs h))
+      (All-cons (λ (s : Sight). is_known others s ≡ true) r [] h
+      (All-nil (λ (s : Sight). is_known others s ≡ true)))
+  | inr h ↦ rw h (next_known others zero rs)
+]
+next_known others (suc count) (r ∷ rs) = elim (cases_Bool (is_known others r)) [
+  | inl h ↦ rw h (next_known others count rs)
+  | inr h ↦ rw h (next_known others (suc count) rs)
+]
+
+-- Where all targets are known, none is unknown.
+pub none_unknown : (others rs : List Sight) → All (λ r. is_known others r ≡ true) rs
+    → unknown_in others rs ≡ None
+none_unknown others [] all = refl
+none_unknown others (r ∷ rs) all =
+    let here = All-head (λ (s : Sight). is_known others s ≡ true) r rs all in
+    rw here (none_unknown others rs (All-tail (λ (s : Sight). is_known others s ≡ true) r rs all))
 
 -- Where no target is unknown, all are known.
 pub all_known : (others rs : List Sight) → unknown_in others rs ≡ None
@@ -100,12 +125,10 @@ strange_too others ys (r ∷ rs) all none = elim (cases_Bool (is_known others r)
 ]
 
 -- The end is none beyond the readings.
-pub end_within : (known : List (List ℕ)) (end at : ℕ) (rs : List Sight) → end ≤ at
-    → end_of known end at rs ≤ at + length rs
-end_within known end at [] le = omega (arith, le)
-end_within known end at (r ∷ rs) le = elim (cases_Bool (is_among known r.target)) [
-  | inl h ↦ rw h (let below = end_within known (suc at) (suc at) rs (omega arith) in
-      omega (arith, below))
-  | inr h ↦ rw h (let below = end_within known end (suc at) rs (omega (arith, le)) in
-      omega (arith, below))
-]
+pub end_within : (others rs : List Sight) → end_of others rs ≤ length rs
+end_within others [] = omega arith
+end_within others (r ∷ rs) =
+    by (is_some_known others (r ∷ rs)) (end_of others rs) (end_within others rs) where
+      by : (b : Bool) (n : ℕ) → n ≤ length rs → (if b then suc n else 0) ≤ suc (length rs)
+      by true n below = omega (arith, below)
+      by false n below = omega arith

@@ -24,7 +24,7 @@ use Rattle.set_marks.specs.Divisions.{sets_of, starts_of, in_span, first_set, pa
 use Rattle.set_marks.specs.Divisions.{part, next_of, set_flaw, readings_flaw, order_flaw, sets_flaw}
 use Rattle.set_marks.specs.Divisions.{flaw_when, are_read_alike, is_by_faces, is_by_targets}
 use Rattle.set_marks.specs.Divisions.{last_target, are_by_targets, begins_with_pair, first_part}
-use Rattle.set_marks.specs.Divisions.{starts_from}
+use Rattle.set_marks.specs.Searching.{starts_from}
 use Rattle.set_marks.specs.SetsInWords.{ReadsEachOnce}
 use Rattle.set_marks.specs.Judging.{Before, called, judged, judged_called, judged_from, judged_of}
 use Rattle.set_marks.specs.Judging.{names_past, none_before}

@@ -18,8 +18,9 @@ use Rattle.set_marks.specs.declared.faces.Faces.{Faces}
 use Rattle.set_marks.specs.declared.sight.Sight.{Sight}
 use Rattle.set_marks.specs.Divisions.{is_of, is_same_face, is_again, is_pair, last_target, end_of}
 use Rattle.set_marks.specs.Divisions.{targets_of, names_with, again_from, again_in, alone_among}
-use Rattle.set_marks.specs.Divisions.{alone_in}
+use Rattle.set_marks.specs.Divisions.{alone_in, is_some_known}
 use Rattle.set_marks.specs.Searching.{repeats, names_in, KeepsFaces}
+use Rattle.set_marks.proofs.AmongDetails.{is_known}
 use Rattle.set_marks.proofs.BeginsAndEnds.{among_with, among_names, or_none}
 use Rattle.set_marks.proofs.Repeated.{same_face}
 
@@ -49,16 +50,29 @@ placed_among (n ∷ names) zero name other is e =
 placed_among (n ∷ names) (suc place) name other is e =
     or_right (bytes_eq n name) (is_among names name) (placed_among names place name other is e)
 
--- With a reading more, where the sets end.
-pub end_beyond : (known : List (List ℕ)) (end at : ℕ) (rs : List Sight) (r : Sight)
-    → end_of known end at (rs ++ r ∷ [])
-    ≡ (if is_among known r.target then at + (length rs + 1) else end_of known end at rs)
-end_beyond known end at [] r =
-    ap (λ (k : ℕ). if is_among known r.target then k else end) (omega arith)
-end_beyond known end at (s ∷ rs) r =
-    end_beyond known (if is_among known s.target then suc at else end) (suc at) rs r
-    ∙ ap (λ (k : ℕ). if is_among known r.target then k else
-    end_of known (if is_among known s.target then suc at else end) (suc at) rs) (omega arith)
+-- With a reading more that is known, the sets end after it.
+end_with : (others rs : List Sight) (r : Sight) → is_known others r ≡ true
+    → end_of others (rs ++ r ∷ []) ≡ suc (length rs)
+end_with others [] r h = ap (λ b. if b then 1 else 0) (or_left (is_known others r) false h)
+end_with others (s ∷ rs) r h =
+    ap (λ b. if b then suc (end_of others (rs ++ r ∷ [])) else 0)
+    (list_any-append (is_known others) (s ∷ rs) (r ∷ [])
+    ∙ or_right (is_some_known others (s ∷ rs)) (is_some_known others (r ∷ []))
+    (or_left (is_known others r) false h))
+    ∙ ap (λ (k : ℕ). suc k) (end_with others rs r h)
+
+-- With one that is unknown, they end where they did.
+end_without : (others rs : List Sight) (r : Sight) → is_known others r ≡ false
+    → end_of others (rs ++ r ∷ []) ≡ end_of others rs
+end_without others [] r h =
+    ap (λ b. if b then 1 else 0) (or_none (is_known others r) ∙ h)
+end_without others (s ∷ rs) r h =
+    ap (λ b. if b then suc (end_of others (rs ++ r ∷ [])) else 0)
+    (list_any-append (is_known others) (s ∷ rs) (r ∷ [])
+    ∙ ap (λ b. is_some_known others (s ∷ rs) || b) (or_none (is_known others r) ∙ h)
+    ∙ or_none (is_some_known others (s ∷ rs)))
+    ∙ ap (λ (k : ℕ). if is_some_known others (s ∷ rs) then suc k else 0)
+    (end_without others rs r h)
 
 -- The targets of some readings are those of which one reading is.
 pub among_targets : (rs : List Sight) (name : List ℕ)
@@ -204,19 +218,16 @@ on_true true P f = f refl
 on_true false P f = tt
 
 -- Of some readings the last is of a known target, or it is left out.
-pub end_here : (known : List (List ℕ)) (rs rest : List Sight) (r : Sight) → rs ≡ rest ++ r ∷ []
-    → is_among known r.target ≡ true → length rs ≡ end_of known 0 0 rs
-end_here known rs rest r is e =
-    let long : length rs ≡ 0 + (length rest + 1) =
-    ap length is ∙ length-append rest (r ∷ []) ∙ omega arith in
-    long ∙ sym (ap (λ l. end_of known 0 0 l) is ∙ end_beyond known 0 0 rest r
-    ∙ ap (λ b. if b then 0 + (length rest + 1) else end_of known 0 0 rest) e)
+pub end_here : (others rs rest : List Sight) (r : Sight) → rs ≡ rest ++ r ∷ []
+    → is_known others r ≡ true → length rs ≡ end_of others rs
+end_here others rs rest r is e =
+    ap length is ∙ length-append rest (r ∷ []) ∙ omega arith
+    ∙ sym (ap (λ l. end_of others l) is ∙ end_with others rest r e)
 
-pub end_before : (known : List (List ℕ)) (rs rest : List Sight) (r : Sight) → rs ≡ rest ++ r ∷ []
-    → is_among known r.target ≡ false → end_of known 0 0 rest ≡ end_of known 0 0 rs
-end_before known rs rest r is e =
-    sym (ap (λ l. end_of known 0 0 l) is ∙ end_beyond known 0 0 rest r
-    ∙ ap (λ b. if b then 0 + (length rest + 1) else end_of known 0 0 rest) e)
+pub end_before : (others rs rest : List Sight) (r : Sight) → rs ≡ rest ++ r ∷ []
+    → is_known others r ≡ false → end_of others rest ≡ end_of others rs
+end_before others rs rest r is e =
+    sym (ap (λ l. end_of others l) is ∙ end_without others rest r e)
 
 -- Where no reading of a set is left, it repeats what is left of the other if that is nothing.
 pub repeats_end : (xs ys : List Sight) → length ys ≡ 0 → (length xs == 0) ≡ repeats xs ys

@@ -14,15 +14,12 @@ use Rattle.std.proofs.lemmas.List.Folds.{list_any-append}
 use Rattle.std.proofs.lemmas.Slice.Eq.{bytes_eq-Decides}
 use Rattle.station_book.specs.Places.{is_among, with_new}
 use Rattle.set_marks.specs.declared.sight.Sight.{Sight}
-use Rattle.set_marks.specs.Divisions.{is_of, first_target, starts_of, starts_from, last_place}
-use Rattle.set_marks.specs.Divisions.{end_of, names_with, seconds_of}
-use Rattle.set_marks.specs.Divisions.{is_read_in_two}
-use Rattle.set_marks.specs.BeginsAndEnds.{count_of, is_even, begins_by, begins_set, places_from}
-
--- The first set begins with the first reading.
-pub first_start : (r : Sight) (rs : List Sight)
-    → starts_of (r ∷ rs) ≡ 0 ∷ starts_from r.target false 1 rs
-first_start r rs = rw ((bytes_eq-Decides r.target r.target).1 refl) refl
+use Rattle.set_marks.specs.Divisions.{is_of, first_target, count_of, is_even, begins_by}
+use Rattle.set_marks.specs.Divisions.{places_from, starts_of, last_place, names_with}
+use Rattle.set_marks.specs.Divisions.{is_some_known, end_of, seconds_of, is_read_in_two, known_in}
+use Rattle.set_marks.specs.Searching.{starts_from}
+use Rattle.set_marks.specs.BeginsAndEnds.{without_details}
+use Rattle.set_marks.proofs.AmongDetails.{is_known}
 
 -- What stands at the seam of two lists.
 at_seam : (front rs : List Sight) (r : Sight) → slice_get (front ++ r ∷ rs) (length front) ≡ Some r
@@ -91,9 +88,15 @@ begins_from name even front (r ∷ rs) is = elim (cases_Bool (is_of name r)) [
       (begins_from name even (front ++ r ∷ []) rs now))
 ]
 
--- Sets begin just at the places of which the definition in words says so.
-pub sets_begin : (rs : List Sight) → starts_of rs ≡ filter (begins_set rs) (places_from 0 rs)
-sets_begin rs = begins_from (first_target rs) true [] rs refl
+-- The places at which sets begin are those that are found one after another.
+pub starts_found : (rs : List Sight) → starts_of rs ≡ starts_from (first_target rs) true 0 rs
+starts_found rs = sym (begins_from (first_target rs) true [] rs refl)
+
+-- The first set begins with the first reading.
+pub first_start : (r : Sight) (rs : List Sight)
+    → starts_of (r ∷ rs) ≡ 0 ∷ starts_from r.target false 1 rs
+first_start r rs =
+    starts_found (r ∷ rs) ∙ rw ((bytes_eq-Decides r.target r.target).1 refl) refl
 
 -- The last of a place and those after it is none before it.
 with_first : (at : ℕ) (ps : List ℕ) → (1 ≤ length ps → suc at ≤ last_place ps)
@@ -156,60 +159,54 @@ among_names names name (r ∷ rs) =
     ∙ ap (λ b. b || list_any (is_of name) rs) (among_with names r.target name)
     ∙ or_assoc (is_among names name) (is_of name r) (list_any (is_of name) rs)
 
--- Of some readings, the last whose target is among some names.
-pub record LastKnown (names : List (List ℕ)) (end at : ℕ) (rs : List Sight) : Type 0 where
+-- Of some readings, the last whose target one of the others has.
+pub record LastKnown (others rs : List Sight) : Type 0 where
   pub front : List Sight
   pub last : Sight
   pub after : List Sight
   pub readings : rs ≡ front ++ last ∷ after
-  pub here : end_of names end at rs ≡ at + (length front + 1)
-  pub known : is_among names last.target ≡ true
-  pub strange : All (λ r. is_among names r.target ≡ false) after
+  pub here : end_of others rs ≡ length front + 1
+  pub known : is_known others last ≡ true
+  pub strange : All (λ r. is_known others r ≡ false) after
 
-none_known : (known : List (List ℕ)) (end at : ℕ) (rs : List Sight)
-    → list_any (λ r. is_among known r.target) rs ≡ false → end_of known end at rs ≡ end
-none_known known end at [] e = refl
-none_known known end at (r ∷ rs) e =
-    let parts = or_parts (is_among known r.target) (list_any (λ s. is_among known s.target) rs) e in
-    rw parts.0 (none_known known end (suc at) rs parts.1)
+none_known : (others rs : List Sight) → is_some_known others rs ≡ false → end_of others rs ≡ 0
+none_known others [] e = refl
+none_known others (r ∷ rs) e = ap (λ b. if b then suc (end_of others rs) else 0) e
 
-all_strange : (known : List (List ℕ)) (rs : List Sight)
-    → list_any (λ r. is_among known r.target) rs ≡ false
-    → All (λ r. is_among known r.target ≡ false) rs
-all_strange known [] e = All-nil (λ (r : Sight). is_among known r.target ≡ false)
-all_strange known (r ∷ rs) e =
-    let parts = or_parts (is_among known r.target) (list_any (λ s. is_among known s.target) rs) e in
-    All-cons (λ (s : Sight). is_among known s.target ≡ false) r rs parts.0
-    (all_strange known rs parts.1)
+all_strange : (others rs : List Sight) → is_some_known others rs ≡ false
+    → All (λ r. is_known others r ≡ false) rs
+all_strange others [] e = All-nil (λ (r : Sight). is_known others r ≡ false)
+all_strange others (r ∷ rs) e =
+    let parts = or_parts (is_known others r) (is_some_known others rs) e in
+    All-cons (λ (s : Sight). is_known others s ≡ false) r rs parts.0
+    (all_strange others rs parts.1)
 
-pub last_known : (known : List (List ℕ)) (end at : ℕ) (rs : List Sight)
-    → list_any (λ r. is_among known r.target) rs ≡ true → LastKnown known end at rs
-last_known known end at [] e = cc
-last_known known end at (r ∷ rs) e =
-    elim (cases_Bool (list_any (λ s. is_among known s.target) rs)) [
+pub last_known : (others rs : List Sight) → is_some_known others rs ≡ true → LastKnown others rs
+last_known others [] e = cc
+last_known others (r ∷ rs) e =
+    let more : end_of others (r ∷ rs) ≡ suc (end_of others rs) =
+    ap (λ b. if b then suc (end_of others rs) else 0) e in
+    elim (cases_Bool (is_some_known others rs)) [
       | inl h ↦
-          let later = last_known known (if is_among known r.target then suc at else end) (suc at)
-          rs h
-          in record {
+          let later = last_known others rs h in
+          record {
             front = r ∷ later.front;
             last = later.last;
             after = later.after;
             readings = ap (λ xs. r ∷ xs) later.readings;
-            here = later.here ∙ omega arith;
+            here = more ∙ ap (λ (k : ℕ). suc k) later.here ∙ omega arith;
             known = later.known;
             strange = later.strange;
           }
       | inr h ↦
-          let here : is_among known r.target ≡ true = or_first (is_among known r.target)
-          (list_any (λ s. is_among known s.target) rs) h e in
           record {
             front = [];
             last = r;
             after = rs;
             readings = refl;
-            here = rw here (none_known known (suc at) (suc at) rs h ∙ omega arith);
-            known = here;
-            strange = all_strange known rs h;
+            here = more ∙ ap (λ (k : ℕ). suc k) (none_known others rs h) ∙ omega arith;
+            known = or_first (is_known others r) (is_some_known others rs) h e;
+            strange = all_strange others rs h;
           }
     ] where
       or_first : (a b : Bool) → b ≡ false → (a || b) ≡ true → a ≡ true
@@ -254,3 +251,15 @@ in_two name (r ∷ rs) = elim (cases_Bool r.second) [
     | inr v ↦ rw (h, v) (in_two name rs)
   ]
 ]
+
+-- Of readings of a station, those of the targets that one in face II is of are no details.
+pub known_two : (all rs : List Sight) → known_in (seconds_of all) rs ≡ without_details all rs
+known_two all rs = λ i. filter (λ r. in_two r.target all i) rs
+
+-- Where none of some readings passes a test, each fails it.
+pub none_pass : (p : Sight → Bool) (rs : List Sight) → list_any p rs ≡ false
+    → All (λ r. p r ≡ false) rs
+none_pass p [] e = All-nil (λ (r : Sight). p r ≡ false)
+none_pass p (r ∷ rs) e =
+    let parts = or_parts (p r) (list_any p rs) e in
+    All-cons (λ (s : Sight). p s ≡ false) r rs parts.0 (none_pass p rs parts.1)

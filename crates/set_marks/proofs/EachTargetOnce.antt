@@ -61,7 +61,7 @@ take_front : (front rs : List Sight) → take (length front) (front ++ rs) ≡ f
 take_front front rs = take-append_seam front rs
 
 -- Where no reading is the second of its target and face, there is one at most.
-at_most_one : (name : List ℕ) (second : Bool) (front rs : List Sight)
+pub at_most_one : (name : List ℕ) (second : Bool) (front rs : List Sight)
     → again_from (front ++ rs) (length front) rs ≡ None
     → length (readings_in name second front) ≤ 1
     → length (readings_in name second (front ++ rs)) ≤ 1

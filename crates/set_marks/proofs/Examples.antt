@@ -215,13 +215,23 @@ resection = sight 1 (codes "A") false ∷ sight 2 (codes "A") true
 abbrev two_and_check : List Sight → List Sight
 two_and_check details = one_set ++ (details ++ sight 6 (codes "A") false ∷ [])
 
--- Two sets of A and B by faces, and a sight to A: the sets may begin with B too.
-abbrev in_two_ways : List Sight
-in_two_ways = sight 1 (codes "A") false ∷ sight 2 (codes "B") false
+-- Two sets of A and B by faces, and a sight to A: after the first sight to A they are two sets by
+-- targets that begin with B and end with A.
+abbrev led_to_end : List Sight
+led_to_end = sight 1 (codes "A") false ∷ sight 2 (codes "B") false
     ∷ sight 3 (codes "B") true ∷ sight 4 (codes "A") true
     ∷ sight 5 (codes "A") false ∷ sight 6 (codes "B") false
     ∷ sight 7 (codes "B") true ∷ sight 8 (codes "A") true
     ∷ sight 9 (codes "A") false ∷ []
+
+-- Two sets of A, B and C, and these readings after them.
+abbrev two_and : List Sight → List Sight
+two_and after = sight 1 (codes "A") false ∷ sight 2 (codes "B") false
+    ∷ sight 3 (codes "C") false ∷ sight 4 (codes "C") true
+    ∷ sight 5 (codes "B") true ∷ sight 6 (codes "A") true
+    ∷ sight 7 (codes "A") false ∷ sight 8 (codes "B") false
+    ∷ sight 9 (codes "C") false ∷ sight 10 (codes "C") true
+    ∷ sight 11 (codes "B") true ∷ sight 12 (codes "A") true ∷ after
 
 -- A set that is begun in face II.
 abbrev begun_in_two : List Sight
@@ -326,11 +336,28 @@ record AreExamples : Type 0 where
   after_five : read_as (between (sight 1 (codes "A") false ∷ sight 2 (codes "A") false
       ∷ sight 3 (codes "B") false ∷ sight 4 (codes "B") false ∷ sight 5 (codes "C") false ∷ []) [])
       None None ≡ Sets (record { from = 5; to = 11 })
+  after_four : read_as (between (sight 1 (codes "A") false ∷ sight 2 (codes "A") false
+      ∷ sight 3 (codes "B") false ∷ sight 4 (codes "C") false ∷ []) [])
+      None None ≡ Sets (record { from = 4; to = 10 })
+  four_of_any_kind : read_as (between (sight 1 (codes "A") false ∷ sight 2 (codes "A") true
+      ∷ sight 3 (codes "B") false ∷ sight 4 (codes "C") false ∷ []) [])
+      None None ≡ Flawed (record { block = 13; kind = kinds.ReadTwice })
+  detail_before : read_as (between (sight 1 (codes "D") false ∷ []) [])
+      None None ≡ Flawed (record { block = 16; kind = kinds.FaceMissing })
+  pair_is_missing : read_as (between (sight 1 (codes "B") true ∷ []) [])
+      None None ≡ Flawed (record { block = 11; kind = kinds.MayBeShifted })
   close_check : read_as (two_and_check []) None None
       ≡ Flawed (record { block = 6; kind = kinds.FaceMissing })
   check_after_detail : read_as (two_and_check (sight 5 (codes "D") false ∷ [])) None None
       ≡ up_to 4
-  two_ways : read_as in_two_ways None None
+  even : read_as (two_and (sight 13 (codes "N") false ∷ sight 14 (codes "N") true
+      ∷ sight 15 (codes "A") false ∷ sight 16 (codes "B") false ∷ [])) None None ≡ up_to 12
+  uneven : read_as (two_and (sight 13 (codes "N") false ∷ sight 14 (codes "N") true
+      ∷ sight 15 (codes "N") true ∷ sight 16 (codes "A") false ∷ [])) None None
+      ≡ Flawed (record { block = 15; kind = kinds.ReadTwice })
+  two_ways : read_as (two_and (sight 13 (codes "N") false ∷ sight 14 (codes "N") true
+      ∷ sight 15 (codes "N") false ∷ [])) None None ≡ at_first kinds.MayBeShifted
+  shifted_to_end : read_as led_to_end None None
       ≡ Flawed (record { block = 2; kind = kinds.MayBeShifted })
   middle_pair : read_as after_pair (Some 2) None
       ≡ Flawed (record { block = 3; kind = kinds.MayBeShifted })
@@ -399,9 +426,16 @@ examples = record {
   pair_of_another = refl;
   after_resection = refl;
   after_five = refl;
+  after_four = refl;
+  four_of_any_kind = refl;
+  detail_before = refl;
+  pair_is_missing = refl;
   close_check = refl;
   check_after_detail = refl;
+  even = refl;
+  uneven = refl;
   two_ways = refl;
+  shifted_to_end = refl;
   middle_pair = refl;
   begun_in_face_two = refl;
   begun_late = refl;

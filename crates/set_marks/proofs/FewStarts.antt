@@ -1,6 +1,6 @@
 -- Of more sets than a station may have, one too many tells what is wrong.
 use Rattle.std.proofs.Common.{◌≡◌, ℕ, zero, suc, ◌+◌, ◌<◌, ◌≤◌, Bool, true, false, List, [], ◌∷◌}
-use Rattle.std.proofs.Common.{◌++◌, length, take, drop, Option, Some, None, refl, sym, ap, ◌∙◌, arith}
+use Rattle.std.proofs.Common.{◌++◌, length, take, Option, Some, None, refl, sym, ap, ◌∙◌, arith}
 use Rattle.std.proofs.Common.{inl, inr}
 use Rattle.std.specs.Prelude.{nat_le, not, slice_get, if◌then◌else◌}
 use Rattle.std.proofs.lemmas.Bool.{cases_lt, le-leb}
@@ -11,10 +11,11 @@ use Rattle.set_marks.specs.declared.flaw.Flaw.{Flaw}
 use Rattle.set_marks.specs.declared.fault.MarkKind.TheVariants as kinds
 use Rattle.set_marks.specs.declared.sight.Sight.{Sight}
 use Rattle.set_marks.specs.Divisions.{sets_flaw, set_flaw, first_cut, cut_end, part}
-use Rattle.set_marks.specs.Ways.{cut_flaw}
-use Rattle.set_marks.specs.Divisions.{flaw_at, flaw_when, flaw_found, starts_from, starts_of, is_of}
-use Rattle.set_marks.specs.Divisions.{seconds_of, unknown_in}
+use Rattle.set_marks.specs.Ways.{detail_between, cut_flaw}
+use Rattle.set_marks.specs.Divisions.{flaw_at, flaw_when, flaw_found, starts_of, is_of}
 use Rattle.set_marks.specs.Outside.{may_precede}
+use Rattle.set_marks.specs.Searching.{starts_from}
+use Rattle.set_marks.proofs.BeginsAndEnds.{starts_found}
 use Rattle.set_marks.proofs.Few.{few}
 
 -- So many places are all, where there are so many of them.
@@ -96,8 +97,8 @@ flaw_told all leading place starts rs f are told =
     ∙ ap (λ (l : List ℕ). sets_flaw (first_cut l rs) 0 (cut_end l rs) l rs) are
     ∙ same_flaw (starts_of rs) rs in
     ap (λ (o : Option Flaw). first_of (o
-    ∷ flaw_found kinds.FaceMissing (unknown_in (seconds_of all)
-    (take (cut_end (starts_of rs) rs) (drop place all)))
+    ∷ flaw_found kinds.FaceMissing
+    (detail_between all place (place + cut_end (starts_of rs) rs))
     ∷ flaw_when (not (may_precede (starts_of rs) rs leading place)) kinds.OneSet
     (slice_get rs 0) ∷ [])) is
 
@@ -118,16 +119,14 @@ pub flaw_after : (all leading : List Sight) (place : ℕ) (starts : List ℕ) (r
     (o : Option Flaw) → starts ≡ take (MOST_SETS + 1) (starts_of rs)
     → None ≡ sets_flaw (first_cut starts rs) 0 (cut_end starts rs) starts rs
     → o ≡ first_of (
-    flaw_found kinds.FaceMissing (unknown_in (seconds_of all)
-    (take (cut_end starts rs) (drop place all)))
+    flaw_found kinds.FaceMissing (detail_between all place (place + cut_end starts rs))
     ∷ flaw_when (not (may_precede starts rs leading place)) kinds.OneSet
     (slice_get rs 0) ∷ [])
     → o ≡ cut_flaw all leading place (starts_of rs) rs
 flaw_after all leading place starts rs o are none is =
     let whole = few_are_all starts rs are none in
     is ∙ ap (λ (p : Option Flaw). first_of (p
-    ∷ flaw_found kinds.FaceMissing (unknown_in (seconds_of all)
-    (take (cut_end starts rs) (drop place all)))
+    ∷ flaw_found kinds.FaceMissing (detail_between all place (place + cut_end starts rs))
     ∷ flaw_when (not (may_precede starts rs leading place)) kinds.OneSet
     (slice_get rs 0) ∷ [])) none
     ∙ ap (λ (l : List ℕ). cut_flaw all leading place l rs) whole
@@ -139,6 +138,7 @@ first_starts most [] r e = cc
 first_starts most (x ∷ rs) r e =
     let same : r ≡ x = cc in
     ap (λ (s : Sight). take most (starts_from s.target true 0 (x ∷ rs))) same
+    ∙ ap (λ (ps : List ℕ). take most ps) (sym (starts_found (x ∷ rs)))
 
 -- All places are asked for.
 pub all_starts : (rs : List Sight) (r : Sight) → slice_get rs 0 ≡ Some r
@@ -149,3 +149,4 @@ all_starts (x ∷ rs) r e =
     ap (λ (s : Sight). take (suc (length rs)) (starts_from s.target true 0 (x ∷ rs))) same
     ∙ take_all (suc (length rs)) (starts_from x.target true 0 (x ∷ rs))
     (few_starts x.target true 0 (x ∷ rs))
+    ∙ sym (starts_found (x ∷ rs))

@@ -1,16 +1,21 @@
 -- The readings after the leading ones are sets and an ending.
-use Rattle.std.proofs.Common.{◌≡◌, ◌-◌, ◌≤◌, Bool, true, false, ◌&&◌, ◌||◌, not, List, ◌++◌}
-use Rattle.std.proofs.Common.{length, refl, sym, ◌∙◌, arith, inl, inr}
+use Rattle.std.proofs.Common.{◌≡◌, ◌-◌, ◌≤◌, Bool, true, false, ◌&&◌, ◌||◌, not, List, [], ◌∷◌}
+use Rattle.std.proofs.Common.{◌++◌, length, refl, sym, ap, ◌∙◌, arith, inl, inr, ◌+◌}
 use Rattle.std.specs.Prelude.{nat_lt, ◌==◌}
 use Rattle.std.specs.Str.{bytes_eq}
-use Rattle.std.proofs.lemmas.Bool.{cases_Bool, ltb-true, eq-eqb, or_left, or_right}
+use Rattle.std.proofs.lemmas.Bool.{cases_Bool, ltb-true, eq-eqb, or_left, or_right, and_parts}
 use Rattle.std.proofs.lemmas.List.{append-nil, take-append-drop, length-take, length-drop}
+use Rattle.std.proofs.lemmas.List.{length-append}
+use Rattle.std.proofs.lemmas.List.Elements.{filter-append}
 use Rattle.set_marks.specs.declared.outside.Ending.{Ending}
 use Rattle.set_marks.specs.declared.outside.Ending.TheVariants.{Nothing, CheckSights, CheckPair}
 use Rattle.set_marks.specs.declared.sight.Sight.{Sight}
-use Rattle.set_marks.specs.Divisions.{are_in_face, begins_with_pair, are_by_targets, first_target}
+use Rattle.set_marks.specs.Divisions.{is_of, is_same_face, seconds_of, are_in_face}
+use Rattle.set_marks.specs.Divisions.{begins_with_pair, are_by_targets, first_target}
 use Rattle.set_marks.specs.Outside.{before_ending, in_ending, is_ended, may_end, surplus, last_of}
-use Rattle.set_marks.specs.BeginsAndEnds.{are_checks}
+use Rattle.set_marks.specs.Outside.{firsts_of}
+use Rattle.set_marks.specs.BeginsAndEnds.{are_checks, AreEven}
+use Rattle.set_marks.proofs.Endings.{in_two_faces}
 
 -- Readings that end so: those before the ending are some, and the ending follows them.
 pub record Parted (ending : Ending) (rs : List Sight) : Type 0 where
@@ -87,3 +92,56 @@ pub checks_first : (sets inner rs : List Sight) → first_target inner ≡ first
 checks_first sets inner rs first by e =
     (λ i. are_in_face false rs || ((length rs == 2) && begins_with_pair rs
     && bytes_eq (first_target rs) (first i) && not (by i))) ∙ e
+
+-- None of readings that are all in face I is in face II.
+none_second : (rs : List Sight) → are_in_face false rs ≡ true → length (seconds_of rs) ≡ 0
+none_second [] e = refl
+none_second (r ∷ rs) e = elim (cases_Bool r.second) [
+  | inl h ↦ let f : false ≡ true = rw h at e in cc
+  | inr h ↦ rw h (none_second rs (rw h at e))
+]
+
+no_pair : (rs : List Sight) → begins_with_pair rs ≡ true → are_in_face false rs ≡ true → ⊥
+no_pair [] e f = cc
+no_pair (a ∷ []) e f = cc
+no_pair (a ∷ b ∷ rs) e f = elim (cases_Bool a.second) [
+  | inl h ↦ let g : false ≡ true = rw h at f in cc
+  | inr h ↦ elim (cases_Bool b.second) [
+    | inl k ↦ let g : false ≡ true = rw (h, k) at f in cc
+    | inr k ↦
+        let same : not (is_same_face a.second b.second) ≡ false = rw (h, k) refl in
+        let g = (and_parts (is_of a.target b) (not (is_same_face a.second b.second)) e).1 in cc
+  ]
+]
+
+-- Before check sights as many readings are in face I as in face II.
+pub even_before : (ending : Ending) (rs : List Sight) → is_ended ending rs ≡ true
+    → 1 ≤ length (in_ending ending rs) → are_in_face false (in_ending ending rs) ≡ true
+    → AreEven (before_ending ending rs)
+even_before Nothing rs e some one = absurd (omega (arith, some))
+even_before CheckPair rs e some one =
+    absurd (no_pair (last_of 2 rs)
+    (both (nat_lt 2 (length rs)) (begins_with_pair (last_of 2 rs)) e).1 one)
+even_before CheckSights rs e some one =
+    let checks = last_of (surplus rs) rs in
+    let before = before_ending CheckSights rs in
+    let two = both (nat_lt 0 (surplus rs) && nat_lt (surplus rs) (length rs))
+    (are_in_face false checks) e in
+    let three = both (nat_lt 0 (surplus rs)) (nat_lt (surplus rs) (length rs)) two.0 in
+    let more = ltb-true 0 (surplus rs) three.0 in
+    let fewer = ltb-true (surplus rs) (length rs) three.1 in
+    let split : before ++ checks ≡ rs = take-append-drop (length rs - surplus rs) rs in
+    let long : length checks ≡ length rs - (length rs - surplus rs) =
+    length-drop (length rs - surplus rs) rs in
+    let firsts : length (firsts_of rs) ≡ length (firsts_of before) + length (firsts_of checks) =
+    ap (λ (l : List Sight). length (firsts_of l)) (sym split)
+    ∙ ap length (filter-append (λ r. not r.second) before checks)
+    ∙ length-append (firsts_of before) (firsts_of checks) in
+    let seconds : length (seconds_of rs) ≡ length (seconds_of before) + length (seconds_of checks) =
+    ap (λ (l : List Sight). length (seconds_of l)) (sym split)
+    ∙ ap length (filter-append (λ r. r.second) before checks)
+    ∙ length-append (seconds_of before) (seconds_of checks) in
+    let none = none_second checks one in
+    let all = in_two_faces checks in
+    let is : surplus rs ≡ length (firsts_of rs) - length (seconds_of rs) = refl in
+    omega (arith, more, fewer, long, firsts, seconds, none, all, is)

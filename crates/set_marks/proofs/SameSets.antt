@@ -11,12 +11,14 @@ use Rattle.std.proofs.lemmas.List.{drop_at}
 use Rattle.std.proofs.lemmas.List.Elements.{All-nil, All-cons, All-head, All-tail, filter-append}
 use Rattle.set_marks.specs.declared.sight.Sight.{Sight}
 use Rattle.set_marks.specs.Divisions.{is_of, seconds_of, known_in, unknown_in}
-use Rattle.set_marks.specs.Divisions.{starts_from, starts_of, last_place, targets_of, parts_at}
+use Rattle.set_marks.specs.Divisions.{starts_of, last_place, parts_at}
 use Rattle.set_marks.specs.Divisions.{sets_of, first_part, first_set, sets_flaw, cut_end, cut_of}
 use Rattle.set_marks.specs.Divisions.{first_cut, part}
+use Rattle.set_marks.specs.Searching.{starts_from}
 use Rattle.set_marks.specs.SetsInWords.{readings_in, one_after_another, ReadsEachOnce}
+use Rattle.set_marks.specs.Ways.{detail_between}
 use Rattle.set_marks.proofs.AmongDetails.{is_known, all_known, all_kept, few_known, end_within}
-use Rattle.set_marks.proofs.BeginsAndEnds.{first_start, starts_above}
+use Rattle.set_marks.proofs.BeginsAndEnds.{starts_found, first_start, starts_above}
 use Rattle.set_marks.proofs.RowsOfSets.{joined, right_among}
 
 -- What holds of all for one reason holds of all for another.
@@ -113,11 +115,14 @@ starts_within (suc k) (r ∷ rs) le lt =
     let front = take (suc k) all in
     let is = take-append-drop (suc k) all in
     let long : length front ≡ suc k = length-take-le (suc k) all le in
+    let found : last_place (starts_from r.target true 0 all) < suc k =
+    subst (λ (ps : List ℕ). last_place ps < suc k) (starts_found all) lt in
     let below : last_place (starts_from r.target true 0 (front ++ drop (suc k) all))
     < suc k = subst (λ (l : List Sight). last_place (starts_from r.target true 0 l) < suc k)
-    (sym is) lt in
-    sym (before_seam r.target true 0 front (drop (suc k) all) (omega (arith, below, long)))
-    ∙ ap (λ (l : List Sight). starts_from r.target true 0 l) is
+    (sym is) found in
+    starts_found front
+    ∙ sym (before_seam r.target true 0 front (drop (suc k) all) (omega (arith, below, long)))
+    ∙ ap (λ (l : List Sight). starts_from r.target true 0 l) is ∙ sym (starts_found all)
 
 abbrev first_of : List (List Sight) → List Sight
 first_of [] = []
@@ -133,11 +138,22 @@ pub cut_within : (rs : List Sight) (starts : List ℕ) → cut_end starts rs ≤
 cut_within rs [] = omega arith
 cut_within rs (from ∷ []) = omega arith
 cut_within rs (from ∷ to ∷ more) =
-    let below = end_within (targets_of (take (last_place (to ∷ more)) rs)) 0 0 rs (omega arith) in
-    omega (arith, below)
+    end_within (take (last_place (to ∷ more)) rs) rs
 
 pub whole : (end : ℕ) (rs : List Sight) → part 0 end rs ≡ take end rs
 whole end rs = ap (λ (k : ℕ). take k rs) (omega arith)
+
+-- So many readings from a place on are those up to the place so many further.
+so_many_after : (place count : ℕ) (rs : List Sight)
+    → part place (place + count) rs ≡ take count (drop place rs)
+so_many_after place count rs = ap (λ (k : ℕ). take k (drop place rs)) (omega arith)
+
+-- Among so many readings from a place on, the first detail is that between two places.
+pub detail_among : (all : List Sight) (place count : ℕ)
+    → unknown_in (seconds_of all) (take count (drop place all))
+    ≡ detail_between all place (place + count)
+detail_among all place count =
+    ap (λ (l : List Sight). unknown_in (seconds_of all) l) (sym (so_many_after place count all))
 
 -- Sets have four readings at least.
 four_readings : (sets : List (List Sight)) → 1 ≤ length sets → All ReadsEachOnce sets

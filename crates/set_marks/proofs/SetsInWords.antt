@@ -11,10 +11,11 @@ use Rattle.set_marks.specs.declared.division.Divided.TheVariants.{Sets}
 use Rattle.set_marks.specs.declared.sight.Sight.{Sight}
 use Rattle.set_marks.specs.declared.span.Span.{Span}
 use Rattle.set_marks.specs.declared.stated.Numbers.{Numbers}
-use Rattle.set_marks.specs.Divisions.{sets_flaw, starts_from, starts_of, sets_of, first_set}
+use Rattle.set_marks.specs.Divisions.{sets_flaw, starts_of, sets_of, first_set}
 use Rattle.set_marks.specs.Divisions.{parts_at, is_mostly_known, in_span}
 use Rattle.set_marks.specs.Doubts.{stranger_among}
 use Rattle.set_marks.specs.Ways.{divided}
+use Rattle.set_marks.specs.Searching.{starts_from}
 use Rattle.set_marks.specs.SetsInWords.{one_after_another, ReadsEachOnce, AreSets}
 use Rattle.set_marks.proofs.BeginsAndEnds.{first_start}
 use Rattle.set_marks.proofs.RowsOfSets.{joined}

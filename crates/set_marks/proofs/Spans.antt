@@ -2,15 +2,16 @@
 use Rattle.std.proofs.Common.{◌≡◌, ℕ, zero, suc, ◌+◌, ◌<◌, ◌≤◌, Bool, true, false, ◌&&◌, not}
 use Rattle.std.proofs.Common.{List, [], ◌∷◌, ◌++◌, length, take, drop, Option, Some, None, is_none}
 use Rattle.std.proofs.Common.{refl, sym, ap, subst, ◌∙◌, inl, inr, arith, All, append_assoc}
-use Rattle.std.specs.Prelude.{◌==◌, nat_lt, nat_le, slice_get, is_some}
+use Rattle.std.specs.Prelude.{◌==◌, nat_lt, nat_le, slice_get, slice_index_or, is_some, Any}
 use Rattle.std.specs.List.{list_any}
-use Rattle.std.proofs.Math.Seq.{take-append_seam}
-use Rattle.std.proofs.lemmas.Bool.{cases_Bool, false≢true, leb-false, or_left}
+use Rattle.std.proofs.Math.Seq.{take-append_seam, take-append-add}
+use Rattle.std.proofs.lemmas.Bool.{cases_Bool, false≢true, leb-false, or_left, not-true, le-ltb}
 use Rattle.std.proofs.lemmas.List.{length-drop, length-append, drop-drop, drop_all, drop_at}
 use Rattle.std.proofs.lemmas.List.{take-take, length-take, take-append-le, take-append-drop}
 use Rattle.std.proofs.lemmas.List.Elements.{All-nil, All-cons, All-head, All-tail, All-take}
+use Rattle.std.proofs.lemmas.List.Elements.{All-append, filter-append}
+use Rattle.std.proofs.lemmas.List.Folds.{Any-from_list_any}
 use Rattle.station_book.proofs.readings.CleanBlocks.{all_none}
-use Rattle.station_book.specs.Places.{is_among}
 use Rattle.set_marks.specs.declared.fault.MarkKind.TheVariants as kinds
 use Rattle.set_marks.specs.declared.flaw.Flaw.{Flaw}
 use Rattle.set_marks.specs.declared.division.Divided.TheVariants.{NoSets, Sets}
@@ -20,27 +21,31 @@ use Rattle.set_marks.specs.declared.stated.Numbers.{Numbers}
 use Rattle.set_marks.specs.declared.outside.Ending.{Ending}
 use Rattle.set_marks.specs.declared.outside.Ending.TheVariants.{Nothing, CheckSights, CheckPair}
 use Rattle.set_marks.specs.Divisions.{sets_flaw, starts_of, sets_of, first_set, in_span, is_of}
-use Rattle.set_marks.specs.Divisions.{seconds_of, rest_of, place_of, unknown_in, cut_end, cut_of}
+use Rattle.set_marks.specs.Divisions.{seconds_of, rest_of, place_of, cut_end, cut_of}
 use Rattle.set_marks.specs.Divisions.{first_cut, last_place, last_target, end_of, known_in, later}
+use Rattle.set_marks.specs.Divisions.{is_some_known, unknown_in}
 use Rattle.set_marks.specs.Divisions.{flaw_at, flaw_when, flaw_found, are_by_targets, part}
 use Rattle.set_marks.specs.Divisions.{begins_with_pair, divided_unless, has_no_sets, span_from}
-use Rattle.set_marks.specs.Divisions.{targets_of, is_read_in_two, first_target}
+use Rattle.set_marks.specs.Divisions.{targets_of, is_read_in_two, first_target, are_in_face}
 use Rattle.set_marks.specs.Outside.{is_ended, in_ending, may_precede, may_end, may_follow}
 use Rattle.set_marks.specs.Doubts.{may_be_shifted, may_go_on, numbers_flaw, stranger_among}
-use Rattle.set_marks.specs.Ways.{Way, detail_in, cut_flaw, is_no_end, flaw_after, flaw_of}
-use Rattle.set_marks.specs.Ways.{is_division, most_leading, leading_of, is_given_up, kept, given_up, with_way}
+use Rattle.set_marks.specs.Ways.{Way, detail_between, cut_flaw, is_no_end, flaw_after, flaw_of}
+use Rattle.set_marks.specs.Ways.{is_division, most_leading, leading_of, is_given_up, kept}
+use Rattle.set_marks.specs.Ways.{given_up, with_way}
 use Rattle.set_marks.specs.Ways.{gives, ways_of, latest_flaw, no_way_flaw, after_leading, sets_by}
 use Rattle.set_marks.specs.Ways.{doubt_by, span_by, divided_by, divided}
 use Rattle.set_marks.specs.Numbers.{is_asked, is_other}
-use Rattle.set_marks.specs.BeginsAndEnds.{are_checks, was_read, EndsLastSet}
+use Rattle.set_marks.specs.BeginsAndEnds.{are_checks, was_read, without_details, AreEven}
+use Rattle.set_marks.specs.BeginsAndEnds.{EndsLastSet}
 use Rattle.set_marks.proofs.EachTargetOnce.{none_found, no_flaw}
 use Rattle.set_marks.proofs.AmongDetails.{is_known, first_place, known_after, none_kept}
-use Rattle.set_marks.proofs.AmongDetails.{strange_too}
-use Rattle.set_marks.proofs.BeginsAndEnds.{among_names, last_known, opening_read, several_above}
-use Rattle.set_marks.proofs.BeginsAndEnds.{in_two}
+use Rattle.set_marks.proofs.AmongDetails.{strange_too, all_kept, next_known, none_unknown}
+use Rattle.set_marks.proofs.BeginsAndEnds.{last_known, opening_read, several_above}
+use Rattle.set_marks.proofs.BeginsAndEnds.{in_two, known_two, none_pass}
 use Rattle.set_marks.proofs.SameSets.{none_among, HasSets, has_sets, cut_within, whole, all_so}
+use Rattle.set_marks.proofs.SameSets.{detail_among}
 use Rattle.set_marks.proofs.Fewest.{fewest}
-use Rattle.set_marks.proofs.Parted.{parted, checks, checks_first}
+use Rattle.set_marks.proofs.Parted.{parted, checks, checks_first, even_before}
 use Rattle.set_marks.proofs.Tries.{least_at}
 
 -- Of the readings that are sets (`inner`, which is `in_span span rs`): they are readings of the
@@ -73,7 +78,7 @@ stays_some (Some a) (Some b) e = elim (cases_Bool (nat_lt a.block b.block)) [
 abbrev IsRight : List Sight → Way → Type 0
 IsRight rs way = flaw_of way.ending rs way.leading ≡ None
 
-kept_is : (rest : List Sight) (o : Option ℕ) (n : ℕ) → kept rest o ≡ Some n → o ≡ Some n
+pub kept_is : (rest : List Sight) (o : Option ℕ) (n : ℕ) → kept rest o ≡ Some n → o ≡ Some n
 kept_is rest None n e = cc
 kept_is rest (Some m) n e = elim (cases_Bool (is_given_up rest m)) [
   | inl h ↦ let f : None ≡ Some n = rw h at e in cc
@@ -122,9 +127,10 @@ something_wrong rs e f = elim (cases_Bool (is_division Nothing rs 0)) [
       false≢true (sym some ∙ none)
 ]
 
--- The way in which the sets of readings are found, and nothing is wrong.
-record Found (stated : Numbers) (rs : List Sight) (span : Span) : Type 0 where
+-- The way in which the sets of readings are found, which is the only one, and nothing is wrong.
+pub record Found (stated : Numbers) (rs : List Sight) (span : Span) : Type 0 where
   pub way : Way
+  pub only : ways_of rs ≡ way ∷ []
   pub right : flaw_of way.ending rs way.leading ≡ None
   pub stand : span_by rs way ≡ span
   pub sure : doubt_by stated rs way ≡ None
@@ -140,11 +146,17 @@ by_ways stated rs span (way ∷ []) is all e = by (doubt_by stated rs way) refl 
   by : (o : Option Flaw) → doubt_by stated rs way ≡ o
       → divided_unless o (span_by rs way) ≡ Sets span → Found stated rs span
   by None sure f = let g : span_by rs way ≡ span = cc in
-      record { way = way; right = All-head (IsRight rs) way [] all; stand = g; sure = sure }
+      record {
+        way = way;
+        only = is;
+        right = All-head (IsRight rs) way [] all;
+        stand = g;
+        sure = sure;
+      }
   by (Some flaw) sure f = cc
 by_ways stated rs span (way ∷ another ∷ ways) is all e = cc
 
-found_in : (stated : Numbers) (rs : List Sight) (span : Span) → divided stated rs ≡ Sets span
+pub found_in : (stated : Numbers) (rs : List Sight) (span : Span) → divided stated rs ≡ Sets span
     → Found stated rs span
 found_in stated rs span e = elim (cases_Bool (has_no_sets rs)) [
   | inl h ↦ let f : NoSets ≡ Sets span = rw h at e in cc
@@ -154,19 +166,27 @@ found_in stated rs span e = elim (cases_Bool (has_no_sets rs)) [
 no_fault : (f : Flaw) → Some f ≡ None → ⊥
 no_fault f e = cc
 
--- Where nothing is wrong with a way: the readings after the leading ones end so, and nothing is
--- wrong with the sets before the ending.
-record AreRight (rs : List Sight) (way : Way) : Type 0 where
+-- Where nothing is wrong with a way: the readings after the leading ones end so, nothing is wrong
+-- with the sets before the ending, and it may stand after them.
+pub record AreRight (rs : List Sight) (way : Way) : Type 0 where
   pub some : 1 ≤ length (after_leading rs way)
   pub ended : is_ended way.ending (after_leading rs way) ≡ true
   pub cut : cut_flaw rs (take way.leading (rest_of rs)) (place_of (seconds_of rs) way.leading rs)
       (starts_of (sets_by rs way)) (sets_by rs way) ≡ None
   pub ends : may_end way.ending (sets_by rs way) (in_ending way.ending (after_leading rs way))
       ≡ true
+  pub follows : may_follow way.ending (first_cut (starts_of (sets_by rs way)) (sets_by rs way))
+      (is_some (detail_between rs (place_of (seconds_of rs) way.leading rs)
+      (place_of (seconds_of rs) way.leading rs + suc (length (sets_by rs way))))) ≡ true
 
-may_end_then : (a b : Bool) → not (a && b) ≡ false → a ≡ true
-may_end_then true b e = refl
-may_end_then false b e = cc
+pub not_false : (b : Bool) → not b ≡ false → b ≡ true
+not_false true e = refl
+not_false false e = cc
+
+both_then : (a b : Bool) → not (a && b) ≡ false → (a ≡ true) × (b ≡ true)
+both_then true true e = (refl, refl)
+both_then true false e = cc
+both_then false b e = cc
 
 right_after : (rs : List Sight) (way : Way) → 1 ≤ length (after_leading rs way)
     → flaw_after way.ending rs (take way.leading (rest_of rs))
@@ -184,19 +204,15 @@ right_after rs way some e =
           let none = all_none (cut_flaw rs (take way.leading (rest_of rs)) at (starts_of sets) sets
           ∷ flaw_when (is_no_end rs at way.ending sets ending) kinds.OneTarget (slice_get ending 0)
           ∷ []) (rw h at e) in
-          record {
-            some = some;
-            ended = h;
-            cut = none.0;
-            ends = may_end_then (may_end way.ending sets ending)
-                (may_follow way.ending (first_cut (starts_of sets) sets)
-                (is_some (detail_in rs at (suc (length sets)))))
-                (no_flaw (is_no_end rs at way.ending sets ending) kinds.OneTarget
-                (slice_get ending 0) none.1.0);
-          }
+          let may = both_then (may_end way.ending sets ending)
+          (may_follow way.ending (first_cut (starts_of sets) sets)
+          (is_some (detail_between rs at (at + suc (length sets)))))
+          (no_flaw (is_no_end rs at way.ending sets ending) kinds.OneTarget
+          (slice_get ending 0) none.1.0) in
+          record { some = some; ended = h; cut = none.0; ends = may.0; follows = may.1 }
     ]
 
-are_right : (rs : List Sight) (way : Way) → flaw_of way.ending rs way.leading ≡ None
+pub are_right : (rs : List Sight) (way : Way) → flaw_of way.ending rs way.leading ≡ None
     → AreRight rs way
 are_right rs way e = elim (cases_Bool (nat_le (length (rest_of rs)) way.leading)) [
   | inl h ↦
@@ -209,7 +225,7 @@ are_right rs way e = elim (cases_Bool (nat_le (length (rest_of rs)) way.leading)
 ]
 
 -- the doubts about readings, one by one
-abbrev doubts : Numbers → List Sight → List Sight → List Sight → List (Option Flaw)
+abbrev pub doubts : Numbers → List Sight → List Sight → List Sight → List (Option Flaw)
 doubts stated leading sets rs =
     flaw_when (may_be_shifted leading (first_cut (starts_of sets) sets)
     (part 0 (cut_end (starts_of sets) sets) sets)) kinds.MayBeShifted
@@ -223,7 +239,7 @@ doubts stated leading sets rs =
     ∷ []
 
 -- Whether readings begin with a pair is seen in the first two.
-first_two : (n : ℕ) (rs : List Sight) → 2 ≤ length (take n rs)
+pub first_two : (n : ℕ) (rs : List Sight) → 2 ≤ length (take n rs)
     → begins_with_pair (take n rs) ≡ begins_with_pair rs
 first_two zero rs two = absurd (omega (arith, two))
 first_two (suc n) [] two = refl
@@ -239,20 +255,25 @@ first_one (suc n) (r ∷ rs) some = refl
 
 -- What is known of the sets of a way (`sets`), of which the last ends at this place: the first of
 -- them are sets of the station, and after these stand, beside details, the others and the ending.
-record IsCut (rs : List Sight) (way : Way) (sets : List Sight) (end : ℕ) : Type 0 where
+pub record IsCut (rs : List Sight) (way : Way) (sets : List Sight) (end : ℕ) : Type 0 where
   pub known : All (λ r. is_known (seconds_of rs) r ≡ true)
       (take end (drop (place_of (seconds_of rs) way.leading rs) rs))
   pub same : take end (drop (place_of (seconds_of rs) way.leading rs) rs) ≡ take end sets
   pub after : known_in (seconds_of rs)
       (drop end (drop (place_of (seconds_of rs) way.leading rs) rs))
       ≡ drop end sets ++ in_ending way.ending (after_leading rs way)
+  pub left : known_in (seconds_of rs)
+      (drop end (drop (place_of (seconds_of rs) way.leading rs) rs))
+      ≡ drop end (after_leading rs way)
   pub read : are_by_targets (take end sets) ≡ are_by_targets sets
   pub checks : are_checks (in_span (span_by rs way) rs)
       (in_ending way.ending (after_leading rs way)) ≡ true
+  pub precede : may_precede (starts_of sets) sets (take way.leading (rest_of rs))
+      (place_of (seconds_of rs) way.leading rs) ≡ true
   pub has : HasSets (take end sets) sets
   pub inner : in_span (span_by rs way) rs ≡ take end sets
 
-cut_sets : (rs : List Sight) (way : Way) → flaw_of way.ending rs way.leading ≡ None
+pub cut_sets : (rs : List Sight) (way : Way) → flaw_of way.ending rs way.leading ≡ None
     → IsCut rs way (sets_by rs way) (cut_end (starts_of (sets_by rs way)) (sets_by rs way))
 cut_sets rs way e =
     let after = after_leading rs way in
@@ -263,10 +284,11 @@ cut_sets rs way e =
     let at = place_of twos way.leading rs in
     let end = cut_end (starts_of sets) sets in
     let none = all_none (sets_flaw (first_cut (starts_of sets) sets) 0 end (starts_of sets) sets
-    ∷ flaw_found kinds.FaceMissing (unknown_in twos (take end (drop at rs)))
+    ∷ flaw_found kinds.FaceMissing (detail_between rs at (at + end))
     ∷ flaw_when (not (may_precede (starts_of sets) sets (take way.leading (rest_of rs)) at))
     kinds.OneSet (slice_get sets 0) ∷ []) right.cut in
-    let clean = none_found kinds.FaceMissing (unknown_in twos (take end (drop at rs))) none.1.0 in
+    let clean = detail_among rs at end
+    ∙ none_found kinds.FaceMissing (detail_between rs at (at + end)) none.1.0 in
     let parts = parted way.ending after right.some right.ended in
     let within = cut_within sets (starts_of sets) in
     let long : length after ≡ length sets + length ending =
@@ -285,11 +307,15 @@ cut_sets rs way e =
       same = same;
       after = among.after ∙ ap (λ (l : List Sight). drop end l) parts.split
           ∙ dropped end sets ending within;
+      left = among.after;
       read = read;
       checks = ap (λ (l : List Sight). are_checks l ending) inner
           ∙ checks_first sets (take end sets) ending
           (first_one end sets (omega (arith, many))) read
           (checks way.ending sets after right.ended right.ends);
+      precede = not_false (may_precede (starts_of sets) sets (take way.leading (rest_of rs)) at)
+          (no_flaw (not (may_precede (starts_of sets) sets (take way.leading (rest_of rs)) at))
+          kinds.OneSet (slice_get sets 0) none.1.1.0);
       has = has;
       inner = inner;
     }
@@ -301,7 +327,7 @@ cut_sets rs way e =
     dropped (suc k) (x ∷ xs) ys le = dropped k xs ys (omega (arith, le))
 
 -- What stands before the reading after so many of the others' targets.
-known_before : (others : List Sight) (count : ℕ) (rs : List Sight)
+pub known_before : (others : List Sight) (count : ℕ) (rs : List Sight)
     → known_in others (take (place_of others count rs) rs) ≡ take count (known_in others rs)
 known_before others zero [] = refl
 known_before others (suc count) [] = refl
@@ -321,6 +347,7 @@ record InParts (others rs before after : List Sight) : Type 0 where
   pub split : rs ≡ front ++ back
   pub in_front : known_in others front ≡ before
   pub in_back : known_in others back ≡ after
+  pub next : All (λ r. is_known others r ≡ true) (take 1 back)
 
 in_parts : (others rs before after : List Sight) → known_in others rs ≡ before ++ after
     → InParts others rs before after
@@ -335,7 +362,115 @@ in_parts others rs before after e =
       in_back = known_after others (length before) rs
           ∙ ap (λ (l : List Sight). drop (length before) l) e
           ∙ drop_at before after (length before) refl;
+      next = next_known others (length before) rs;
     }
+
+-- What stands after the sets: others, and the ending.
+abbrev AfterSets : List Sight → Way → Type 0
+AfterSets rs way = InParts (seconds_of rs)
+    (drop (cut_end (starts_of (sets_by rs way)) (sets_by rs way))
+    (drop (place_of (seconds_of rs) way.leading rs) rs))
+    (drop (cut_end (starts_of (sets_by rs way)) (sets_by rs way)) (sets_by rs way))
+    (in_ending way.ending (after_leading rs way))
+
+after_sets : (rs : List Sight) (way : Way) → flaw_of way.ending rs way.leading ≡ None
+    → AfterSets rs way
+after_sets rs way e =
+    let rest = sets_by rs way in
+    let end = cut_end (starts_of rest) rest in
+    in_parts (seconds_of rs) (drop end (drop (place_of (seconds_of rs) way.leading rs) rs))
+    (drop end rest) (in_ending way.ending (after_leading rs way)) (cut_sets rs way e).after
+
+-- The ending is what is no detail after these others.
+ending_is : (rs : List Sight) (way : Way) (parts : AfterSets rs way)
+    → without_details rs parts.back ≡ in_ending way.ending (after_leading rs way)
+ending_is rs way parts = sym (known_two rs parts.back) ∙ parts.in_back
+
+-- With check sights as many of the readings before them are in face I as in face II.
+even_after : (rs : List Sight) (way : Way) → flaw_of way.ending rs way.leading ≡ None
+    → (parts : AfterSets rs way) → 1 ≤ length (without_details rs parts.back)
+    → are_in_face false (without_details rs parts.back) ≡ true
+    → AreEven (without_details rs (in_span (span_by rs way) rs ++ parts.front))
+even_after rs way e parts some one =
+    let rest = sets_by rs way in
+    let twos = seconds_of rs in
+    let at = place_of twos way.leading rs in
+    let end = cut_end (starts_of rest) rest in
+    let inner = in_span (span_by rs way) rs in
+    let cut = cut_sets rs way e in
+    let right = are_right rs way e in
+    let is = ending_is rs way parts in
+    let kept : known_in twos inner ≡ take end rest =
+    ap (λ (l : List Sight). known_in twos l) (cut.inner ∙ sym cut.same)
+    ∙ all_kept twos (take end (drop at rs)) cut.known ∙ cut.same in
+    let all : without_details rs (inner ++ parts.front) ≡ rest =
+    sym (known_two rs (inner ++ parts.front))
+    ∙ filter-append (λ r. is_known twos r) inner parts.front
+    ∙ (λ i. kept i ++ parts.in_front i) ∙ take-append-drop end rest in
+    subst (λ (l : List Sight). AreEven l) (sym all)
+    (even_before way.ending (after_leading rs way) right.ended
+    (subst (λ (l : List Sight). 1 ≤ length l) is some)
+    (sym (ap (λ (l : List Sight). are_in_face false l) is) ∙ one))
+
+-- Where an ending may follow sets of two targets, something stands between.
+stands_apart : (ending : Ending) (first after : List Sight) (apart : Bool)
+    → may_follow ending first apart ≡ true → 1 ≤ length (in_ending ending after)
+    → length first ≤ 4 → apart ≡ true
+stands_apart Nothing first after apart e some two = absurd (omega (arith, some))
+stands_apart CheckSights first after apart e some two = rw (le-ltb 4 (length first) two) at e
+stands_apart CheckPair first after apart e some two = rw (le-ltb 4 (length first) two) at e
+
+-- After sets of two targets a detail stands before the ending.
+apart_after : (rs : List Sight) (way : Way) → flaw_of way.ending rs way.leading ≡ None
+    → (parts : AfterSets rs way) → 1 ≤ length (without_details rs parts.back)
+    → length (first_set (in_span (span_by rs way) rs)) ≤ 4
+    → Any (λ r. is_read_in_two rs r.target ≡ false) parts.front
+apart_after rs way e parts some two =
+    let rest = sets_by rs way in
+    let twos = seconds_of rs in
+    let at = place_of twos way.leading rs in
+    let end = cut_end (starts_of rest) rest in
+    let cut = cut_sets rs way e in
+    elim (cases_Bool (list_any (λ r. not (is_read_in_two rs r.target)) parts.front)) [
+      | inl h ↦
+          let found = Any-from_list_any (λ r. not (is_read_in_two rs r.target)) parts.front h in
+          (found.0, found.1, found.2, found.3, not-true (is_read_in_two rs found.1.target) found.4)
+      | inr h ↦
+          let front = parts.front in
+          let known_front : All (λ r. is_known twos r ≡ true) front = λ k d lt.
+          in_two (slice_index_or front k d).target rs
+          ∙ not_false (is_read_in_two rs (slice_index_or front k d).target)
+          (none_pass (λ r. not (is_read_in_two rs r.target)) front h k d lt) in
+          let before = take end (drop at rs) ++ front in
+          let kept = all_kept twos front known_front in
+          let many : length before ≡ length rest =
+          length-append (take end (drop at rs)) front
+          ∙ (λ i. length (cut.same i) + length ((sym kept ∙ parts.in_front) i))
+          ∙ sym (length-append (take end rest) (drop end rest))
+          ∙ ap length (take-append-drop end rest) in
+          let stand : drop at rs ≡ before ++ parts.back =
+          sym (take-append-drop end (drop at rs))
+          ∙ ap (λ (l : List Sight). take end (drop at rs) ++ l) parts.split
+          ∙ sym (append_assoc (take end (drop at rs)) front parts.back) in
+          let tried : take (suc (length rest)) (drop at rs) ≡ before ++ take 1 parts.back =
+          (λ i. take (one_more (length rest) (length before) (sym many) i) (stand i))
+          ∙ take-append-add before parts.back 1 in
+          let all = All-append (λ (r : Sight). is_known twos r ≡ true) before (take 1 parts.back)
+          (All-append (λ (r : Sight). is_known twos r ≡ true) (take end (drop at rs)) front
+          cut.known known_front) parts.next in
+          let none : detail_between rs at (at + suc (length rest)) ≡ None =
+          sym (detail_among rs at (suc (length rest)))
+          ∙ ap (λ (l : List Sight). unknown_in twos l) tried
+          ∙ none_unknown twos (before ++ take 1 parts.back) all in
+          absurd (false≢true (sym (ap (λ (o : Option Sight). is_some o) none)
+          ∙ stands_apart way.ending (first_cut (starts_of rest) rest) (after_leading rs way)
+          (is_some (detail_between rs at (at + suc (length rest)))) (are_right rs way e).follows
+          (subst (λ (l : List Sight). 1 ≤ length l) (ending_is rs way parts) some)
+          (subst (λ (l : List Sight). length l ≤ 4)
+          (ap (λ (l : List Sight). first_set l) cut.inner ∙ cut.has.first) two)))
+    ] where
+      one_more : (m n : ℕ) → m ≡ n → suc m ≡ n + 1
+      one_more m n is = omega (arith, is)
 
 taken_after : (stated : Numbers) (rs : List Sight) (way : Way)
     → flaw_of way.ending rs way.leading ≡ None → doubt_by stated rs way ≡ None
@@ -409,20 +544,19 @@ last_of_known others (r ∷ s ∷ rs) all some = last_of_known others (s ∷ rs)
 
 -- Where the last of several sets ends, by the readings that stand before it.
 several_by : (rs : List Sight) (starts : List ℕ) → 2 ≤ length starts
-    → cut_end starts rs ≡ end_of (targets_of (take (last_place starts) rs)) 0 0 rs
+    → cut_end starts rs ≡ end_of (take (last_place starts) rs) rs
 several_by rs [] many = absurd (omega (arith, many))
 several_by rs (from ∷ []) many = absurd (omega (arith, many))
 several_by rs (from ∷ to ∷ later) many = refl
 
 -- The opening target is one that a set before the last has.
 opens_known : (rs : List Sight) → 2 ≤ length (starts_of rs)
-    → list_any (λ s. is_among (targets_of (take (last_place (starts_of rs)) rs)) s.target) rs ≡ true
+    → is_some_known (take (last_place (starts_of rs)) rs) rs ≡ true
 opens_known [] many = absurd (omega (arith, many))
 opens_known (r ∷ rs) many =
     let known = take (last_place (starts_of (r ∷ rs))) (r ∷ rs) in
-    or_left (is_among (targets_of known) r.target)
-    (list_any (λ s. is_among (targets_of known) s.target) rs) (among_names [] r.target known
-    ∙ opening_read r rs (last_place (starts_of (r ∷ rs))) (several_above r rs many))
+    or_left (is_known known r) (is_some_known known rs)
+    (opening_read r rs (last_place (starts_of (r ∷ rs))) (several_above r rs many))
 
 several_after : (rs : List Sight) (way : Way) → flaw_of way.ending rs way.leading ≡ None
     → 2 ≤ length (starts_of (in_span (span_by rs way) rs))
@@ -440,13 +574,12 @@ several_after rs way e two =
     let many : 2 ≤ length (starts_of rest) = subst (λ (ps : List ℕ). 2 ≤ length ps)
     (ap starts_of cut.inner ∙ has.starts) two in
     let before = take place rest in
-    let names = targets_of before in
-    let found = last_known names 0 0 rest (opens_known rest many) in
+    let found = last_known before rest (opens_known rest many) in
     let sets = found.front ++ found.last ∷ [] in
     let split : rest ≡ sets ++ found.after =
     found.readings ∙ sym (append_assoc found.front (found.last ∷ []) found.after) in
     let long : length sets ≡ end = length-append found.front (found.last ∷ [])
-    ∙ sym (several_by rest (starts_of rest) many ∙ found.here ∙ omega arith) in
+    ∙ sym (several_by rest (starts_of rest) many ∙ found.here) in
     let is_sets : inner ≡ sets = ap (λ (l : List Sight). take end l) split
     ∙ ap (λ (k : ℕ). take k (sets ++ found.after)) (sym long) ∙ take-append_seam sets found.after in
     let is_after : drop end rest ≡ found.after = ap (λ (l : List Sight). drop end l) split
@@ -461,13 +594,10 @@ several_after rs way e two =
     (ap (λ (l : List Sight). take place l) cut.same ∙ in_sets)
     (All-take (λ (y : Sight). is_known twos y ≡ true) place (take end (drop at rs))
     cut.known) in
-    let parts = in_parts twos beyond (drop end rest)
-    (in_ending way.ending (after_leading rs way)) cut.after in
+    let parts = after_sets rs way e in
     let none : All (λ r. is_known before r ≡ false) (known_in twos parts.front) =
     subst (λ (l : List Sight). All (λ r. is_known before r ≡ false) l)
-    (sym (parts.in_front ∙ is_after))
-    (all_so (λ r. is_among names r.target ≡ false) (λ r. is_known before r ≡ false)
-    (λ r f. sym (among_names [] r.target before) ∙ f) found.after found.strange) in
+    (sym (parts.in_front ∙ is_after)) found.strange in
     let strange : All (λ r. was_read inner r.target ≡ false) parts.front =
     all_so (λ r. is_known before r ≡ false) (λ r. was_read inner r.target ≡ false)
     (λ r f. read r.target ∙ f) parts.front (strange_too twos before parts.front known none) in
@@ -475,14 +605,16 @@ several_after rs way e two =
       last = (λ i. was_read (cut.inner i) (last_target (cut.inner i)))
           ∙ ap (λ (l : List Sight). was_read inner (last_target l)) is_sets
           ∙ ap (λ (name : List ℕ). was_read inner name) (last_is found.front found.last)
-          ∙ read found.last.target ∙ sym (among_names [] found.last.target before) ∙ found.known;
+          ∙ read found.last.target ∙ found.known;
       after = parts.front;
       ended = parts.back;
       split = sym (drop-drop end at rs) ∙ parts.split;
       strange = subst (λ (l : List Sight). All (λ r. was_read l r.target ≡ false) parts.front)
           (sym cut.inner) strange;
-      checks = ap (λ (l : List Sight). are_checks (in_span (span_by rs way) rs) l) parts.in_back
-          ∙ cut.checks;
+      checks = ap (λ (l : List Sight). are_checks (in_span (span_by rs way) rs) l)
+          (ending_is rs way parts) ∙ cut.checks;
+      even = even_after rs way e parts;
+      apart = apart_after rs way e parts;
     }
 
 -- The last of several sets ends with the last reading of a target that a set before it has.
@@ -495,7 +627,7 @@ several_end stated rs span e =
     → EndsLastSet (was_read (in_span s rs)) s rs) found.stand
     (several_after rs found.way found.right)
 
-single_by : (rs : List Sight) (starts : List ℕ) → length starts ≡ 1
+pub single_by : (rs : List Sight) (starts : List ℕ) → length starts ≡ 1
     → cut_end starts rs ≡ length rs
 single_by rs [] one = refl
 single_by rs (from ∷ []) one = refl
@@ -518,8 +650,7 @@ single_after rs way e one =
     (omega (arith, many)) in
     let all : end ≡ length rest = single_by rest (starts_of rest)
     (sym (ap length (ap starts_of cut.inner ∙ has.starts)) ∙ one) in
-    let parts = in_parts twos beyond (drop end rest)
-    (in_ending way.ending (after_leading rs way)) cut.after in
+    let parts = after_sets rs way e in
     let none = none_kept twos parts.front
     (parts.in_front ∙ drop_all end rest (omega (arith, all))) in
     let strange : All (λ r. is_read_in_two rs r.target ≡ false) parts.front =
@@ -533,8 +664,10 @@ single_after rs way e one =
       ended = parts.back;
       split = sym (drop-drop end at rs) ∙ parts.split;
       strange = strange;
-      checks = ap (λ (l : List Sight). are_checks (in_span (span_by rs way) rs) l) parts.in_back
-          ∙ cut.checks;
+      checks = ap (λ (l : List Sight). are_checks (in_span (span_by rs way) rs) l)
+          (ending_is rs way parts) ∙ cut.checks;
+      even = even_after rs way e parts;
+      apart = apart_after rs way e parts;
     }
 
 -- A single set ends with the last reading of a target that is read in face II.

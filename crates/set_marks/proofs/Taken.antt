@@ -58,41 +58,7 @@ pub takes_sets : (line : List ℕ) (s : Occupation) (span : Span) (old new : Mar
     → TakesStation line s (divided_unless (targets_fault s span) span) old new
 takes_sets line s span old new none takes = rw none takes
 
--- Else it stays outside.
-pub takes_many : (line : List ℕ) (s : Occupation) (span : Span) (f : Flaw) (old new : Marking)
-    → targets_fault s span ≡ Some f → TakesStation line s (Flawed f) old new
-    → TakesStation line s (divided_unless (targets_fault s span) span) old new
-takes_many line s span f old new some takes = rw some takes
-
--- What a station is judged to be, case by case.
-pub without_sets : (stated : Said) (before : Before) (line : List ℕ) (s : Occupation)
-    → divided (numbers_of stated s.name) s.sights ≡ NoSets → judged stated before line s ≡ NoSets
-without_sets stated before line s is =
-    ap (λ (d : Divided). settled (division_fault before line s d) d) is
-
-pub with_flaw : (stated : Said) (before : Before) (line : List ℕ) (s : Occupation) (f : Flaw)
-    → divided (numbers_of stated s.name) s.sights ≡ Flawed f → twice_fault before s ≡ None
-    → judged stated before line s ≡ Flawed f
-with_flaw stated before line s f is new =
-    ap (λ (d : Divided). settled (division_fault before line s d) d) is
-    ∙ ap (λ (o : Option Flaw). settled (first_of (o ∷ Some f ∷ [])) (Flawed f)) new
-
-pub flawed_twice : (stated : Said) (before : Before) (line : List ℕ) (s : Occupation) (f g : Flaw)
-    → divided (numbers_of stated s.name) s.sights ≡ Flawed f → twice_fault before s ≡ Some g
-    → judged stated before line s ≡ Flawed g
-flawed_twice stated before line s f g is twice =
-    ap (λ (d : Divided). settled (division_fault before line s d) d) is
-    ∙ ap (λ (o : Option Flaw). settled (first_of (o ∷ Some f ∷ [])) (Flawed f)) twice
-
-pub with_fault : (stated : Said) (before : Before) (line : List ℕ) (s : Occupation)
-    (span : Span) (f : Flaw)
-    → divided (numbers_of stated s.name) s.sights ≡ Sets span
-    → sets_fault before line s span ≡ Some f
-    → judged stated before line s ≡ Flawed f
-with_fault stated before line s span f is fault =
-    ap (λ (d : Divided). settled (division_fault before line s d) d) is
-    ∙ ap (λ (o : Option Flaw). settled (first_of (o ∷ targets_fault s span ∷ [])) (Sets span)) fault
-
+-- What a station with sets is judged to be.
 unless_more : (o : Option Flaw) (span : Span)
     → settled (first_of (o ∷ [])) (Sets span) ≡ divided_unless o span
 unless_more None span = refl

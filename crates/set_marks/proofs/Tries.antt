@@ -20,7 +20,7 @@ use Rattle.set_marks.specs.Divisions.{sets_flaw, flaw_found}
 use Rattle.set_marks.specs.Outside.{is_ended, may_end, before_ending, in_ending}
 use Rattle.set_marks.specs.Searching.{ends_in_one, may_be_plain, may_divide, IsClosed}
 use Rattle.set_marks.specs.Ways.{flaw_after, is_division, leading_of, most_leading}
-use Rattle.set_marks.specs.Ways.{cut_flaw, is_no_end, detail_in}
+use Rattle.set_marks.specs.Ways.{cut_flaw, is_no_end, detail_between}
 use Rattle.set_marks.proofs.Endings.{no_checks}
 
 -- The least number that passes, where none before it does.
@@ -51,7 +51,7 @@ no_rest ending rs n le = rw (le-leb (length (rest_of rs)) n le) refl
 many_tried : (rs : List Sight) → most_leading rs ≤ MOST_READINGS
 many_tried rs = let long = length-take MOST_READINGS (drop 1 (rest_of rs)) in omega (arith, long)
 
-within : (rs : List Sight) (n : ℕ) → n < length (rest_of rs) → n ≤ MOST_READINGS
+pub within : (rs : List Sight) (n : ℕ) → n < length (rest_of rs) → n ≤ MOST_READINGS
     → n ≤ most_leading rs
 within rs n lt le =
     let long = length-take MOST_READINGS (drop 1 (rest_of rs)) in
@@ -106,7 +106,7 @@ not_plain : (all leading : List Sight) (place : ℕ) (starts : List ℕ) (sets :
 not_plain all leading place starts sets many one by =
     rw (many, one, by) (some_third
     (sets_flaw (first_cut starts sets) 0 (cut_end starts sets) starts sets)
-    (flaw_found kinds.FaceMissing (detail_in all place (cut_end starts sets)))
+    (flaw_found kinds.FaceMissing (detail_between all place (place + cut_end starts sets)))
     (flaw_at kinds.OneSet (slice_get sets 0)))
 
 -- So they aren't few, and neither all in face I nor pairs.

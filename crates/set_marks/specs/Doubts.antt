@@ -1,6 +1,7 @@
--- The doubts about sets that were found (profile): they are sets, and others may be meant. The sets
--- may be shifted by readings before them; of sets that are read by targets nothing shows where they
--- begin, so that their number is asked for; and a set of other targets may be of another set-up.
+-- The doubts about sets that were found (profile): nothing is wrong with them, but other sets may
+-- be meant. The first set may begin earlier, with some of the leading readings: then all sets are
+-- shifted. Of sets that are read by targets nothing shows where they begin, so their number has to
+-- be stated. And a set of other targets than the first may be of another set-up.
 use Rattle.std.specs.Prelude.{Bool, ◌&&◌, ◌||◌, not, nat_le, ◌==◌, List, [], ◌∷◌, length, drop}
 use Rattle.std.specs.Prelude.{if◌then◌else◌, Option, None, slice_get}
 use Rattle.std.specs.List.{list_any}
@@ -16,51 +17,54 @@ use Rattle.set_marks.specs.Divisions.{flaw_when, flaw_found, starts_of, cut_end,
 use Rattle.set_marks.specs.Divisions.{part, targets_of, begins_with_pair, are_by_targets}
 use Rattle.set_marks.specs.Divisions.{is_mostly_known}
 
--- One of the leading readings is of the target that ends the set and does not begin it.
+-- One of the leading readings is of the target that ends this set, and the set begins with another.
 abbrev pub reads_end : List Sight → List Sight → Bool
 reads_end leading set =
     not (bytes_eq (last_target set) (first_target set))
     && list_any (is_of (last_target set)) leading
 
--- A set that is read by targets may be shifted by the leading readings: one of these is of the
--- target that ends the set and does not begin it, and the set has two targets, or one of them is in
--- face II.
+-- A set that is read by targets may begin earlier, with some of the leading readings: one of these
+-- is of the target that ends the set, which begins with another; and the set has two targets, or
+-- one of the leading readings is in face II.
 abbrev pub leads_to_end : List Sight → List Sight → Bool
 leads_to_end leading set =
     reads_end leading set && is_by_targets set
     && (nat_le (length set) 4 || list_any (λ r. r.second) leading)
 
--- One of the leading readings is in face II, and of a target of these sets that does not begin them.
+-- One of the leading readings is in face II, and of a target of these sets, but not of the one that
+-- opens them.
 abbrev pub leads_within : List Sight → List Sight → Bool
 leads_within leading in_sets =
     list_any (λ r. (r.second && not (is_of (first_target in_sets) r))
     && list_any (is_of r.target) in_sets) leading
 
--- The sets, of which this is the first, may be shifted by the leading readings: one of these is in
--- face II and none of its target in face I; or the first set may be; or the sets are read by targets,
--- and one in face II is of their targets, but not of the opening one: they may be the first set, with
--- a gap behind them.
+-- The sets, of which this is the first, may begin earlier, with some of the leading readings. One
+-- of these is in face II, and none of them is of its target in face I. Or the first set is read by
+-- targets and may begin earlier. Or it is read by targets, and a leading reading in face II is of a
+-- target of the sets, but not of the one that opens them: the leading readings may be of the first
+-- set, and some after them may be lost.
 abbrev pub may_be_shifted : List Sight → List Sight → List Sight → Bool
 may_be_shifted leading set in_sets =
     list_any (λ r. r.second && not (list_any (λ s. is_pair r s) leading)) leading
     || (leads_to_end leading set || (is_by_targets set && leads_within leading in_sets))
 
--- the first reading of the first of these sets of which this isn't so
+-- the first reading of the first of these sets of which no more than half of the targets are
+-- targets of the station's first set
 abbrev pub stranger_among : List Sight → List (List Sight) → Option Sight
 stranger_among first [] = None
 stranger_among first (set ∷ sets) =
     if is_mostly_known first set then stranger_among first sets else slice_get set 0
 
--- Sets that were read by targets are followed by a target in both faces, as a set goes on: they may
--- begin with another target. Here `rs` are the readings with which the sets begin, to the last of
--- the station.
+-- Sets that are read by targets may go on: the two readings after them are of one target, one in
+-- each face, as the next two of a set are. So the sets may begin with another target. Here `rs` are
+-- the readings of the sets and all after them, without details.
 abbrev pub may_go_on : List Sight → List Sight → Bool
 may_go_on sets rs =
     are_by_targets sets && begins_with_pair (drop (cut_end (starts_of sets) sets) rs)
 
--- What keeps the sets that these readings are from being those that are stated, the first that
--- stands: another number of sets is stated; there is one set, read by targets, and no number of
--- targets is stated; another number of targets is stated.
+-- Why the sets of these readings can't be taken by the numbers that are stated. It is the first of
+-- these that is found: another number of sets is stated; there is one set, read by targets, and no
+-- number of targets is stated; another number of targets is stated.
 abbrev pub numbers_flaw : Numbers → List Sight → Option Flaw
 numbers_flaw stated rs = first_of (
     flaw_when (is_other stated.sets (length (starts_of rs))) kinds.SetCount (slice_get rs 0)
@@ -71,11 +75,11 @@ numbers_flaw stated rs = first_of (
     (slice_get rs 0)
     ∷ [])
 
--- The doubt about readings that are sets after these leading ones, and of which this is stated, the
--- first that stands: the sets may be shifted; they are read by targets, and no number of sets is
--- stated; they may go on; they aren't those that are stated; or a set has other targets than the
--- first. Here `rs` are the readings with which the sets begin, to the last of the station; none of
--- all these is a detail.
+-- The doubt about sets that stand after these leading readings, and of which this is stated. It is
+-- the first of these that is found: the sets may begin earlier; they are read by targets, and no
+-- number of sets is stated; they may go on; they can't be taken by the numbers that are stated; no
+-- more than half of the targets of a set are targets of the first. Here `sets` are the readings of
+-- the sets up to an ending, and `rs` these and all after them. None of these readings is a detail.
 abbrev pub doubt_after : Numbers → List Sight → List Sight → List Sight → Option Flaw
 doubt_after stated leading sets rs = first_of (
     flaw_when (may_be_shifted leading (first_cut (starts_of sets) sets)

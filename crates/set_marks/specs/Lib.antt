@@ -10,6 +10,7 @@ pub mod Doubts
 pub mod Ways
 pub mod SetsInWords
 pub mod BeginsAndEnds
+pub mod BeforeAndAfter
 pub mod Fewest
 pub mod EqualSets
 pub mod Zeniths

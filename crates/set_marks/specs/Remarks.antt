@@ -1,6 +1,6 @@
--- What is told of the sets of a station beyond their numbers, by its readings alone (profile): what
--- a field book shows at a glance, where a set that was shifted, cut or taken from another station
--- differs from it.
+-- What is told of the sets of a station beyond their numbers, from its readings alone (profile). It
+-- is what a field book shows at a glance. Sets that begin elsewhere than in the book, that miss
+-- readings or that are another station's differ from it there.
 use Rattle.std.specs.Prelude.{ℕ, ◌-◌, ◌*◌, ◌/◌, Bool, ◌&&◌, not, List, length, filter}
 use Rattle.std.specs.Prelude.{if◌then◌else◌, Option, Some, None, slice_get}
 use Rattle.std.specs.List.{list_any}
@@ -18,36 +18,37 @@ use Rattle.set_marks.specs.Zeniths.{spread_ranges}
 abbrev pub length_to_turn : List Sight → ℕ
 length_to_turn set = if is_by_targets set then length set else length set / 2
 
--- the last of these readings
+-- the last reading of a set before it turns
 abbrev pub turning_of : List Sight → Option Sight
 turning_of set = slice_get set (length_to_turn set - 1)
 
--- How many directions so many sets have, if each of them has all targets of these readings.
+-- How many directions so many sets have if each of them has all targets of these readings.
 abbrev pub full_count : ℕ → List Sight → ℕ
 full_count sets in_sets = sets * length (targets_of in_sets)
 
--- How many of them are missing: a direction is two readings, one in each face.
+-- How many of these directions are missing: a direction takes two readings, one in each face.
 abbrev pub missing_count : ℕ → List Sight → ℕ
 missing_count sets in_sets = full_count sets in_sets - length in_sets / 2
 
--- Whether a reading in face II after the sets seems to be of another station: no set has its
--- target, and it is read in face I after them too. Detail points are read in face I alone.
+-- A reading after the sets seems to be another station's: it is in face II, no set has its target,
+-- and this is read in face I after the sets too. Detail points are read in face I alone.
 abbrev pub seems_of_another : List Sight → List Sight → Sight → Bool
 seems_of_another in_sets after r =
     r.second && (not (list_any (is_of r.target) in_sets) && list_any (is_pair r) after)
 
--- The targets after the sets that no set has, each read in both faces.
+-- The targets that no set has and that are read in both faces after the sets, each once.
 abbrev pub others_after : List Sight → List Sight → List (List ℕ)
 others_after in_sets after = targets_of (filter (seems_of_another in_sets after) after)
 
--- Sets that are read by targets are followed by a reading of the target that opens them. It may be
--- a check; and so these sets look, each shifted by a target, where a pair stands before them and
--- their last reading was lost.
+-- After sets that are read by targets stands a reading of the target that opens them. It may be a
+-- check. But if the sets in truth begin with their second target, after a sight in both faces to
+-- the first, and their last reading was lost, they look so too.
 abbrev pub is_opened_again : List Sight → List Sight → Bool
 is_opened_again in_sets after =
     are_by_targets in_sets && list_any (is_of (first_target in_sets)) after
 
--- what is told of sets that begin with the one reading, and turn at the other
+-- what is told of sets whose first reading is `opening`, and of which the first turns after
+-- `turning`; nothing if there is no such reading
 abbrev pub remarks_by : Option Sight → Option Sight → ℕ → ℕ → ℕ → Bool → List SetPair
     → List ZenithRange → Option Remarks
 remarks_by None turning full missing others again equal zeniths = None
@@ -63,8 +64,8 @@ remarks_by (Some opening) (Some turning) full missing others again equal zeniths
   zeniths = zeniths;
 })
 
--- What is told of the sets that these readings are, before these other readings of the station; of
--- no set nothing is.
+-- What is told of the sets that take all these readings, where the others are the readings of the
+-- station after them. If there are no sets, nothing is told.
 abbrev pub remarks_of : List Sight → List Sight → Option Remarks
 remarks_of in_sets after =
     remarks_by (slice_get in_sets 0) (turning_of (first_set in_sets))

@@ -1,6 +1,7 @@
--- How targets are looked for without comparing each with all: what the code finds on the way.
-use Rattle.std.specs.Prelude.{◌≡◌, ℕ, Bool, true, false, ◌&&◌, ◌||◌, not, nat_le, List, [], ◌∷◌}
-use Rattle.std.specs.Prelude.{◌<◌, ◌≤◌, length, take, drop, if◌then◌else◌}
+-- How sets, and their targets, are looked for without comparing each reading with all: what the
+-- code finds on the way.
+use Rattle.std.specs.Prelude.{◌≡◌, ℕ, suc, Bool, true, false, ◌&&◌, ◌||◌, not, nat_le, List, []}
+use Rattle.std.specs.Prelude.{◌∷◌, ◌<◌, ◌≤◌, length, take, drop, if◌then◌else◌}
 use Rattle.std.specs.List.{list_any}
 use Rattle.station_book.specs.Places.{is_among}
 use Rattle.set_marks.specs.declared.known.Known.{Known}
@@ -14,6 +15,15 @@ use Rattle.set_marks.specs.declared.ways.Found.{Found}
 use Rattle.set_marks.specs.Divisions.{is_of, is_again, are_in_face, is_by_targets}
 use Rattle.set_marks.specs.Outside.{is_ended, may_end, before_ending, in_ending}
 use Rattle.set_marks.specs.Ways.{leading_of}
+
+-- The places at which sets begin, from a place on: `even` says whether the opening target was read
+-- an even number of times before it.
+abbrev pub starts_from : List ℕ → Bool → ℕ → List Sight → List ℕ
+starts_from a even at [] = []
+starts_from a even at (r ∷ rs) =
+    if is_of a r then (if even then at ∷ starts_from a false (suc at) rs
+    else starts_from a true (suc at) rs)
+    else starts_from a even (suc at) rs
 
 -- A set repeats another: it reads the same targets in the same faces, in the same order.
 abbrev pub repeats : List Sight → List Sight → Bool
@@ -51,8 +61,8 @@ abbrev pub may_be_plain : List Sight → Bool
 may_be_plain leading =
     nat_le (length leading) 3 || are_in_face false leading || is_by_targets leading
 
--- There may be sets after these leading readings, with this ending of those after them. What is seen
--- in the fewest steps is asked first.
+-- There may be sets after these leading readings, with this ending of those after them. What is
+-- seen in the fewest steps is asked first.
 abbrev pub may_divide : Ending → List Sight → List Sight → Bool
 may_divide Nothing leading rs = may_be_plain leading
 may_divide CheckSights leading rs =

@@ -8,12 +8,12 @@ use Rattle.set_marks.specs.declared.span.Span.{Span}
 use Rattle.set_marks.specs.Divisions.{is_of, is_same_face, sets_of, first_set, in_span}
 use Rattle.set_marks.specs.Divisions.{is_mostly_known}
 
--- The readings of this target in this face.
+-- those of these readings that are of this target and in this face
 abbrev pub readings_in : List ℕ → Bool → List Sight → List Sight
 readings_in name second rs = filter (λ r. is_of name r && is_same_face second r.second) rs
 
--- Each target that is read is read once in each face: among the readings stands one of it in face I
--- and one in face II. There are four readings at least.
+-- Each target of a set is read once in each face: one reading of the set is of it in face I, and
+-- one in face II. There are four readings at least.
 pub record ReadsEachOnce (set : List Sight) : Type 0 where
   pub many : 4 ≤ length set
   pub once : (s : Sight) (second : Bool) → Contains set s
@@ -23,10 +23,10 @@ pub record ReadsEachOnce (set : List Sight) : Type 0 where
 abbrev pub one_after_another : List (List Sight) → List Sight
 one_after_another sets = flat_map (λ set. set) sets
 
--- The readings of a station, whose sets stand here. The readings are those before the sets, then
--- those of the sets, one set after another, and then those after the last set: none is missing, and
--- none is in two sets. There is a set, and there are 40 at most. Of each set more than half of the
--- targets are targets of the first.
+-- The sets of these readings stand here. There are 1 to 40 sets, and each reads each of its targets
+-- once in each face. Of each set more than half of the targets are targets of the first. The
+-- readings are those before the sets, then those of the sets, one set after another, and then those
+-- after the last set: no reading is missing, and none is in two sets.
 pub record AreSets (rs : List Sight) (span : Span) : Type 0 where
   pub some : 1 ≤ length (sets_of (in_span span rs))
   pub few : length (sets_of (in_span span rs)) ≤ MOST_SETS

@@ -25,8 +25,8 @@ use crate::flaw::{Flaw, flaw_at, flaw_found};
 use crate::known::{Known, count_targets};
 use crate::outside::Ending;
 use crate::set::{
-    begins_with_pair, first_target, front, has_pair, is_by_targets, is_clean, is_of, last_target,
-    later_flaw, reads_target, repeats, sight_at,
+    begins_with_pair, first_target, front, has_pair, has_second, is_by_targets, is_clean, is_of,
+    last_target, later_flaw, reads_target, repeats, sight_at,
 };
 use crate::sight::Sight;
 use crate::span::Span;
@@ -68,7 +68,7 @@ pub(crate) fn part(from: usize, to: usize, sights: &[Sight]) -> &[Sight]
 /// After the last of these readings whose target is known: it is looked for from the end.
 fn end_of(known: &mut Known, sights: &[Sight]) -> usize
     ensures value { (sets : List Sight) → KnowsTargetsOf sets known.old
-        → result ≡ end_of (targets_of sets) 0 0 sights.now }
+        → result ≡ end_of sets sights.now }
     ensures bound { result ≤ length sights.now }
 {
     let mut left = sights;
@@ -84,7 +84,7 @@ fn end_of(known: &mut Known, sights: &[Sight]) -> usize
 /// Whether the last of these readings is of a target that the first set has. Then the last set ends
 /// with it, and no table of the targets is needed.
 fn ends_known(sets: &[Sight], sights: &[Sight]) -> bool
-    ensures { OnTrue result (end_of (targets_of sets.now) 0 0 sights.now ≡ length sights.now) }
+    ensures { OnTrue result (end_of sets.now sights.now ≡ length sights.now) }
 {
     match sights.split_last() {
         Some((last, _)) => reads_target(front(MOST_READINGS, sets), &last.target),
@@ -106,7 +106,7 @@ fn last_place(places: &[usize]) -> usize
 
 /// After the last reading of a target that the others have.
 fn end_after(alloc: Global, others: &[Sight], sights: &[Sight]) -> Result<usize, AllocError>
-    ensures value { IfOk result (λ end. end ≡ end_of (targets_of others.now) 0 0 sights.now) }
+    ensures value { IfOk result (λ end. end ≡ end_of others.now sights.now) }
     ensures bound { IfOk result (λ end. end ≤ length sights.now) }
 {
     if ends_known(others, sights) {
@@ -197,7 +197,10 @@ pub(crate) fn few_starts(alloc: Global, sights: &[Sight]) -> Result<Vec<usize>, 
         (λ starts. starts.items ≡ take (MOST_SETS + 1) (starts_of sights.now)) }
 {
     match sights.first() {
-        Some(opening) => starts(alloc, &opening.target, sights, MOST_SETS + 1),
+        Some(opening) => {
+            let few = starts(alloc, &opening.target, sights, MOST_SETS + 1)?;
+            Ok(few)
+        }
         None => Ok(Vec::new(alloc)),
     }
 }
@@ -218,13 +221,6 @@ fn reads_end(leading: &[Sight], set: &[Sight]) -> bool
         (Some(last), Some(first)) => !last.is_same(&first) && reads_target(leading, &last),
         _ => false,
     }
-}
-
-/// Whether one of these readings is in face II.
-fn has_second(sights: &[Sight]) -> bool
-    ensures { result ≡ list_any (λ r. r.second) sights.now }
-{
-    sights.iter().any(|sight| sight.second)
 }
 
 /// Whether a set that is read by targets may be shifted by the leading readings.

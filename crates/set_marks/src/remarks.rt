@@ -1,7 +1,6 @@
 //! What is told of a station's sets beyond their numbers.
 
 ghost use Rattle.std.specs.Prelude.{◌≡◌, ◌≤◌, ◌*◌, List, IfOk, length, option_map};
-ghost use Rattle.std.specs.List.{list_any};
 ghost use Rattle.adjust_kernel.specs.declared.bounds.TheConstants.{MOST_SETS, MOST_TARGETS};
 ghost use Rattle.set_marks.specs.declared.sight.Sight.{Sight};
 ghost use Rattle.set_marks.specs.Divisions.{starts_of, targets_of};
@@ -16,7 +15,7 @@ use crate::equal_sets::{SetPairs, equal_sets};
 use crate::faces::Faces;
 use crate::known::Known;
 use crate::names::Names;
-use crate::set::{first_target, is_by_targets, reads_target, sight_at};
+use crate::set::{first_target, has_second, is_by_targets, reads_target, sight_at};
 use crate::sight::Sight;
 use crate::zeniths::{ZenithRanges, spread_ranges};
 use adjust_kernel::Name;
@@ -91,13 +90,6 @@ fn seems_of_another(known: &mut Known, faces: &mut Faces, sight: &Sight) -> bool
     let is_known = known.has(&sight.target);
     let is_paired = faces.has(false, &sight.target);
     !is_known && is_paired
-}
-
-/// Whether one of these readings is in face II.
-fn has_second(sights: &[Sight]) -> bool
-    ensures { result ≡ list_any (λ s. s.second) sights.now }
-{
-    sights.iter().any(|sight| sight.second)
 }
 
 /// How many targets that no set has are read in both faces after the sets.

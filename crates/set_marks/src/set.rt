@@ -129,6 +129,13 @@ pub(crate) fn are_in_face(second: bool, set: &[Sight]) -> bool
     set.iter().all(|sight| is_same_face(second, sight.second))
 }
 
+/// Whether one of these readings is in face II.
+pub(crate) fn has_second(sights: &[Sight]) -> bool
+    ensures { result ≡ list_any (λ r. r.second) sights.now }
+{
+    sights.iter().any(|sight| sight.second)
+}
+
 /// Whether the first two are of one target, one in each face.
 pub(crate) fn begins_with_pair(sights: &[Sight]) -> bool
     ensures { result ≡ begins_with_pair sights.now }

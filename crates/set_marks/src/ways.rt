@@ -3,14 +3,14 @@
 //! `sights` are all readings of the station, `rest` those that are no details; the targets that are
 //! known are those that it reads in face II.
 
-ghost use Rattle.std.specs.Prelude.{◌≡◌, ◌<◌, ◌∷◌, [], IfOk, length};
+ghost use Rattle.std.specs.Prelude.{◌≡◌, ◌<◌, ◌+◌, ◌∷◌, [], IfOk, length};
 ghost use Rattle.std.specs.Bool.{OnFalse};
 ghost use Rattle.set_marks.specs.declared.outside.Ending.TheVariants.{Nothing};
 ghost use Rattle.set_marks.specs.declared.stated.Numbers.{Numbers};
 ghost use Rattle.set_marks.specs.Searching.{KnowsTargetsOf, IsClosed, IsFound, may_divide};
 ghost use Rattle.set_marks.specs.Searching.{may_be_plain};
 ghost use Rattle.set_marks.specs.Divisions.{starts_of, seconds_of, rest_of, later, begins_in_two};
-ghost use Rattle.set_marks.specs.Ways.{detail_in, cut_flaw, is_no_end, flaw_after, flaw_of};
+ghost use Rattle.set_marks.specs.Ways.{detail_between, cut_flaw, is_no_end, flaw_after, flaw_of};
 ghost use Rattle.set_marks.specs.Ways.{is_division, latest_flaw, leading_of, is_given_up, kept};
 ghost use Rattle.set_marks.specs.Ways.{given_up, no_way_flaw, divided_by, ways_of};
 
@@ -33,9 +33,10 @@ use crate::stated::Numbers;
 use std::alloc::{AllocError, Global};
 
 /// The first detail among so many of a station's readings from this place on.
+#[tactic(auto, using(crate::proofs::SameSets::detail_among))]
 fn detail_in(known: &mut Known, sights: &[Sight], place: usize, count: usize) -> Option<Sight>
     requires known { KnowsTargetsOf (seconds_of sights.now) known.old }
-    ensures value { result ≡ detail_in sights.now place count }
+    ensures value { result ≡ detail_between sights.now place (place + count) }
     ensures unchanged { known.new ≡ known.old }
 {
     unknown_in(known, front(count, rest_after(place, sights)))

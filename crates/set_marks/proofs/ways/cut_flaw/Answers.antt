@@ -5,7 +5,7 @@ use Rattle.set_marks.specs.declared.fault.MarkKind.TheVariants as kinds
 use Rattle.set_marks.specs.Divisions.{sets_flaw, first_cut, cut_end, starts_of, flaw_found}
 use Rattle.set_marks.specs.Divisions.{flaw_when}
 use Rattle.set_marks.specs.Outside.{may_precede}
-use Rattle.set_marks.specs.Ways.{detail_in}
+use Rattle.set_marks.specs.Ways.{detail_between}
 use Rattle.set_marks.proofs.FewStarts.{flaw_told, flaw_after}
 use Rattle.set_marks.proofs.ways.cut_flaw.Goals as goal
 
@@ -27,8 +27,8 @@ returns-clause-value c =
     let none : None ≡ sets_flaw (first_cut starts rs) 0 (cut_end starts rs) starts rs =
     search rules in
     let among : c.flaw_found-among.result
-    ≡ flaw_found kinds.FaceMissing (detail_in all c.args.place (cut_end starts rs)) =
-    search rules in
+    ≡ flaw_found kinds.FaceMissing
+    (detail_between all c.args.place (c.args.place + cut_end starts rs)) = search rules in
     let before : c.flaw_when-before.result
     ≡ flaw_when (not (may_precede starts rs c.args.leading.now c.args.place)) kinds.OneSet
     (slice_get rs 0) = search rules in
