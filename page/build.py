@@ -2,8 +2,9 @@
 
 rattle proves the crate station_page and compiles it for x86-64. On the way the module that it hands
 to clang is kept; it is retargeted to wasm64, compiled by the kit's clang with the marks that rattle
-gives for wasm64, and linked with the heap by the kit's linker. README.md says what is trusted of
-that, and why it isn't done by `rt lib` alone.
+gives for wasm64, and linked with the heap by the kit's linker. Binaryen's `wasm-opt` lowers it to a
+module with 32-bit memory, which every browser runs. README.md says what is trusted of that, and why
+it isn't done by `rt lib` alone.
 
 `--proved` takes the libraries below as `rt ci` left them, which has proved them: the gate calls it
 so.
@@ -11,7 +12,9 @@ so.
 
 import argparse
 import base64
+import gzip
 import hashlib
+import re
 import shutil
 import subprocess
 import sys
@@ -40,6 +43,20 @@ CAREFUL = (
     "-no-canonical-prefixes -fintegrated-cc1 -fno-crash-diagnostics -Werror"
 ).split()
 FREE_STANDING = ["-O2", "-ffreestanding", "-nostdinc", "-fno-builtin"]
+
+# How the module with 64-bit memory becomes one with 32-bit memory, and what such modules use.
+LOWERING = (
+    "--enable-memory64 --enable-bulk-memory --enable-sign-ext --enable-mutable-globals "
+    "--enable-nontrapping-float-to-int --enable-multivalue --enable-simd --enable-reference-types "
+    "--memory64-lowering"
+).split()
+NOT_LOWERED = (
+    "page: wasm-opt (binaryen) is missing: this page has 64-bit memory, and runs in Chrome, Edge and "
+    "Firefox alone"
+)
+
+# The script of a page that is run as it stands in it.
+SCRIPT = re.compile(r"<script>(.*?)</script>", re.DOTALL)
 
 # A clang that keeps a copy of the module that it compiles.
 KEEPING_CLANG = """\
@@ -109,6 +126,16 @@ def linked(kit: Path, made: Path, to: Path, room: Path, *of_heap: str) -> None:
     run(link, "--target", retarget.TRIPLE, "--toolchain", kit / "toolchain", "-o", to, archive)
 
 
+def lowered(wasm64: Path, to: Path) -> Path:
+    """The module with 32-bit memory, which is put there; the one with 64 bits, with a word, where no
+    `wasm-opt` is found."""
+    if not shutil.which("wasm-opt"):
+        print(NOT_LOWERED, file=sys.stderr)
+        return wasm64
+    run("wasm-opt", *LOWERING, wasm64, "-o", to)
+    return to
+
+
 def git(*words: str) -> str:
     """What git says of the repository; nothing where it isn't one."""
     try:
@@ -124,16 +151,23 @@ def version() -> str:
     return (git("rev-parse", "--short=12", "HEAD") or "not known") + changed
 
 
+def digest_of_script(page: str) -> str:
+    """The digest of the page's script, as the policy of content takes it: no other runs."""
+    [script] = SCRIPT.findall(page)
+    return base64.b64encode(hashlib.sha256(script.encode()).digest()).decode()
+
+
 def page(module: bytes) -> str:
     """The text of the page around a module, with its style and its scripts in it."""
-    return scripts.filled((HERE / "station_check.html").read_text(), {
+    whole = scripts.filled((HERE / "station_check.html").read_text(), {
         "calls": scripts.joined(scripts.SCRIPTS["calls"]),
         "page": scripts.joined(scripts.SCRIPTS["page"]),
         "style": scripts.styled("page"),
-        "MODULE": base64.b64encode(module).decode(),
+        "MODULE": base64.b64encode(gzip.compress(module, mtime=0)).decode(),
         "SHA256": hashlib.sha256(module).hexdigest(),
         "COMMIT": version(),
     })
+    return scripts.filled(whole, {"SCRIPT": digest_of_script(whole)})
 
 
 def asked_for() -> argparse.Namespace:
@@ -152,7 +186,8 @@ def main() -> None:
     ROOM.mkdir(parents=True)
     wasm = ROOM / "page.wasm"
     linked(kit, compiled(kit, proved_module(kit, CRATE, ROOM, built), ROOM), wasm, ROOM)
-    asked.out.write_text(page(wasm.read_bytes()))
+    module = lowered(wasm, ROOM / "page32.wasm")
+    asked.out.write_text(page(module.read_bytes()))
     print(f"{asked.out}: {asked.out.stat().st_size} bytes")
 
 

@@ -11,7 +11,9 @@
 
 /** The status of a call whose text has no room. */
 const NO_ROOM = 3;
-const MEMORY_PAGE = 65536, LENGTH = 8, LEAST_ROOM = 65536, MOST_ROOM = 2 ** 30;
+const MEMORY_PAGE = 65536, LENGTH = 8, LEAST_ROOM = 65536;
+/** So much room have all texts of a call together at most: half of what 32 bits address. */
+const MOST_ROOM = 2 ** 31;
 
 /** Adds pages to a memory, and answers where they begin. Node before 24 counts them in numbers. */
 function grow(/** @type {WebAssembly.Memory} */ memory, /** @type {number} */ pages) {
@@ -69,9 +71,11 @@ async function callWithin(room, core, name, inputs, numbers, texts) {
  * @param {number[]} numbers
  */
 async function callOf(core, name, inputs, numbers, texts = 1) {
+  const most = MOST_ROOM / texts;
   for (let room = Math.max(LEAST_ROOM, 2 * bytesOfAll(inputs)); ; room *= 8) {
-    const answer = await callWithin(room, core, name, inputs, numbers, texts);
-    if (answer.status !== NO_ROOM || room > MOST_ROOM) return answer;
+    const within = Math.min(room, most);
+    const answer = await callWithin(within, core, name, inputs, numbers, texts);
+    if (answer.status !== NO_ROOM || within === most) return answer;
   }
 }
 

@@ -28,7 +28,8 @@ static u64 take(u64 size) {
     if (size > end - next) {
         u64 pages = ((size > PIECE ? size : PIECE) + (1 << PAGE_BITS) - 1) >> PAGE_BITS;
         u64 had = __builtin_wasm_memory_size(0);
-        if (__builtin_wasm_memory_grow(0, pages) == (u64)-1) return 0;
+        // What it answers where there is no more depends on the memory's addresses: -1 in 64 or 32 bits.
+        if (__builtin_wasm_memory_grow(0, pages) != had) return 0;
         // The page's script grows the memory too, so the piece may not follow the last one.
         if (end != had << PAGE_BITS) next = had << PAGE_BITS;
         end = (had + pages) << PAGE_BITS;

@@ -225,7 +225,7 @@ function told(/** @type {number} */ done, /** @type {number} */ all, /** @type {
 function sayWhy(/** @type {unknown} */ error) {
   const why = String(error);
   tell(() => say('bad', error instanceof Stopped ? text('stopped')
-    : /CompileError/.test(why) ? text('cannotRun') : text('cannotFinish', { why })));
+    : /CompileError|DecompressionStream/.test(why) ? text('cannotRun') : text('cannotFinish', { why })));
   $('again').hidden = !(error instanceof Stopped);
 }
 

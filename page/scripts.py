@@ -2,7 +2,7 @@
 residuals: `python3 page/scripts.py`.
 
 A page that is opened from a folder can't load modules, so those of a script stand in it one after
-the other, as they are but for what they say of each other.
+the other, as they are but for their comments and for what they say of each other.
 """
 
 import re
@@ -38,6 +38,9 @@ TEMPLATE = HERE / "residuals.html"
 IMPORT = re.compile(r"^import \{[^}]*\} from '\./(\w+\.js)';\n", re.MULTILINE)
 EXPORT = re.compile(r"^export (?=(?:async )?(?:const|let|class|function)\b)", re.MULTILINE)
 
+# A comment that begins its line, and one of a type.
+COMMENT = re.compile(r"^ *//[^\n]*\n|/\*\*.*?\*/(?: |\n(?: *\n)*)?", re.MULTILINE | re.DOTALL)
+
 # What a module declares for all of itself: a name, and constants that stand after another on its
 # line.
 DECLARED = re.compile(r"^(?:export )?(?:async )?(?:const|let|class|function) (.*)", re.MULTILINE)
@@ -48,6 +51,11 @@ TEXT = re.compile(r"^  (\w+): \{(?:.*\},|\n(?:    .*\n)+  \},)\n", re.MULTILINE)
 WORD = re.compile(r"""['"](\w+)['"]""")
 
 
+def bare(module: str) -> str:
+    """The code of a module, without its comments and what it says of others."""
+    return COMMENT.sub("", EXPORT.sub("", IMPORT.sub("", module))).strip()
+
+
 def joined(modules: list[str]) -> str:
     """The modules of a script in one text; stops where a name stands for two things in it."""
     texts = [(HERE / name).read_text() for name in modules]
@@ -55,7 +63,7 @@ def joined(modules: list[str]) -> str:
     counts = Counter(name for line in lines for name in NAME.findall(line))
     if twice := [name for name, count in counts.items() if count > 1]:
         sys.exit(f"page: these names stand in two modules of one script: {', '.join(twice)}")
-    return "'use strict';\n\n" + "\n".join(EXPORT.sub("", IMPORT.sub("", text)) for text in texts)
+    return "\n".join(["'use strict';", *map(bare, texts), ""])
 
 
 def styled(name: str) -> str:

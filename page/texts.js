@@ -148,9 +148,9 @@ export const TEXTS = {
   },
   checkAgain: { en: 'Check again', de: 'Noch einmal prüfen', fr: 'Vérifier de nouveau' },
   cannotRun: {
-    en: 'This browser cannot run the check: it needs WebAssembly with 64-bit memory, as Chrome and Edge from 133 and Firefox from 134 have it.',
-    de: 'Dieser Browser kann nicht prüfen: Es braucht WebAssembly mit 64-Bit-Speicher, wie Chrome und Edge ab 133 und Firefox ab 134 es haben.',
-    fr: 'Ce navigateur ne peut pas vérifier : il faut WebAssembly avec mémoire 64 bits, comme Chrome et Edge à partir de 133 et Firefox à partir de 134.',
+    en: 'This browser cannot run the check: it is too old. Chrome, Edge, Firefox and Safari can from 2023 on.',
+    de: 'Dieser Browser kann nicht prüfen: Er ist zu alt. Chrome, Edge, Firefox und Safari können es ab 2023.',
+    fr: 'Ce navigateur ne peut pas vérifier : il est trop ancien. Chrome, Edge, Firefox et Safari le peuvent depuis 2023.',
   },
   cannotFinish: {
     en: 'This browser could not finish: {why}',

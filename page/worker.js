@@ -5,6 +5,15 @@ import { readingsIn } from './records.js';
 /** @type {Promise<WebAssembly.Module>} */
 let core;
 
+/** The module, compiled, of its bytes as gzip packs them. */
+async function compiled(/** @type {Uint8Array} */ packed) {
+  // (the stream of a blob can't be read in WebKit's workers)
+  const { writable, readable } = new DecompressionStream('gzip'), writer = writable.getWriter();
+  writer.write(packed);
+  writer.close();
+  return WebAssembly.compile(await new Response(readable).arrayBuffer());
+}
+
 /**
  * How many readings with a direction a field file has: its words may be many, and are counted here.
  */
@@ -19,7 +28,7 @@ const asked = { ...calls, readings };
 
 onmessage = async ({ data: { module, id, name, inputs } }) => {
   try {
-    if (module) core = WebAssembly.compile(module);
+    if (module) core = compiled(module);
     const ready = await core;
     postMessage({ id, answer: name && await asked[name](ready, ...inputs) });
   } catch (error) {

@@ -3,14 +3,17 @@
 // The worker's script and the module are taken out of the page as it is. Beside the program's commands,
 // `explain-bytes FILE` explains the bytes of a file, `digest FILE NAME` gives the line of its digest with
 // this name, and `time COMMAND WORD..` gives the milliseconds that the fastest of some runs takes. With
-// `--room=N` each text has room for so many bytes, and a call is not made again with more.
+// `--room=N` each text has room for so many bytes, and a call is not made again with more; with `--left=N`
+// so many pages of memory are left to a call, of all that 32 bits address.
 import fs from 'node:fs';
 import vm from 'node:vm';
+import zlib from 'node:zlib';
 
 const DEFAULTS = {
   '--two-c': 2000, '--two-i': 2000, '--residual': null, '--within': null, '--decimals': 6, '--room': null,
+  '--left': null,
 };
-const RUNS = 5;
+const RUNS = 5, PAGE_BYTES = 65536, MOST_PAGES = 65536;
 
 const [page, ...words] = process.argv.slice(2);
 const text = fs.readFileSync(page, 'utf8');
@@ -19,7 +22,7 @@ const part = id => text.match(new RegExp(`<script id="${id}"[^>]*>([^]*?)</scrip
 globalThis.onmessage = null; // what a worker hears by
 vm.runInThisContext(part('calls'));
 const calls = vm.runInThisContext('calls');
-const core = await WebAssembly.compile(Buffer.from(part('module'), 'base64'));
+const core = await WebAssembly.compile(zlib.gunzipSync(Buffer.from(part('module'), 'base64')));
 
 const options = { ...DEFAULTS }, operands = [];
 // What is stated to `mark`: texts, of which each stands on a line, and flags.
@@ -36,6 +39,15 @@ while (words.length > 0) {
 if (options['--room'] !== null) {
   globalThis.callOf = (core, name, inputs, numbers, texts = 1) =>
     callWithin(options['--room'], core, name, inputs, numbers, texts);
+}
+
+if (options['--left'] !== null) {
+  const whole = globalThis.grow;
+  globalThis.grow = (memory, pages) => {
+    const at = whole(memory, pages);
+    whole(memory, MOST_PAGES - memory.buffer.byteLength / PAGE_BYTES - options['--left']);
+    return at;
+  };
 }
 
 const bytesOf = file => new Uint8Array(fs.readFileSync(file));

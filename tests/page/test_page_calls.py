@@ -24,6 +24,11 @@ import build  # noqa: E402
 import run  # noqa: E402
 
 PAGE = ROOT / "build" / "station_check.html"
+
+# The module with 64-bit memory, the one with 32-bit memory that is made of it, and the bytes that the
+# page has at most with that.
+MODULE, LOWERED, LARGEST_PAGE = build.ROOM / "page.wasm", build.ROOM / "page32.wasm", 400_000
+
 COMMAND_LINE = Path(__file__).with_name("program.mjs")
 EXAMPLES = [ROOT / "examples" / f"station_p7{end}" for end in (".gsi", ".csv", "_directions.csv")]
 JOB = ROOT / "examples" / "job.gsi"
@@ -37,8 +42,9 @@ TURN, HALF_UNIT = 80_000_000, 5
 PROBE = "new WebAssembly.Module(new Uint8Array([0,97,115,109,1,0,0,0,5,3,1,4,1]))"
 FLAGS = [[], ["--experimental-wasm-memory64"]]
 
-# What a call answers that has too little room, and hands out nothing.
+# What a call answers that has too little room, and hands out nothing; and one that is refused memory.
 NO_ROOM = (3, b"", b"")
+NO_MEMORY = (1, b"", b"refused: out of memory\n")
 
 # Bytes in the place of a refusal, and what is said of them: a byte that begins no letter, a letter that
 # is cut, one in more bytes than it needs, half of a pair, one above the last, and a name before such
@@ -64,6 +70,9 @@ NAMES = ["p7.gsi", "two  blanks", "Zw\u00f6lf.csv", "\\", "a\\b", "line\nfeed", 
 # How long the page's build may take, where it proves the crate: in seconds.
 TIME_OF_BUILD = 1_200
 
+# The module with 64-bit memory is held to each case of so many.
+EACH = 1 if SWEEP else 10
+
 # So many changed files are handed to the page and to the program.
 CHANGED = 400 if SWEEP else 40
 
@@ -71,13 +80,23 @@ CHANGED = 400 if SWEEP else 40
 REFUSED = 12
 
 
-def node():
-    """The command of a node that takes the module; none where there is none."""
-    if not shutil.which("node"):
-        return None
+def is_lowered():
+    """Whether the page that was made has a module with 32-bit memory."""
+    return LOWERED.exists()
+
+
+def node_of_64_bits():
+    """The command of a node that takes a module with 64-bit memory; none where there is none."""
     commands = [["node", "--no-warnings", *flags] for flags in FLAGS]
     ran = (subprocess.run([*words, "-e", PROBE], capture_output=True) for words in commands)
     return next((words for words, one in zip(commands, ran) if one.returncode == 0), None)
+
+
+def node():
+    """The command of a node that takes the page's module; none where there is none."""
+    if not shutil.which("node"):
+        return None
+    return ["node", "--no-warnings"] if is_lowered() else node_of_64_bits()
 
 
 def is_of_page(case):
@@ -139,15 +158,21 @@ class PageCallsTest(TimedTest):
     @classmethod
     def setUpClass(cls):
         super().setUpClass()
-        cls.node = node()
-        if not cls.node:
-            raise unittest.SkipTest("no node is found that has WebAssembly with 64-bit memory")
         if not shutil.which(RT):
             raise unittest.SkipTest("the toolchain that makes the page is missing")
         make_page()
+        cls.node = node()
+        if not cls.node:
+            raise unittest.SkipTest("no node is found that runs the page's module")
 
     def command(self, page=PAGE):
         return [*self.node, str(COMMAND_LINE), str(page)]
+
+    def other_page(self, name, module):
+        """A page like this one around another module."""
+        page = build.ROOM / name
+        page.write_text(build.page(module.read_bytes()))
+        return page
 
     def test_the_calls_answer_as_each_case_says(self):
         cases = [case for case in run.cases() if is_of_page(case)]
@@ -155,6 +180,25 @@ class PageCallsTest(TimedTest):
         for case in cases:
             with self.subTest(case.name):
                 self.assertEqual(case.expected, run.answer(self.command(), case))
+
+    def test_the_module_with_64_bit_memory_answers_as_each_case_says(self):
+        if not (is_lowered() and (node := node_of_64_bits())):
+            self.skipTest("there is one module, or no node that runs the other")
+        command = [*node, str(COMMAND_LINE), str(self.other_page("page64.html", MODULE))]
+        for case in [case for case in run.cases() if is_of_page(case)][::EACH]:
+            with self.subTest(case.name):
+                self.assertEqual(case.expected, run.answer(command, case))
+
+    def test_memory_that_is_nearly_used_is_refused_or_enough(self):
+        """Of 32 bits: no call goes beyond what they address."""
+        if not is_lowered():
+            self.skipTest("the module has 64-bit memory")
+        self.assertLess(PAGE.stat().st_size, LARGEST_PAGE)
+        words = ["check", *map(str, EXAMPLES[:2])]
+        usual = answer_to([*self.command(), *words])
+        for pages, expected in [(0, NO_MEMORY), (1, NO_MEMORY), (15, NO_MEMORY), (256, usual)]:
+            with self.subTest(pages):
+                self.assertEqual(expected, answer_to([*self.command(), f"--left={pages}", *words]))
 
     def test_a_limit_above_the_largest_has_a_status_of_its_own(self):
         gsi, sheet, table = map(str, EXAMPLES)
@@ -303,23 +347,21 @@ class PageCallsTest(TimedTest):
                     self.assertEqual(*answers)
 
     def test_a_refused_allocation_is_answered(self):
-        page, kit = build.ROOM / "refused.html", build.prove.kit_of(RT)
-        wasm = build.ROOM / "refused.wasm"
+        kit, wasm, module = build.prove.kit_of(RT), build.ROOM / "refused.wasm", build.ROOM / "refused32.wasm"
         commands = [["check", *EXAMPLES[:2]], ["explain", "TwoC"]]
         usual = [answer_to([*self.command(), *words]) for words in commands]
-        refusal = (1, b"", b"refused: out of memory\n")
         # A digest takes no memory.
         digest, line = ["digest", str(JOB), "job"], f"{hashlib.sha256(JOB.read_bytes()).hexdigest()}  job\n"
         for count in range(REFUSED):
             limit = f"-DREFUSED_AFTER={count}"
             build.linked(kit, build.ROOM / "page.o", wasm, build.ROOM, limit)
-            page.write_text(build.page(wasm.read_bytes()))
+            page = self.other_page("refused.html", build.lowered(wasm, module) if is_lowered() else wasm)
             self.assertEqual((0, line.encode(), b""), answer_to([*self.command(page), *digest]))
             for words, whole in zip(commands, usual):
                 with self.subTest(count, words=words):
                     answer = answer_to([*self.command(page), *words])
-                    self.assertIn(answer, [refusal, whole])
-                    self.assertTrue(count > 0 or answer == refusal)
+                    self.assertIn(answer, [NO_MEMORY, whole])
+                    self.assertTrue(count > 0 or answer == NO_MEMORY)
 
 
 if __name__ == "__main__":

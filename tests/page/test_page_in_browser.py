@@ -2,6 +2,7 @@
 
 import base64
 import csv
+import gzip
 import hashlib
 import json
 import math
@@ -1490,7 +1491,7 @@ class PageInBrowserTest(TimedTest):
         self.assertEqual(LARGE[0] + 1, len(page.texts(".card")))
 
     def test_a_browser_that_cannot_run_the_module_is_told_so(self):
-        text, module = PAGE.read_text(), base64.b64encode(b"\0asm\1\0\0\0\5\3\1\4").decode()
+        text, module = PAGE.read_text(), base64.b64encode(gzip.compress(b"\0asm\1\0\0\0\5\3\1\4")).decode()
         start = text.index('base64">') + len('base64">')
         broken = text[:start] + module + text[text.index("</script>", start) :]
         page = browser.Page(self.file("broken.html", broken.encode()))
@@ -1498,11 +1499,11 @@ class PageInBrowserTest(TimedTest):
         for files in [(), (FIELD,)]:
             if files:
                 page.give(*files)
-            self.assertTrue(page.text("#verdict").startswith("This browser cannot run the check: it needs WebAssembly"))
+            self.assertTrue(page.text("#verdict").startswith("This browser cannot run the check: it is too old."))
 
     def test_the_page_names_the_module_that_is_in_it(self):
         page = self.page()
-        module = base64.b64decode(page.text("#module"))
+        module = gzip.decompress(base64.b64decode(page.text("#module")))
         self.assertIn(hashlib.sha256(module).hexdigest(), page.text("footer small"))
 
 
