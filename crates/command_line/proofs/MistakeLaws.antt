@@ -4,7 +4,7 @@ use Rattle.std.proofs.Common.{subst}
 use Rattle.std.proofs.lemmas.Bool.{cases_lt}
 use borrow.Author.Count.{below_more}
 use Rattle.clap.specs.declared.parser.matches.Found.{Found}
-use Rattle.set_marks.specs.declared.stated.StatedNumber.{StatedNumber}
+use Rattle.job_statements.specs.declared.stated.StatedNumber.{StatedNumber}
 use Rattle.command_line.specs.CountOptions.{count_largest, count_name}
 use Rattle.command_line.specs.LimitOptions.{option_largest, place}
 use Rattle.command_line.specs.Mistakes.{HasRightCounts, IsMistakeAmong, IsMistakeFrom}
@@ -17,8 +17,8 @@ use Rattle.command_line.specs.declared.limit_option.LimitOption.TheVariants.{Two
 use Rattle.command_line.specs.declared.limit_option.LimitOption.TheVariants.{Within}
 use Rattle.command_line.specs.declared.limit_option.TheConstants.{LIMIT_OPTIONS}
 use Rattle.command_line.specs.declared.mistakes.Mistake.{Mistake}
-use Rattle.set_marks.specs.StatedNumbers.{IsStatedBy}
-use Rattle.set_marks.proofs.NumberLaws.{no_numbers}
+use Rattle.job_statements.specs.StatedNumbers.{IsStatedBy}
+use Rattle.job_statements.proofs.NumberLaws.{no_numbers}
 
 -- 32 bits hold each limit that may be stated.
 pub small-largest : (option : LimitOption) → option_largest option < 4_294_967_296

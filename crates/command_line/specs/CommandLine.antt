@@ -9,8 +9,8 @@ use Rattle.clap.specs.declared.error.Error.{Error}
 use Rattle.clap.specs.declared.error.kind.ErrorKind.TheVariants.{InvalidValue, OutOfMemory}
 use Rattle.clap.specs.declared.error.kind.ErrorKind.TheVariants.{ValueValidation}
 use Rattle.clap.specs.declared.parser.matches.Found.{Found}
-use Rattle.set_marks.specs.declared.beginnings.Beginnings.{Beginnings}
-use Rattle.set_marks.specs.declared.stated.StatedNumber.{StatedNumber}
+use Rattle.job_statements.specs.declared.beginnings.Beginnings.{Beginnings}
+use Rattle.job_statements.specs.declared.stated.StatedNumber.{StatedNumber}
 use Rattle.station_book.specs.Limits.{FaceLimits}
 use Rattle.station_book.specs.declared.result_limits.ResultLimits.{ResultLimits}
 use Rattle.station_explain.specs.Naming.{Names, IsMeant, IsNoNameInAnyCase}

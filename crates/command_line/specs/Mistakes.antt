@@ -9,13 +9,13 @@ use Rattle.command_line.specs.LimitOptions.{place}
 use Rattle.command_line.specs.Stated.{IsGiven, NoLimitIsStated, StatesDigests, StatesForm}
 use Rattle.command_line.specs.Stated.{StatesNoCode, StatesUnit}
 use Rattle.command_line.specs.StatedNumbers.{texts_of}
-use Rattle.set_marks.specs.WrongTexts.{IsFirstWrong}
+use Rattle.job_statements.specs.WrongTexts.{IsFirstWrong}
 use Rattle.command_line.specs.declared.count_option.CountOption.{CountOption}
 use Rattle.command_line.specs.declared.limit_option.LimitOption.{LimitOption}
 use Rattle.command_line.specs.declared.mistakes.Mistake.{Mistake}
 use Rattle.command_line.specs.declared.mistakes.Mistake.TheVariants as mistake
-use Rattle.set_marks.specs.declared.numbers.CountFault.{CountFault}
-use Rattle.set_marks.specs.declared.numbers.CountFault.TheVariants as fault
+use Rattle.job_statements.specs.declared.numbers.CountFault.{CountFault}
+use Rattle.job_statements.specs.declared.numbers.CountFault.TheVariants as fault
 use Rattle.command_line.specs.declared.request.Digests.TheVariants.{Printed}
 use Rattle.command_line.specs.declared.request.ListForm.TheVariants.{Rows}
 use Rattle.direction_table.specs.declared.unit.AngleUnit.TheVariants.{Degrees}

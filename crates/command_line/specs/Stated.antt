@@ -6,8 +6,8 @@ use Rattle.std.specs.Str.Parse.{IsNumeral, digits_value, without_leading_plus}
 use Rattle.clap.specs.Words.{one_text, matched_of, first_value}
 use Rattle.clap.specs.declared.parser.matches.Found.{Found}
 use Rattle.adjust_kernel.specs.Names.{IsName}
-use Rattle.set_marks.specs.StationCodes.{IsNoStationCode, IsStationCode}
-use Rattle.set_marks.specs.declared.beginnings.Beginnings.{Beginnings}
+use Rattle.job_statements.specs.StationCodes.{IsNoStationCode, IsStationCode}
+use Rattle.job_statements.specs.declared.beginnings.Beginnings.{Beginnings}
 use Rattle.adjust_kernel.specs.declared.bounds.TheConstants.{LARGEST_RESIDUAL_LIMIT}
 use Rattle.limit_texts.specs.Limits.{StatesLimit}
 use Rattle.limit_texts.specs.declared.limit.LimitUnit.{LimitUnit}

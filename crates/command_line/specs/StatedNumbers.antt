@@ -2,8 +2,8 @@
 use Rattle.std.specs.Prelude.{ℕ, [], List, option_map, unwrap_or}
 use Rattle.clap.specs.Words.{matched_of, raw_values}
 use Rattle.clap.specs.declared.parser.matches.Found.{Found}
-use Rattle.set_marks.specs.StatedNumbers.{IsStatedBy, OfStation, StateAll}
-use Rattle.set_marks.specs.declared.stated.StatedNumber.{StatedNumber}
+use Rattle.job_statements.specs.StatedNumbers.{IsStatedBy, OfStation, StateAll}
+use Rattle.job_statements.specs.declared.stated.StatedNumber.{StatedNumber}
 
 -- The texts of an option, in the order in which they stand: none where it has none.
 abbrev pub texts_of : Found → List ℕ → List (List ℕ)

@@ -10,8 +10,8 @@ ghost use Rattle.command_line.specs.Stated.{StatesNoLimits, StatesNoName, States
 ghost use Rattle.command_line.specs.Stated.{StatesNoResidual, StatesNoWithin, StatesNumber};
 ghost use Rattle.command_line.specs.Stated.{StatesResidual, StatesUnit, StatesWithin};
 ghost use Rattle.command_line.specs.StatedNumbers.{StatesNoNumbers, StatesNumbers, texts_of};
-ghost use Rattle.set_marks.specs.StatedNumbers.{IsStatedBy};
-ghost use Rattle.set_marks.specs.WrongTexts.{IsUnstated};
+ghost use Rattle.job_statements.specs.StatedNumbers.{IsStatedBy};
+ghost use Rattle.job_statements.specs.WrongTexts.{IsUnstated};
 
 use crate::arguments::{
     CSV, DECIMALS, DEGREES, RESIDUAL, SAME_SET_UP, SHA256, STATED_NAME, STATION_CODE, TWO_C, TWO_I,
@@ -22,8 +22,8 @@ use crate::request::{Digests, ListForm};
 use adjust_kernel::{Name, ResidualLimit};
 use clap::ArgMatches;
 use direction_table::{AngleUnit, Decimals, LARGEST_WITHIN, MOST_WRITTEN};
+use job_statements::{Beginnings, StatedNumber, Unstated, numbers_of, station_code};
 use limit_texts::{LimitUnit, limit_stated};
-use set_marks::{Beginnings, StatedNumber, Unstated, numbers_of, station_code};
 use station_book::Limits;
 use std::alloc::{AllocError, Global};
 

@@ -2,7 +2,7 @@
 
 ghost use Rattle.std.specs.Prelude.{◌≡◌, ℕ, List};
 ghost use Rattle.clap.specs.declared.parser.matches.Found.{Found};
-ghost use Rattle.set_marks.specs.declared.stated.StatedNumber.{StatedNumber};
+ghost use Rattle.job_statements.specs.declared.stated.StatedNumber.{StatedNumber};
 ghost use Rattle.command_line.specs.StatedNumbers.{StatesNumbers};
 
 /// The texts of an option state one number of each station, or none, and one list of those of

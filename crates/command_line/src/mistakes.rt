@@ -19,7 +19,7 @@ use crate::request::{Digests, ListForm};
 use clap::error::ErrorKind;
 use clap::{ArgMatches, Error};
 use direction_table::AngleUnit;
-use set_marks::{CountFault, Unstated};
+use job_statements::{CountFault, Unstated};
 use station_explain::{Explanation, list_of_near_names};
 use std::alloc::{AllocError, Global};
 

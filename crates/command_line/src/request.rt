@@ -2,7 +2,7 @@
 
 use adjust_kernel::ResidualLimit;
 use direction_table::{AngleUnit, Decimals};
-use set_marks::{Beginnings, StatedNumber};
+use job_statements::{Beginnings, StatedNumber};
 use station_book::{Limits, ResultLimits};
 use station_explain::Explanation;
 

@@ -19,7 +19,7 @@ use crate::found::{
 use crate::request::{Digests, ListForm, Request};
 use clap::ArgMatches;
 use direction_table::AngleUnit;
-use set_marks::StatedNumber;
+use job_statements::StatedNumber;
 use station_book::{Limits, ResultLimits};
 use std::alloc::{AllocError, Global};
 

@@ -38,8 +38,8 @@ use Rattle.command_run.specs.declared.host.NoWords.TheVariants as no_words
 use Rattle.command_run.specs.declared.status.TheConstants.{NOT_TEXT}
 use Rattle.command_run.specs.declared.unopened.PathFault.{PathFault}
 use Rattle.command_run.specs.declared.unopened.PathFault.TheVariants as fault
-use Rattle.set_marks.specs.declared.beginnings.Beginnings.{Beginnings}
-use Rattle.set_marks.specs.Numbers.{Said, said_in}
+use Rattle.job_statements.specs.declared.beginnings.Beginnings.{Beginnings}
+use Rattle.job_statements.specs.Numbers.{Said, said_in}
 use Rattle.station_record.specs.Recorded.{IsRecordedCheck, IsRecordedCompare, IsRecordedReport}
 use Rattle.station_record.specs.Recorded.{IsRecordedTableReport}
 use Rattle.station_record.specs.declared.named.NamedReader.{NamedReader}

@@ -8,7 +8,7 @@ ghost use Rattle.command_run.specs.Answering.{IsNewFile, IsPathFault, MarksFile,
 ghost use Rattle.command_run.specs.Answering.{ReportsFiles};
 ghost use Rattle.command_run.specs.Answering as spec;
 ghost use Rattle.command_run.specs.Hosts.{IsUnread, known_of, readers};
-ghost use Rattle.set_marks.specs.Numbers.{said_in};
+ghost use Rattle.job_statements.specs.Numbers.{said_in};
 
 use crate::explaining::run_explain;
 use crate::host::Host;
@@ -18,9 +18,9 @@ use adjust_kernel::ResidualLimit;
 use byte_ends::{Failed, Sink, Source};
 use command_line::{Digests, ListForm, Request};
 use direction_table::AngleUnit;
+use job_statements::{Beginnings, Stated};
 use list_rows::run_list_rows;
 use report_rows::run_report_rows;
-use set_marks::{Beginnings, Stated};
 use station_book::{Limits, ResultLimits};
 use station_check::{run_check, run_list, run_means, run_words};
 use station_compare::{run_compare, run_directions};

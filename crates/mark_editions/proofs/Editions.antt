@@ -18,7 +18,7 @@ use Rattle.set_marks.specs.declared.flaw.Flaw.{Flaw}
 use Rattle.set_marks.specs.declared.outside.Ending.TheVariants.{Nothing, CheckSights, CheckPair}
 use Rattle.set_marks.specs.declared.sight.Sight.{Sight}
 use Rattle.set_marks.specs.declared.span.Span.{Span}
-use Rattle.set_marks.specs.declared.stated.Numbers.{Numbers}
+use Rattle.job_statements.specs.declared.stated.Numbers.{Numbers}
 use Rattle.set_marks.specs.Divisions.{flaw_at, flaw_when, flaw_found, seconds_of, known_in, rest_of}
 use Rattle.set_marks.specs.Divisions.{place_of, unknown_in, starts_of, last_place, first_target}
 use Rattle.set_marks.specs.Divisions.{cut_end, cut_of, first_cut, begins_in_two, has_no_sets}

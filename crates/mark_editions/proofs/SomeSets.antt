@@ -14,7 +14,7 @@ use Rattle.set_marks.specs.declared.division.Divided.TheVariants.{NoSets, Sets}
 use Rattle.set_marks.specs.declared.flaw.Flaw.{Flaw}
 use Rattle.set_marks.specs.declared.sight.Sight.{Sight}
 use Rattle.set_marks.specs.declared.span.Span.{Span}
-use Rattle.set_marks.specs.declared.stated.Numbers.{Numbers}
+use Rattle.job_statements.specs.declared.stated.Numbers.{Numbers}
 use Rattle.set_marks.specs.Divisions.{is_of, are_in_face, first_target, seconds_of, divided_unless}
 use Rattle.set_marks.specs.Divisions.{span_from}
 use Rattle.set_marks.specs.Divisions.{begins_with_pair, has_no_sets}

@@ -11,12 +11,12 @@ use Rattle.adjust_kernel.specs.declared.accepted.Accepted.{Accepted}
 use Rattle.station_book.specs.Limits.{FaceLimits}
 use Rattle.station_book.specs.ResultLimits.{of_faces}
 use Rattle.set_marks.specs.Markings.{AnswersMark}
-use Rattle.set_marks.specs.Numbers.{said_in}
-use Rattle.set_marks.specs.declared.beginnings.Beginnings.{Beginnings}
+use Rattle.job_statements.specs.Numbers.{said_in}
+use Rattle.job_statements.specs.declared.beginnings.Beginnings.{Beginnings}
 use Rattle.set_marks.specs.declared.fault.MarkFault.TheVariants as mark
 use Rattle.set_marks.specs.declared.marked.Marked.{Marked}
 use Rattle.set_marks.specs.declared.refused.Refused.{Refused}
-use Rattle.set_marks.specs.declared.stated.Stated.{Stated}
+use Rattle.job_statements.specs.declared.stated.Stated.{Stated}
 use Rattle.station_check.specs.Came.{source_of}
 use Rattle.station_check.specs.Answerable.{IsOfCheck}
 use Rattle.sha2.specs.Sha256.{sha256}

@@ -2,13 +2,13 @@
 use Rattle.std.specs.Prelude.{◌≡◌, ◌⊎◌, ℕ, List, [], Result, Ok, Err}
 use Rattle.gsi_file.specs.FileAnswers.{file_answers}
 use Rattle.set_marks.specs.Markings.{AnswersMark, copy_of}
-use Rattle.set_marks.specs.declared.beginnings.Beginnings.{Beginnings}
+use Rattle.job_statements.specs.declared.beginnings.Beginnings.{Beginnings}
 use Rattle.set_marks.specs.declared.fault.MarkFault.TheVariants.{Memory}
 use Rattle.set_marks.specs.declared.marked.Marked.{Marked}
 use Rattle.set_marks.specs.declared.refused.Refused.{Refused}
 use Rattle.set_marks.specs.declared.refused.Refused.TheVariants.{File}
-use Rattle.set_marks.specs.Numbers.{Said, said_in}
-use Rattle.set_marks.specs.declared.stated.Stated.{Stated}
+use Rattle.job_statements.specs.Numbers.{Said, said_in}
+use Rattle.job_statements.specs.declared.stated.Stated.{Stated}
 use Rattle.station_check.specs.Came.{source_of}
 use Rattle.station_mark.specs.FaultTexts.{refusal_line, refusal_text, unmarked}
 use Rattle.station_mark.specs.Notes.{notes_of}

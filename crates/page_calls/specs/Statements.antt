@@ -3,11 +3,11 @@ use Rattle.std.specs.Prelude.{◌≡◌, ◌≢◌, ◌⊎◌, ℕ, Bool, List, 
 use Rattle.std.specs.Str.{IsUtf8}
 use Rattle.std.specs.Str.Lines.{lines}
 use Rattle.adjust_kernel.specs.Names.{IsName}
-use Rattle.set_marks.specs.StatedNumbers.{IsStatedBy, OfStation, StateAll}
-use Rattle.set_marks.specs.StationCodes.{IsNoStationCode, IsStationCode}
-use Rattle.set_marks.specs.declared.beginnings.Beginnings.{Beginnings}
-use Rattle.set_marks.specs.declared.stated.Stated.{Stated}
-use Rattle.set_marks.specs.declared.stated.StatedNumber.{StatedNumber}
+use Rattle.job_statements.specs.StatedNumbers.{IsStatedBy, OfStation, StateAll}
+use Rattle.job_statements.specs.StationCodes.{IsNoStationCode, IsStationCode}
+use Rattle.job_statements.specs.declared.beginnings.Beginnings.{Beginnings}
+use Rattle.job_statements.specs.declared.stated.Stated.{Stated}
+use Rattle.job_statements.specs.declared.stated.StatedNumber.{StatedNumber}
 
 -- Bytes state this name of the file's one station, or none.
 abbrev pub StatesName : List ℕ → Option (List ℕ) → Type 0

@@ -1,8 +1,8 @@
 //! The copy of a field file with codes put in, for a page.
 
 ghost use Rattle.std.specs.Prelude.{◌≡◌, IfOk, IfNone, IfSome, length, take};
-ghost use Rattle.set_marks.specs.Numbers.{said_in};
-ghost use Rattle.set_marks.specs.declared.stated.Stated.{Stated};
+ghost use Rattle.job_statements.specs.Numbers.{said_in};
+ghost use Rattle.job_statements.specs.declared.stated.Stated.{Stated};
 ghost use Rattle.page_calls.specs.Answers.{IsMarkAnswer};
 ghost use Rattle.page_calls.specs.HandedOut.{HandsOut, Leaves, Shows};
 ghost use Rattle.page_calls.specs.Noted.{IsNoted, IsNotedAs, copy_in, notes_in, status_in};
@@ -10,7 +10,8 @@ ghost use Rattle.page_calls.specs.Statements.{StatesBeginnings, StatesFile};
 
 use crate::hand_out::{OUT_OF_RANGE, hand_out};
 use crate::statement::{Untaken, beginnings_in, stated_in};
-use set_marks::{Beginnings, MarkFault, Stated, mark_file, marked_copy};
+use job_statements::{Beginnings, Stated};
+use set_marks::{MarkFault, mark_file, marked_copy};
 use station_check::{ACCEPTED, REFUSED};
 use station_mark::{PrintFault, notes_text, refusal_line, refusal_text};
 use std::alloc::{AllocError, Global};

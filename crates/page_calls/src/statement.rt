@@ -1,13 +1,13 @@
 //! What is stated of a field file: how its stations begin, and the numbers of its sets and targets.
 
 ghost use Rattle.std.specs.Prelude.{◌≡◌, IfErr, IfNone, IfOk, IfSome};
-ghost use Rattle.set_marks.specs.declared.stated.Stated.{Stated};
+ghost use Rattle.job_statements.specs.declared.stated.Stated.{Stated};
 ghost use Rattle.page_calls.specs.Statements.{StatesBeginnings, StatesCode, StatesFile, StatesName};
 ghost use Rattle.page_calls.specs.Statements.{StatesNoBeginnings, StatesNoCode, StatesNoName};
 ghost use Rattle.page_calls.specs.Statements.{StatesNoNumbers, StatesNumbers};
 
 use adjust_kernel::{MOST_SETS, MOST_TARGETS, Name};
-use set_marks::{Beginnings, Stated, StatedNumber, Unstated, numbers_of, station_code};
+use job_statements::{Beginnings, Stated, StatedNumber, Unstated, numbers_of, station_code};
 use std::alloc::Global;
 
 /// Why numbers are not taken from what is stated.

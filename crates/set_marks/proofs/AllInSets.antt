@@ -15,7 +15,7 @@ use Rattle.set_marks.specs.declared.flaw.Flaw.{Flaw}
 use Rattle.set_marks.specs.declared.fault.MarkKind.TheVariants as kinds
 use Rattle.set_marks.specs.declared.outside.Ending.TheVariants.{Nothing, CheckSights, CheckPair}
 use Rattle.set_marks.specs.declared.sight.Sight.{Sight}
-use Rattle.set_marks.specs.declared.stated.Numbers.{Numbers}
+use Rattle.job_statements.specs.declared.stated.Numbers.{Numbers}
 use Rattle.set_marks.specs.Divisions.{is_of, seconds_of, rest_of, place_of, unknown_in, starts_of}
 use Rattle.set_marks.specs.Divisions.{sets_flaw, first_cut, cut_end, flaw_at}
 use Rattle.set_marks.specs.Divisions.{flaw_when, flaw_found, parts_at, divided_unless, span_from}

@@ -14,13 +14,13 @@ use Rattle.adjust_kernel.specs.Names.{IsName}
 use Rattle.station_book.specs.Blocks.{name_of_first, target}
 use Rattle.station_book.specs.Places.{History}
 use Rattle.station_book.proofs.lists.Elements.{all_in, in_reverse, all_from}
-use Rattle.set_marks.specs.declared.beginnings.Beginnings.{Beginnings}
+use Rattle.job_statements.specs.declared.beginnings.Beginnings.{Beginnings}
 use Rattle.set_marks.specs.declared.sight.Sight.{Sight}
 use Rattle.set_marks.specs.Stations.{SetUp, Occupation, sets_up, sights_of, has_code, information}
 use Rattle.set_marks.specs.Stations.{begins_named, is_open_as, unless_open, begins_after, set_up_of}
 use Rattle.set_marks.specs.Stations.{open_name, set_ups_of, occupations, stated_or, begun}
 use Rattle.set_marks.specs.Stations.{stations_of}
-use Rattle.set_marks.proofs.Bare.{is_rest}
+use Rattle.job_statements.proofs.Bare.{is_rest}
 
 -- A name that a content gives which holds it.
 pub record IsBareName (name : List ℕ) : Type 0 where

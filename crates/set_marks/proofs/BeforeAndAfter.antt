@@ -20,7 +20,7 @@ use Rattle.set_marks.specs.declared.fault.MarkKind.TheVariants as kinds
 use Rattle.set_marks.specs.declared.division.Divided.TheVariants.{Sets}
 use Rattle.set_marks.specs.declared.sight.Sight.{Sight}
 use Rattle.set_marks.specs.declared.span.Span.{Span}
-use Rattle.set_marks.specs.declared.stated.Numbers.{Numbers}
+use Rattle.job_statements.specs.declared.stated.Numbers.{Numbers}
 use Rattle.set_marks.specs.Divisions.{is_of, is_same_face, is_pair, again_in, are_in_face}
 use Rattle.set_marks.specs.Divisions.{is_by_faces, is_by_targets, are_read_alike, first_target}
 use Rattle.set_marks.specs.Divisions.{last_target, readings_flaw, order_flaw, set_flaw, sets_flaw}

@@ -7,8 +7,8 @@ use Rattle.gsi_word.specs.Blocks.{IsBlock}
 use Rattle.gsi_file.specs.Parts.{numbered_lines}
 use Rattle.adjust_kernel.specs.Names.{IsName}
 use Rattle.station_book.specs.Places.{History}
-use Rattle.set_marks.specs.declared.beginnings.Beginnings.{Beginnings}
-use Rattle.set_marks.specs.Numbers.{Said}
+use Rattle.job_statements.specs.declared.beginnings.Beginnings.{Beginnings}
+use Rattle.job_statements.specs.Numbers.{Said}
 use Rattle.set_marks.specs.Stations.{stations_of, fault_of_blocks}
 use Rattle.set_marks.specs.Judging.{none_before, judged_of}
 use Rattle.set_marks.specs.Marking.{marks_of}

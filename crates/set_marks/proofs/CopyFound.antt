@@ -7,9 +7,9 @@ use Rattle.adjust_kernel.specs.Names.{IsName}
 use Rattle.station_book.specs.Limits.{FaceLimits}
 use Rattle.station_book.specs.Places.{History}
 use Rattle.station_book.specs.Faults.{fault_at_end}
-use Rattle.set_marks.specs.declared.beginnings.Beginnings.{Beginnings}
+use Rattle.job_statements.specs.declared.beginnings.Beginnings.{Beginnings}
 use Rattle.set_marks.specs.declared.mark.BlockMark.{BlockMark}
-use Rattle.set_marks.specs.Numbers.{Said}
+use Rattle.job_statements.specs.Numbers.{Said}
 use Rattle.set_marks.specs.Stations.{stations_of, fault_of_blocks}
 use Rattle.set_marks.specs.Judging.{none_before, judged_of}
 use Rattle.set_marks.specs.Marking.{marks_of}

@@ -13,9 +13,9 @@ use Rattle.gsi_file.specs.FileAnswers.{file_answers, answers_within, answers_by,
 use Rattle.gsi_file.specs.declared.bounds.TheConstants.{LONGEST_FILE}
 use Rattle.adjust_kernel.specs.Names.{IsName}
 use Rattle.station_book.specs.Places.{History}
-use Rattle.set_marks.specs.declared.beginnings.Beginnings.{Beginnings}
+use Rattle.job_statements.specs.declared.beginnings.Beginnings.{Beginnings}
 use Rattle.set_marks.specs.declared.marked.Marked.{Marked}
-use Rattle.set_marks.specs.Numbers.{Said}
+use Rattle.job_statements.specs.Numbers.{Said}
 use Rattle.set_marks.specs.Marking.{marks_of}
 use Rattle.set_marks.specs.Markings.{IsMarking, copy_of}
 use Rattle.set_marks.specs.Placing.{placed}

@@ -11,13 +11,13 @@ use Rattle.gsi_word.specs.Blocks.{GsiBlock}
 use Rattle.gsi_word.specs.Names.{name_of}
 use Rattle.station_book.specs.Blocks.{has_direction}
 use Rattle.station_book.specs.Places.{History, is_empty}
-use Rattle.set_marks.specs.declared.beginnings.Beginnings.{Beginnings}
+use Rattle.job_statements.specs.declared.beginnings.Beginnings.{Beginnings}
 use Rattle.set_marks.specs.declared.marking.Marking.{Marking}
 use Rattle.set_marks.specs.declared.mark.BlockMark.{BlockMark}
 use Rattle.set_marks.specs.declared.recognized.Recognized.{Recognized}
 use Rattle.set_marks.specs.declared.readings.Readings.{Readings}
 use Rattle.set_marks.specs.declared.sight.Sight.{Sight}
-use Rattle.set_marks.specs.Numbers.{Said, said_in}
+use Rattle.job_statements.specs.Numbers.{Said, said_in}
 use Rattle.set_marks.specs.Stations.{SetUp, Occupation, sight_in, sights_of, begins_named}
 use Rattle.set_marks.specs.Stations.{begins_after, set_up_of, open_name, set_ups_of, occupations}
 use Rattle.set_marks.specs.Stations.{stated_or, begun, stations_of}

@@ -7,7 +7,7 @@ use Rattle.gsi_word.specs.Blocks.{GsiBlock}
 use Rattle.station_book.specs.Blocks.{role_of, target, named, number, angles, angle_fault}
 use Rattle.station_book.specs.Blocks.{is_of_face, has_two, lacks}
 use Rattle.station_book.specs.Places.{History}
-use Rattle.set_marks.specs.declared.beginnings.Beginnings.{Beginnings}
+use Rattle.job_statements.specs.declared.beginnings.Beginnings.{Beginnings}
 use Rattle.set_marks.specs.declared.division.Divided.TheVariants.{Sets, Flawed}
 use Rattle.set_marks.specs.declared.fault.MarkKind.{MarkKind}
 use Rattle.set_marks.specs.declared.fault.MarkKind.TheVariants as kinds
@@ -23,8 +23,8 @@ use Rattle.set_marks.specs.Marking.{marks_of, recognized, recognized_from, refus
 use Rattle.set_marks.specs.declared.division.Divided.{Divided}
 use Rattle.set_marks.specs.declared.flaw.Flaw.{Flaw}
 use Rattle.set_marks.specs.declared.recognized.Recognized.{Recognized}
-use Rattle.set_marks.specs.declared.stated.Numbers.{Numbers}
-use Rattle.set_marks.specs.Numbers.{Said, SaidNumber}
+use Rattle.job_statements.specs.declared.stated.Numbers.{Numbers}
+use Rattle.job_statements.specs.Numbers.{Said, SaidNumber}
 use Rattle.set_marks.specs.Visits.{once_more, visit_name}
 use Rattle.set_marks.specs.Found.{Found, found_in}
 use Rattle.set_marks.specs.MarkedFile.{copy_history, in_file}

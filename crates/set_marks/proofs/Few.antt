@@ -17,7 +17,7 @@ use Rattle.set_marks.specs.Divisions.{order_flaw, are_read_alike, last_target, s
 use Rattle.set_marks.specs.Divisions.{next_of, sets_flaw, starts_of, in_span, first_set}
 use Rattle.set_marks.specs.Ways.{divided}
 use Rattle.set_marks.specs.Divisions.{flaw_at, flaw_when}
-use Rattle.set_marks.specs.declared.stated.Numbers.{Numbers}
+use Rattle.job_statements.specs.declared.stated.Numbers.{Numbers}
 use Rattle.set_marks.proofs.Spans.{are_taken}
 
 -- Where nothing stands first of some, nothing stands of each.

@@ -14,7 +14,7 @@ use Rattle.set_marks.specs.declared.division.Divided.TheVariants.{NoSets, Sets, 
 use Rattle.set_marks.specs.declared.recognized.Recognized.{Recognized}
 use Rattle.set_marks.specs.declared.sight.Sight.{Sight}
 use Rattle.set_marks.specs.Stations.{Occupation}
-use Rattle.set_marks.specs.Numbers.{Said}
+use Rattle.job_statements.specs.Numbers.{Said}
 use Rattle.set_marks.specs.declared.flaw.Flaw.{Flaw}
 use Rattle.set_marks.specs.Divisions.{flaw_found, names_with, targets_of, one_too_many, in_span}
 use Rattle.set_marks.specs.Judging.{Before, called, judged, judged_called, judged_from, names_past}

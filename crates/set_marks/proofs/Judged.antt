@@ -11,7 +11,7 @@ use Rattle.set_marks.specs.declared.flaw.Flaw.{Flaw}
 use Rattle.set_marks.specs.declared.division.Divided.{Divided}
 use Rattle.set_marks.specs.declared.division.Divided.TheVariants.{NoSets, Sets, Flawed}
 use Rattle.set_marks.specs.declared.span.Span.{Span}
-use Rattle.set_marks.specs.Numbers.{Said, numbers_of}
+use Rattle.job_statements.specs.Numbers.{Said, numbers_of}
 use Rattle.set_marks.specs.Stations.{Occupation}
 use Rattle.set_marks.specs.Divisions.{flaw_when, has_no_sets}
 use Rattle.set_marks.specs.Ways.{divided}

@@ -5,7 +5,7 @@ use Rattle.set_marks.specs.declared.division.Divided.TheVariants.{NoSets, Sets}
 use Rattle.set_marks.specs.declared.flaw.Flaw.{Flaw}
 use Rattle.set_marks.specs.declared.sight.Sight.{Sight}
 use Rattle.set_marks.specs.declared.span.Span.{Span}
-use Rattle.set_marks.specs.declared.stated.Numbers.{Numbers}
+use Rattle.job_statements.specs.declared.stated.Numbers.{Numbers}
 use Rattle.set_marks.specs.Divisions.{divided_unless, span_from, has_no_sets}
 use Rattle.set_marks.specs.Ways.{Way, ways_of, no_way_flaw, doubt_by, span_by, divided_by, divided}
 

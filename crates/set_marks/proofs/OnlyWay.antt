@@ -9,7 +9,7 @@ use Rattle.set_marks.specs.declared.outside.Ending.{Ending}
 use Rattle.set_marks.specs.declared.outside.Ending.TheVariants.{Nothing, CheckSights, CheckPair}
 use Rattle.set_marks.specs.declared.sight.Sight.{Sight}
 use Rattle.set_marks.specs.declared.span.Span.{Span}
-use Rattle.set_marks.specs.declared.stated.Numbers.{Numbers}
+use Rattle.job_statements.specs.declared.stated.Numbers.{Numbers}
 use Rattle.set_marks.specs.Divisions.{seconds_of, rest_of, place_of, begins_in_two}
 use Rattle.set_marks.specs.Ways.{Way, is_division, leading_of, most_leading, is_given_up, kept}
 use Rattle.set_marks.specs.Ways.{with_way, gives, ways_of, after_leading, span_by, divided}

@@ -19,7 +19,7 @@ use Rattle.station_book.specs.Places.{History, is_empty}
 use Rattle.station_book.specs.Faults.{first_of}
 use Rattle.station_book.specs.Readings.{own_faults, face_of}
 use Rattle.station_book.proofs.readings.CleanBlocks.{all_none, none_when}
-use Rattle.set_marks.specs.declared.beginnings.Beginnings.{Beginnings}
+use Rattle.job_statements.specs.declared.beginnings.Beginnings.{Beginnings}
 use Rattle.set_marks.specs.declared.fault.MarkFault.{MarkFault}
 use Rattle.set_marks.specs.declared.fault.MarkFault.TheVariants.{Reading, At}
 use Rattle.set_marks.specs.declared.fault.MarkKind.TheVariants as kinds

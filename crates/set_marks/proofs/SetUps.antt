@@ -11,7 +11,7 @@ use Rattle.station_book.specs.declared.role.Role.TheVariants.{Station, Set, Clos
 use Rattle.station_book.specs.declared.role.Role.TheVariants.{Other}
 use Rattle.station_book.specs.Blocks.{role_of, lacks, has_direction, is_measurement, target}
 use Rattle.station_book.specs.Places.{is_empty}
-use Rattle.set_marks.specs.declared.beginnings.Beginnings.{Beginnings}
+use Rattle.job_statements.specs.declared.beginnings.Beginnings.{Beginnings}
 use Rattle.set_marks.specs.declared.fault.MarkFault.TheVariants.{At}
 use Rattle.set_marks.specs.declared.fault.MarkKind.TheVariants as kinds
 use Rattle.set_marks.specs.Stations.{SetUp, sets_up, tells_set_up, is_other, has_code, information}

@@ -10,7 +10,7 @@ use Rattle.adjust_kernel.specs.declared.bounds.TheConstants.{MOST_SETS}
 use Rattle.set_marks.specs.declared.division.Divided.TheVariants.{Sets}
 use Rattle.set_marks.specs.declared.sight.Sight.{Sight}
 use Rattle.set_marks.specs.declared.span.Span.{Span}
-use Rattle.set_marks.specs.declared.stated.Numbers.{Numbers}
+use Rattle.job_statements.specs.declared.stated.Numbers.{Numbers}
 use Rattle.set_marks.specs.Divisions.{sets_flaw, starts_of, sets_of, first_set}
 use Rattle.set_marks.specs.Divisions.{parts_at, is_mostly_known, in_span}
 use Rattle.set_marks.specs.Doubts.{stranger_among}

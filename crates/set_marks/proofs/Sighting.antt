@@ -14,7 +14,7 @@ use Rattle.station_book.specs.Blocks.{role_of, lacks, has_direction}
 use Rattle.station_book.specs.Blocks.{is_of_face, angles}
 use Rattle.station_book.specs.Faults.{first_of}
 use Rattle.station_book.specs.Readings.{read, reading, own_faults, unless_fault}
-use Rattle.set_marks.specs.declared.beginnings.Beginnings.{Beginnings}
+use Rattle.job_statements.specs.declared.beginnings.Beginnings.{Beginnings}
 use Rattle.set_marks.specs.declared.readings.Readings.{Readings}
 use Rattle.set_marks.specs.declared.sight.Sight.{Sight}
 use Rattle.set_marks.specs.Stations.{SetUp, sight_in, tells_set_up, begins_named, is_two_lines}

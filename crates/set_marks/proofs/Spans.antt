@@ -17,7 +17,7 @@ use Rattle.set_marks.specs.declared.flaw.Flaw.{Flaw}
 use Rattle.set_marks.specs.declared.division.Divided.TheVariants.{NoSets, Sets}
 use Rattle.set_marks.specs.declared.sight.Sight.{Sight}
 use Rattle.set_marks.specs.declared.span.Span.{Span}
-use Rattle.set_marks.specs.declared.stated.Numbers.{Numbers}
+use Rattle.job_statements.specs.declared.stated.Numbers.{Numbers}
 use Rattle.set_marks.specs.declared.outside.Ending.{Ending}
 use Rattle.set_marks.specs.declared.outside.Ending.TheVariants.{Nothing, CheckSights, CheckPair}
 use Rattle.set_marks.specs.Divisions.{sets_flaw, starts_of, sets_of, first_set, in_span, is_of}
@@ -34,7 +34,7 @@ use Rattle.set_marks.specs.Ways.{is_division, most_leading, leading_of, is_given
 use Rattle.set_marks.specs.Ways.{given_up, with_way}
 use Rattle.set_marks.specs.Ways.{gives, ways_of, latest_flaw, no_way_flaw, after_leading, sets_by}
 use Rattle.set_marks.specs.Ways.{doubt_by, span_by, divided_by, divided}
-use Rattle.set_marks.specs.Numbers.{is_asked, is_other}
+use Rattle.job_statements.specs.Numbers.{is_asked, is_other}
 use Rattle.set_marks.specs.BeginsAndEnds.{are_checks, was_read, without_details, AreEven}
 use Rattle.set_marks.specs.BeginsAndEnds.{EndsLastSet}
 use Rattle.set_marks.proofs.EachTargetOnce.{none_found, no_flaw}

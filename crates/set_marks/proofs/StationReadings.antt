@@ -8,7 +8,7 @@ use Rattle.std.proofs.lemmas.List.{append-nil, length-append, drop-drop, take-ap
 use Rattle.gsi_word.specs.Blocks.{GsiBlock}
 use Rattle.station_book.specs.Blocks.{has_direction}
 use Rattle.station_book.specs.Places.{History, is_empty}
-use Rattle.set_marks.specs.declared.beginnings.Beginnings.{Beginnings}
+use Rattle.job_statements.specs.declared.beginnings.Beginnings.{Beginnings}
 use Rattle.set_marks.specs.declared.sight.Sight.{Sight}
 use Rattle.set_marks.specs.Stations.{SetUp, sight_in, sights_of, begins_after, set_up_of, open_name}
 use Rattle.set_marks.specs.Stations.{set_ups_of, occupations, stated_or, begun, stations_of}

@@ -9,7 +9,7 @@ use Rattle.set_marks.specs.declared.division.Divided.{Divided}
 use Rattle.set_marks.specs.declared.division.Divided.TheVariants.{NoSets, Sets, Flawed}
 use Rattle.set_marks.specs.declared.marking.Marking.{Marking}
 use Rattle.set_marks.specs.declared.span.Span.{Span}
-use Rattle.set_marks.specs.Numbers.{Said, numbers_of}
+use Rattle.job_statements.specs.Numbers.{Said, numbers_of}
 use Rattle.set_marks.specs.Stations.{Occupation}
 use Rattle.set_marks.specs.Divisions.{divided_unless}
 use Rattle.set_marks.specs.Ways.{divided}

@@ -17,11 +17,11 @@ use Rattle.gsi_file.specs.declared.file_fault.FileKind.TheVariants.{FileTooLong,
 use Rattle.gsi_file.specs.declared.file_fault.FileFault.TheVariants as file
 use Rattle.gsi_file.proofs.FirstBytes.{with_line, answers_line, answers_end}
 use Rattle.gsi_file.proofs.Finding.{file_too_long, line_too_long}
-use Rattle.set_marks.specs.declared.beginnings.Beginnings.{Beginnings}
+use Rattle.job_statements.specs.declared.beginnings.Beginnings.{Beginnings}
 use Rattle.set_marks.specs.declared.fault.MarkFault.{MarkFault}
 use Rattle.set_marks.specs.declared.fault.MarkFault.TheVariants.{File, Reading, At, Memory}
 use Rattle.set_marks.specs.declared.readings.Readings.{Readings}
-use Rattle.set_marks.specs.Numbers.{Said}
+use Rattle.job_statements.specs.Numbers.{Said}
 use Rattle.set_marks.specs.declared.walk.Walk.{Walk}
 use Rattle.set_marks.specs.Keeping.{AnswersReadings}
 use Rattle.set_marks.specs.LinePlaces.{IsUsedUp}

@@ -21,12 +21,12 @@ use Rattle.station_book.specs.Blocks.{role_of, lacks}
 use Rattle.station_book.specs.Faults.{first_of}
 use Rattle.station_book.specs.Places.{History, is_empty}
 use Rattle.station_book.specs.Readings.{own_faults}
-use Rattle.set_marks.specs.declared.beginnings.Beginnings.{Beginnings}
+use Rattle.job_statements.specs.declared.beginnings.Beginnings.{Beginnings}
 use Rattle.set_marks.specs.declared.fault.MarkFault.{MarkFault}
 use Rattle.set_marks.specs.declared.fault.MarkFault.TheVariants.{File, Reading, At, Memory}
 use Rattle.set_marks.specs.declared.fault.MarkKind.TheVariants as kinds
 use Rattle.set_marks.specs.declared.readings.Readings.{Readings}
-use Rattle.set_marks.specs.Numbers.{Said}
+use Rattle.job_statements.specs.Numbers.{Said}
 use Rattle.set_marks.specs.Stations.{SetUp, begun, begins_named, is_two_lines, reading_fault}
 use Rattle.set_marks.specs.Stations.{set_up_fault, fault_as, block_fault, own_fault, has_code}
 use Rattle.set_marks.specs.Stations.{fault_of_blocks}

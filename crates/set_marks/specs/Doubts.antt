@@ -10,8 +10,8 @@ use Rattle.station_book.specs.Faults.{first_of}
 use Rattle.set_marks.specs.declared.fault.MarkKind.TheVariants as kinds
 use Rattle.set_marks.specs.declared.flaw.Flaw.{Flaw}
 use Rattle.set_marks.specs.declared.sight.Sight.{Sight}
-use Rattle.set_marks.specs.declared.stated.Numbers.{Numbers}
-use Rattle.set_marks.specs.Numbers.{is_other, is_asked}
+use Rattle.job_statements.specs.declared.stated.Numbers.{Numbers}
+use Rattle.job_statements.specs.Numbers.{is_other, is_asked}
 use Rattle.set_marks.specs.Divisions.{is_of, is_pair, first_target, last_target, is_by_targets}
 use Rattle.set_marks.specs.Divisions.{flaw_when, flaw_found, starts_of, cut_end, cut_of, first_cut}
 use Rattle.set_marks.specs.Divisions.{part, targets_of, begins_with_pair, are_by_targets}

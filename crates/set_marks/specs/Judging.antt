@@ -5,7 +5,7 @@ use Rattle.std.specs.Prelude.{if◌then◌else◌, Option, Some, None, nat_le, n
 use Rattle.station_book.specs.declared.bounds.TheConstants.{MOST_STATIONS}
 use Rattle.station_book.specs.Places.{History, is_among, with_new}
 use Rattle.station_book.specs.Faults.{first_of}
-use Rattle.set_marks.specs.declared.beginnings.Beginnings.{Beginnings}
+use Rattle.job_statements.specs.declared.beginnings.Beginnings.{Beginnings}
 use Rattle.set_marks.specs.declared.flaw.Flaw.{Flaw}
 use Rattle.set_marks.specs.declared.fault.MarkKind.TheVariants as kinds
 use Rattle.set_marks.specs.declared.division.Divided.{Divided}
@@ -13,7 +13,7 @@ use Rattle.set_marks.specs.declared.division.Divided.TheVariants.{NoSets, Sets, 
 use Rattle.set_marks.specs.declared.sight.Sight.{Sight}
 use Rattle.set_marks.specs.declared.span.Span.{Span}
 use Rattle.set_marks.specs.Marks.{width_of}
-use Rattle.set_marks.specs.Numbers.{Said, numbers_of}
+use Rattle.job_statements.specs.Numbers.{Said, numbers_of}
 use Rattle.set_marks.specs.Stations.{Occupation, stations_of}
 use Rattle.set_marks.specs.Divisions.{is_of, flaw_when, flaw_found, in_span}
 use Rattle.set_marks.specs.Divisions.{has_no_sets, is_read_in_two, one_too_many}

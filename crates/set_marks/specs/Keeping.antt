@@ -4,7 +4,7 @@ use Rattle.std.specs.Prelude.{Some, None, is_some, Result, Ok, Err, ⊤}
 use Rattle.gsi_word.specs.Blocks.{GsiBlock}
 use Rattle.gsi_file.specs.FileAnswers.{FileAnswers}
 use Rattle.station_book.specs.Places.{History}
-use Rattle.set_marks.specs.declared.beginnings.Beginnings.{Beginnings}
+use Rattle.job_statements.specs.declared.beginnings.Beginnings.{Beginnings}
 use Rattle.set_marks.specs.declared.fault.MarkFault.{MarkFault}
 use Rattle.set_marks.specs.declared.fault.MarkFault.TheVariants.{File, Reading, At, Memory}
 use Rattle.set_marks.specs.declared.readings.Readings.{Readings}
@@ -12,7 +12,7 @@ use Rattle.set_marks.specs.declared.judging.StationNames.{StationNames}
 use Rattle.set_marks.specs.declared.marking.Marking.{Marking}
 use Rattle.set_marks.specs.declared.division.Divided.{Divided}
 use Rattle.set_marks.specs.declared.sight.Sight.{Sight}
-use Rattle.set_marks.specs.Numbers.{Said, said_in}
+use Rattle.job_statements.specs.Numbers.{Said, said_in}
 use Rattle.set_marks.specs.Stations.{SetUp, Occupation, begun, open_name, begins_after, sight_in}
 use Rattle.set_marks.specs.Stations.{fault_of_blocks, stations_of}
 use Rattle.set_marks.specs.Judging.{Before, none_before, names_after, judged_from}

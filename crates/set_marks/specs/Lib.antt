@@ -1,9 +1,5 @@
 -- The public definitions, in the order in which a reader needs them.
 pub mod Stations
-pub mod Numbers
-pub mod StatedNumbers
-pub mod WrongTexts
-pub mod StationCodes
 pub mod Divisions
 pub mod Outside
 pub mod Doubts

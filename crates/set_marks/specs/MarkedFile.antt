@@ -7,12 +7,12 @@ use Rattle.gsi_file.specs.Parts.{numbered_lines}
 use Rattle.station_book.specs.Limits.{FaceLimits}
 use Rattle.station_book.specs.Places.{History}
 use Rattle.station_book.specs.Faults.{fault_at_end}
-use Rattle.set_marks.specs.declared.beginnings.Beginnings.{Beginnings}
+use Rattle.job_statements.specs.declared.beginnings.Beginnings.{Beginnings}
 use Rattle.set_marks.specs.declared.division.Divided.{Divided}
 use Rattle.set_marks.specs.declared.division.Divided.TheVariants.{Sets}
 use Rattle.set_marks.specs.declared.mark.BlockMark.{BlockMark}
 use Rattle.set_marks.specs.declared.sight.Sight.{Sight}
-use Rattle.set_marks.specs.Numbers.{Said}
+use Rattle.job_statements.specs.Numbers.{Said}
 use Rattle.set_marks.specs.Stations.{Occupation}
 use Rattle.set_marks.specs.Divisions.{sets_of, in_span}
 use Rattle.set_marks.specs.Marks.{code_block}

@@ -7,7 +7,7 @@ use Rattle.std.specs.List.{list_all, list_any}
 use Rattle.std.specs.Str.{bytes_eq}
 use Rattle.station_book.specs.Places.{History, is_empty}
 use Rattle.station_book.specs.Faults.{first_of}
-use Rattle.set_marks.specs.declared.beginnings.Beginnings.{Beginnings}
+use Rattle.job_statements.specs.declared.beginnings.Beginnings.{Beginnings}
 use Rattle.set_marks.specs.declared.flaw.Flaw.{Flaw}
 use Rattle.set_marks.specs.declared.fault.MarkKind.{MarkKind}
 use Rattle.set_marks.specs.declared.fault.MarkKind.TheVariants as kinds
@@ -19,8 +19,8 @@ use Rattle.set_marks.specs.declared.mark.BlockMark.{BlockMark}
 use Rattle.set_marks.specs.declared.recognized.Recognized.{Recognized}
 use Rattle.set_marks.specs.declared.sight.Sight.{Sight}
 use Rattle.set_marks.specs.declared.span.Span.{Span}
-use Rattle.set_marks.specs.declared.stated.NamedNumber.{NamedNumber}
-use Rattle.set_marks.specs.Numbers.{Said}
+use Rattle.job_statements.specs.declared.stated.NamedNumber.{NamedNumber}
+use Rattle.job_statements.specs.Numbers.{Said}
 use Rattle.set_marks.specs.Stations.{Occupation}
 use Rattle.set_marks.specs.Divisions.{starts_of, targets_of, in_span, are_by_targets}
 use Rattle.set_marks.specs.Judging.{Judged, judged_of}

@@ -3,8 +3,8 @@ use Rattle.std.specs.Prelude.{◌≡◌, true, false, ◌==◌, List, None, IfSo
 use Rattle.set_marks.specs.declared.division.Divided.TheVariants.{Sets}
 use Rattle.set_marks.specs.declared.recognized.Recognized.{Recognized}
 use Rattle.set_marks.specs.declared.span.Span.{Span}
-use Rattle.set_marks.specs.declared.stated.Numbers.{Numbers}
-use Rattle.set_marks.specs.Numbers.{Said, number_of, numbers_of}
+use Rattle.job_statements.specs.declared.stated.Numbers.{Numbers}
+use Rattle.job_statements.specs.Numbers.{Said, number_of, numbers_of}
 use Rattle.set_marks.specs.Divisions.{sets_of, in_span, is_by_faces}
 use Rattle.set_marks.specs.Judging.{Judged}
 

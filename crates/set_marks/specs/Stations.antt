@@ -28,7 +28,7 @@ use Rattle.station_book.specs.Blocks.{is_of_face, angles}
 use Rattle.station_book.specs.Places.{History}
 use Rattle.station_book.specs.Faults.{first_of}
 use Rattle.station_book.specs.Readings.{own_faults}
-use Rattle.set_marks.specs.declared.beginnings.Beginnings.{Beginnings}
+use Rattle.job_statements.specs.declared.beginnings.Beginnings.{Beginnings}
 use Rattle.set_marks.specs.declared.fault.MarkFault.{MarkFault}
 use Rattle.set_marks.specs.declared.fault.MarkFault.TheVariants.{At, Reading}
 use Rattle.set_marks.specs.declared.fault.MarkKind.TheVariants as kinds

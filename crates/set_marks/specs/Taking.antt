@@ -12,7 +12,7 @@ use Rattle.station_book.specs.Readings.{read}
 use Rattle.station_book.specs.declared.role.Role.TheVariants.{Measurement}
 use Rattle.station_book.specs.declared.angles.Reading.{Reading}
 use Rattle.station_book.specs.declared.fault.BookKind.{BookKind}
-use Rattle.set_marks.specs.declared.beginnings.Beginnings.{Beginnings}
+use Rattle.job_statements.specs.declared.beginnings.Beginnings.{Beginnings}
 use Rattle.set_marks.specs.declared.fault.MarkFault.{MarkFault}
 use Rattle.set_marks.specs.declared.fault.MarkFault.TheVariants as fault
 use Rattle.set_marks.specs.declared.line_end.Tested.{Tested}

@@ -17,7 +17,7 @@ use Rattle.set_marks.specs.declared.outside.Ending.{Ending}
 use Rattle.set_marks.specs.declared.outside.Ending.TheVariants.{Nothing, CheckSights, CheckPair}
 use Rattle.set_marks.specs.declared.sight.Sight.{Sight}
 use Rattle.set_marks.specs.declared.span.Span.{Span}
-use Rattle.set_marks.specs.declared.stated.Numbers.{Numbers}
+use Rattle.job_statements.specs.declared.stated.Numbers.{Numbers}
 use Rattle.set_marks.specs.Divisions.{flaw_at, flaw_when, flaw_found, later, sets_flaw, starts_of}
 use Rattle.set_marks.specs.Divisions.{cut_end, first_cut, seconds_of, rest_of, place_of, unknown_in}
 use Rattle.set_marks.specs.Divisions.{part}

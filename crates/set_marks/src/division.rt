@@ -7,7 +7,7 @@ ghost use Rattle.std.specs.List.{list_any};
 ghost use Rattle.adjust_kernel.specs.declared.bounds.TheConstants.{MOST_SETS};
 ghost use Rattle.set_marks.specs.declared.fault.MarkKind.TheVariants.{OtherTargets};
 ghost use Rattle.set_marks.specs.declared.sight.Sight.{Sight};
-ghost use Rattle.set_marks.specs.declared.stated.Numbers.{Numbers};
+ghost use Rattle.job_statements.specs.declared.stated.Numbers.{Numbers};
 ghost use Rattle.set_marks.specs.Searching.{KnowsTargetsOf, NoneOpen};
 ghost use Rattle.set_marks.specs.Divisions.{part, next_of, end_of, cut_end, starts_of};
 ghost use Rattle.set_marks.specs.Divisions.{first_cut, first_part, sets_flaw, parts_at, flaw_found};
@@ -16,7 +16,7 @@ ghost use Rattle.set_marks.specs.Divisions.{is_mostly_known, divided_unless, spa
 ghost use Rattle.set_marks.specs.Doubts.{may_be_shifted, reads_end, leads_to_end, leads_within, may_go_on};
 ghost use Rattle.set_marks.specs.Doubts.{stranger_among, numbers_flaw, doubt_after};
 ghost use Rattle.set_marks.specs.Ways.{divided, divided_by, ways_of};
-ghost use Rattle.set_marks.specs.Numbers.{is_other};
+ghost use Rattle.job_statements.specs.Numbers.{is_other};
 
 use crate::bounds::{MOST_READINGS, READINGS_OF_TWO};
 use crate::details::{has_no_sets, known_in, seconds_of};
@@ -31,9 +31,9 @@ use crate::set::{
 use crate::sight::Sight;
 use crate::span::Span;
 use crate::starts::{starts, starts_of};
-use crate::stated::{Numbers, is_asked, is_other};
 use crate::ways::{divide_rest, is_open_somewhere};
 use adjust_kernel::MOST_SETS;
+use job_statements::{Numbers, is_asked, is_other};
 use std::alloc::{AllocError, Global};
 
 /// What a station's readings are.

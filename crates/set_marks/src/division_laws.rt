@@ -4,7 +4,7 @@ ghost use Rattle.std.specs.Prelude.{◌≡◌, ◌≤◌, List, length};
 ghost use Rattle.set_marks.specs.declared.division.Divided.TheVariants.{Sets};
 ghost use Rattle.set_marks.specs.declared.sight.Sight.{Sight};
 ghost use Rattle.set_marks.specs.declared.span.Span.{Span};
-ghost use Rattle.set_marks.specs.declared.stated.Numbers.{Numbers};
+ghost use Rattle.job_statements.specs.declared.stated.Numbers.{Numbers};
 ghost use Rattle.set_marks.specs.Divisions.{starts_of, in_span, is_read_in_two};
 ghost use Rattle.set_marks.specs.Ways.{divided};
 ghost use Rattle.set_marks.specs.BeginsAndEnds.{was_read, EndsLastSet};

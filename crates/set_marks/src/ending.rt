@@ -6,16 +6,16 @@
 
 ghost use Rattle.std.specs.Prelude.{◌≡◌, [], All, IfOk, List, OnOk};
 ghost use Rattle.station_book.specs.Places.{History};
-ghost use Rattle.set_marks.specs.declared.beginnings.Beginnings.{Beginnings};
-ghost use Rattle.set_marks.specs.Numbers.{Said, said_in};
+ghost use Rattle.job_statements.specs.declared.beginnings.Beginnings.{Beginnings};
+ghost use Rattle.job_statements.specs.Numbers.{Said, said_in};
 ghost use Rattle.set_marks.specs.Marks.{IsRoomy};
 ghost use Rattle.set_marks.specs.Stations.{stations_of};
 ghost use Rattle.set_marks.specs.Keeping.{AreMarked, AreMarkedFirst, Ends, Keeps};
 
 use crate::marking::Marking;
 use crate::readings::Readings;
-use crate::stated::Stated;
 use adjust_kernel::Name;
+use job_statements::Stated;
 use std::alloc::{AllocError, Global};
 
 impl Readings {

@@ -2,7 +2,6 @@
 //! and the copy of the file that has them.
 #![tactic(auto)]
 
-mod beginnings;
 pub mod book_laws;
 mod bounds;
 mod copy;
@@ -24,7 +23,6 @@ mod mark;
 mod marked;
 mod marking;
 mod names;
-mod numbers;
 mod outside;
 mod placing;
 mod reading;
@@ -36,15 +34,12 @@ mod set;
 mod sight;
 mod span;
 mod starts;
-mod stated;
-mod stated_code;
 pub mod stated_laws;
 mod visits;
 mod walk;
 mod ways;
 mod zeniths;
 
-pub use beginnings::Beginnings;
 pub use bounds::MOST_READINGS;
 pub use copy::marked_copy;
 pub use division::{Divided, divide};
@@ -55,14 +50,10 @@ pub use line_end::LineEnd;
 pub use mark::{BlockMark, Code, CodeLine, LONGEST_CODE_LINE, Mark, code_line};
 pub use marked::{Marked, mark_file};
 pub use names::Names;
-pub use numbers::{CountFault, Unstated, numbers_of};
 pub use outside::Ending;
-pub use reading::bare_name;
 pub use recognized::Recognized;
 pub use refused::Refused;
 pub use remarks::Remarks;
 pub use sight::Sight;
 pub use span::Span;
-pub use stated::{NamedNumber, Numbers, Stated, StatedNumber};
-pub use stated_code::station_code;
 pub use zeniths::{LARGEST_SPREAD, ZenithRange, ZenithRanges};

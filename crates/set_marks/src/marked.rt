@@ -2,15 +2,14 @@
 
 ghost use Rattle.gsi_file.specs.FileAnswers.{file_answers};
 ghost use Rattle.set_marks.specs.Markings.{AnswersMark};
-ghost use Rattle.set_marks.specs.Numbers.{said_in};
+ghost use Rattle.job_statements.specs.Numbers.{said_in};
 
-use crate::beginnings::Beginnings;
 use crate::mark::Mark;
 use crate::placing::placed;
 use crate::recognized::Recognized;
 use crate::refused::{Refused, refusal};
-use crate::stated::Stated;
 use crate::walk::readings_of;
+use job_statements::{Beginnings, Stated};
 use std::alloc::Global;
 
 /// The code lines that are put into a field file, and what is told of its stations. The copy is the

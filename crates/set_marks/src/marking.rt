@@ -10,7 +10,7 @@ ghost use Rattle.set_marks.specs.Judging.{is_too_long, judged, sets_fault, targe
 ghost use Rattle.set_marks.specs.Judging.{called, judged_called, none_before};
 ghost use Rattle.station_book.specs.Places.{is_empty};
 ghost use Rattle.set_marks.specs.Marks.{HasRoom, IsRoomy};
-ghost use Rattle.set_marks.specs.Numbers.{said_in};
+ghost use Rattle.job_statements.specs.Numbers.{said_in};
 ghost use Rattle.set_marks.specs.Marking.{close_mark, mark_at, outside, set_marks, sets_marks};
 ghost use Rattle.set_marks.specs.Keeping.{TakesStation, before_in};
 
@@ -25,8 +25,8 @@ use crate::set::sight_at;
 use crate::sight::Sight;
 use crate::span::Span;
 use crate::starts::starts_of;
-use crate::stated::Stated;
 use adjust_kernel::Name;
+use job_statements::Stated;
 use std::alloc::{AllocError, Global};
 
 /// The code lines of some stations, and what is told of them.

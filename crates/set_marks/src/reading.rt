@@ -14,23 +14,22 @@ ghost use Rattle.station_book.specs.Readings.{read};
 ghost use Rattle.adjust_kernel.specs.Names.{IsName};
 ghost use Rattle.gsi_word.specs.Names.{name_of};
 ghost use Rattle.set_marks.specs.Marks.{IsRoomy};
-ghost use Rattle.set_marks.specs.Numbers.{said_in};
+ghost use Rattle.job_statements.specs.Numbers.{said_in};
 ghost use Rattle.set_marks.specs.Stations.{begins_line, is_two_lines, block_fault, fault_as};
 ghost use Rattle.set_marks.specs.Stations.{has_set_up_word, tells_set_up, has_code, information};
 ghost use Rattle.set_marks.specs.Stations.{begins_named, is_open_as, set_up_fault};
 ghost use Rattle.set_marks.specs.Taking.{IsKnown};
 ghost use Rattle.set_marks.specs.Keeping.{Adds, Ends, IsMemoryOr, Keeps, begun_in};
 
-use crate::beginnings::Beginnings;
 use crate::fault::{MarkFault, MarkKind};
 use crate::readings::Readings;
 use crate::sight::Sight;
-use crate::stated::Stated;
 use adjust_kernel::Name;
 use gsi_word::{
     Block, CODE_INFORMATION, CODE_NUMBER, Found, GSI_16, HORIZONTAL_DIRECTION, POINT_NUMBER,
     VERTICAL_ANGLE, Word,
 };
+use job_statements::{Beginnings, Stated, bare_name};
 use station_book::{BookKind, CIRCLE, HALF_CIRCLE, Reading, Role, read, role_of, target};
 use std::alloc::{AllocError, Global};
 
@@ -118,26 +117,6 @@ fn is_second(zenith: u32) -> bool
     ensures { result ≡ (nat_lt HALF_CIRCLE zenith && nat_lt zenith CIRCLE) }
 {
     HALF_CIRCLE < zenith && zenith < CIRCLE
-}
-
-/// The name that these bytes are, without the zeros before it, at least one byte kept.
-// It calls itself once for each zero, of which a name has at most 16.
-#[tactic(auto, using(crate::proofs::Bare::is_rest))]
-fn bare_of(bytes: &[u8]) -> Name
-    requires { IsName bytes.now }
-    ensures { result ≡ name_of bytes.now }
-{
-    match bytes {
-        [b'0', rest @ ..] if !rest.is_empty() => bare_of(rest),
-        _ => Name::from_valid(bytes),
-    }
-}
-
-/// A name without the zeros before it, as it is read in a field file.
-pub fn bare_name(name: &Name) -> Name
-    ensures { result ≡ name_of name.now }
-{
-    bare_of(name.bytes())
 }
 
 /// Whether it is stated that the blocks of a code begin stations, and this block, which is no

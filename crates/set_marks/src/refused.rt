@@ -7,14 +7,14 @@ ghost use Rattle.set_marks.specs.declared.refused.Refused.TheVariants.{File};
 ghost use Rattle.set_marks.specs.Marking.{first_fault, have_sets, is_twice, may_stay_outside};
 ghost use Rattle.set_marks.specs.Marking.{are_of_stations, has_station, no_sets_kind, refusal};
 ghost use Rattle.set_marks.specs.Marking.{unfound_fault};
-ghost use Rattle.set_marks.specs.Numbers.{said_in};
+ghost use Rattle.job_statements.specs.Numbers.{said_in};
 ghost use Rattle.set_marks.specs.Markings.{fault_in, told_in};
 
 use crate::fault::{MarkFault, MarkKind};
 use crate::flaw::Flaw;
 use crate::recognized::Recognized;
-use crate::stated::{NamedNumber, Stated};
 use adjust_kernel::Name;
+use job_statements::{NamedNumber, Stated};
 use std::alloc::AllocError;
 
 /// Why a field file is not marked.

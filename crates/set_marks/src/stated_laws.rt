@@ -3,9 +3,9 @@
 ghost use Rattle.std.specs.Prelude.{◌≡◌, ◌≤◌, ℕ, All, List, None, Option, false};
 ghost use Rattle.adjust_kernel.specs.declared.bounds.TheConstants.{MOST_TARGETS};
 ghost use Rattle.gsi_file.specs.FileAnswers.{FileAnswers};
-ghost use Rattle.set_marks.specs.declared.beginnings.Beginnings.{Beginnings};
+ghost use Rattle.job_statements.specs.declared.beginnings.Beginnings.{Beginnings};
 ghost use Rattle.set_marks.specs.declared.marked.Marked.{Marked};
-ghost use Rattle.set_marks.specs.Numbers.{Said};
+ghost use Rattle.job_statements.specs.Numbers.{Said};
 ghost use Rattle.set_marks.specs.Judging.{judged_of};
 ghost use Rattle.set_marks.specs.Markings.{IsMarking};
 ghost use Rattle.set_marks.specs.Stated.{AreAsStated, IsByFaces};

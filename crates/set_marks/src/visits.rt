@@ -5,10 +5,10 @@ ghost use Rattle.std.specs.Prelude.{if◌then◌else◌, length};
 ghost use Rattle.arrayvec.specs.ArrayVec.{array_vec_len};
 ghost use Rattle.set_marks.specs.Visits.{is_read_so, once_more, times, visit_name};
 
-use crate::reading::bare_name;
 use adjust_kernel::{LONGEST_NAME, Name};
 use arrayvec::ArrayVec;
 use indexmap::IndexMap;
+use job_statements::bare_name;
 use std::alloc::{AllocError, Global};
 use std::marker::Model;
 

@@ -18,21 +18,20 @@ ghost use Rattle.gsi_file.specs.declared.file_fault.FileFault.TheVariants.{At};
 ghost use Rattle.gsi_file.specs.declared.file_fault.FileKind.TheVariants.{FileTooLong, LineTooLong};
 ghost use Rattle.set_marks.specs.declared.fault.MarkFault.TheVariants.{File, Memory};
 ghost use Rattle.set_marks.specs.Marks.{IsRoomy};
-ghost use Rattle.set_marks.specs.Numbers.{said_in};
+ghost use Rattle.job_statements.specs.Numbers.{said_in};
 ghost use Rattle.set_marks.specs.Keeping.{AnswersReadings, Keeps};
 ghost use Rattle.set_marks.specs.LinePlaces.{AreBegins, IsUsedUp};
 ghost use Rattle.set_marks.specs.Taking.{IsKnown, IsLineRefusal, IsTested, TakesLine, TakesPart};
 ghost use Rattle.set_marks.specs.Taking.{readings_in};
 
-use crate::beginnings::Beginnings;
 use crate::fault::MarkFault;
 use crate::line_end::{Tested, part_end};
 use crate::reading::{Said, no_readings};
 use crate::readings::Readings;
-use crate::stated::Stated;
 use gsi_file::{FileFault, FileKind, LINE_FEED, LONGEST_FILE, LONGEST_LINE, is_blank};
 use gsi_word::Block;
 use gsi_word::steps::{block_in, check_printable, read_words, reading_block};
+use job_statements::{Beginnings, Stated};
 use station_book::read_plain;
 use std::alloc::{AllocError, Global};
 

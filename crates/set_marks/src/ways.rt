@@ -6,7 +6,7 @@
 ghost use Rattle.std.specs.Prelude.{◌≡◌, ◌<◌, ◌+◌, ◌∷◌, [], IfOk, length};
 ghost use Rattle.std.specs.Bool.{OnFalse};
 ghost use Rattle.set_marks.specs.declared.outside.Ending.TheVariants.{Nothing};
-ghost use Rattle.set_marks.specs.declared.stated.Numbers.{Numbers};
+ghost use Rattle.job_statements.specs.declared.stated.Numbers.{Numbers};
 ghost use Rattle.set_marks.specs.Searching.{KnowsTargetsOf, IsClosed, IsFound, may_divide};
 ghost use Rattle.set_marks.specs.Searching.{may_be_plain};
 ghost use Rattle.set_marks.specs.Divisions.{starts_of, seconds_of, rest_of, later, begins_in_two};
@@ -29,7 +29,7 @@ use crate::set::{are_in_face, front, is_by_targets, sight_at};
 use crate::sight::Sight;
 use crate::span::Span;
 use crate::starts::starts_of;
-use crate::stated::Numbers;
+use job_statements::Numbers;
 use std::alloc::{AllocError, Global};
 
 /// The first detail among so many of a station's readings from this place on.

@@ -4,12 +4,12 @@ use Rattle.std.proofs.Common.{sym, ap, ◌∙◌}
 use Rattle.gsi_file.specs.FileAnswers.{FileAnswers}
 use Rattle.gsi_file.specs.declared.file_fault.FileFault.TheVariants as file
 use Rattle.station_book.specs.Places.{History}
-use Rattle.set_marks.specs.declared.beginnings.Beginnings.{Beginnings}
+use Rattle.job_statements.specs.declared.beginnings.Beginnings.{Beginnings}
 use Rattle.set_marks.specs.declared.flaw.Flaw.{Flaw}
 use Rattle.set_marks.specs.declared.recognized.Recognized.{Recognized}
 use Rattle.set_marks.specs.declared.refused.Refused.{Refused}
 use Rattle.set_marks.specs.declared.refused.Refused.TheVariants as refused
-use Rattle.set_marks.specs.Numbers.{Said}
+use Rattle.job_statements.specs.Numbers.{Said}
 use Rattle.set_marks.specs.Stations.{fault_of_blocks}
 use Rattle.set_marks.specs.Marking.{marks_of, recognized_of, refusal}
 use Rattle.set_marks.specs.Markings.{AreBlocks, AnswersMark, IsBlockFault, IsFault, IsRefused}

@@ -2,10 +2,10 @@
 use Rattle.std.specs.Prelude.{◌≡◌, ℕ, true, List, Result, Ok, Err}
 use Rattle.byte_ends.specs.Sink.{WriterChange}
 use Rattle.byte_ends.specs.Source.{ReaderChange}
-use Rattle.set_marks.specs.declared.beginnings.Beginnings.{Beginnings}
+use Rattle.job_statements.specs.declared.beginnings.Beginnings.{Beginnings}
 use Rattle.set_marks.specs.Markings.{copy_of}
 use Rattle.set_marks.specs.declared.refused.Refused.{Refused}
-use Rattle.set_marks.specs.Numbers.{Said}
+use Rattle.job_statements.specs.Numbers.{Said}
 use Rattle.station_check.specs.RunEndings.{IsWritten, IsCutShort}
 use Rattle.station_mark.specs.Answers.{IsMarkAnswer}
 use Rattle.station_mark.specs.FaultTexts.{Unprinted, unmarked, untold}

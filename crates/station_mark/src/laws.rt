@@ -3,10 +3,10 @@
 ghost use Rattle.std.specs.Prelude.{◌≡◌, ℕ, List, Result};
 ghost use Rattle.gsi_file.specs.FileAnswers.{FileAnswers};
 ghost use Rattle.set_marks.specs.Markings.{AnswersMark};
-ghost use Rattle.set_marks.specs.declared.beginnings.Beginnings.{Beginnings};
+ghost use Rattle.job_statements.specs.declared.beginnings.Beginnings.{Beginnings};
 ghost use Rattle.set_marks.specs.declared.marked.Marked.{Marked};
 ghost use Rattle.set_marks.specs.declared.refused.Refused.{Refused};
-ghost use Rattle.set_marks.specs.Numbers.{Said};
+ghost use Rattle.job_statements.specs.Numbers.{Said};
 ghost use Rattle.station_mark.specs.OneAnswer.{IsSettled, printed_of};
 
 /// What came of a reader has one answer of `mark`: of the same lines, the same bytes, and the same

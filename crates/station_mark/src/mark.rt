@@ -4,14 +4,15 @@ ghost use Rattle.std.specs.Prelude.{◌≡◌, IfOk};
 ghost use Rattle.byte_ends.specs.Source.{reader_change, UntilDropped};
 ghost use Rattle.gsi_file.specs.FileAnswers.{file_answers};
 ghost use Rattle.set_marks.specs.Markings.{AnswersMark};
-ghost use Rattle.set_marks.specs.Numbers.{said_in};
+ghost use Rattle.job_statements.specs.Numbers.{said_in};
 ghost use Rattle.station_mark.specs.Answers.{IsMarkAnswer, marking_in};
 
 use crate::given::{Given, all_given};
 use crate::marked_file::MarkedFile;
 use byte_ends::Source;
 use gsi_file::LONGEST_FILE;
-use set_marks::{Beginnings, MarkFault, Refused, Stated, mark_file};
+use job_statements::{Beginnings, Stated};
+use set_marks::{MarkFault, Refused, mark_file};
 use std::alloc::Global;
 
 /// Finds where codes are put into a field file: 10 where a station begins, 20 where a set begins,

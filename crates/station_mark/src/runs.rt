@@ -5,7 +5,7 @@ ghost use Rattle.std.specs.Prelude.{◌≡◌, ◌⊎◌};
 ghost use Rattle.byte_ends.specs.Writers.{writer_change};
 ghost use Rattle.byte_ends.specs.Source.{UntilDropped};
 ghost use Rattle.set_marks.specs.declared.fault.MarkFault.TheVariants.{Memory};
-ghost use Rattle.set_marks.specs.Numbers.{said_in};
+ghost use Rattle.job_statements.specs.Numbers.{said_in};
 ghost use Rattle.station_check.specs.RunEndings.{RunWithNotes, WritesOrFails};
 ghost use Rattle.station_mark.specs.FaultTexts.{refusal_line, refusal_text, unmarked};
 ghost use Rattle.station_mark.specs.Runs.{IsMarkRun, notes_in};
@@ -17,7 +17,8 @@ use crate::mark::mark_bytes;
 use crate::notes::notes_text;
 use crate::refused::{refusal_line, refusal_text};
 use byte_ends::{Sink, Source};
-use set_marks::{Beginnings, MarkFault, Refused, Stated};
+use job_statements::{Beginnings, Stated};
+use set_marks::{MarkFault, Refused};
 use station_check::{ACCEPTED, refuse_by};
 use std::alloc::Global;
 

@@ -1,8 +1,6 @@
 use adjust_kernel::Name;
-use set_marks::{
-    Beginnings, MarkFault, MarkKind, NamedNumber, Recognized, Refused, Remarks, Stated,
-    StatedNumber, mark_file, marked_copy,
-};
+use job_statements::{Beginnings, NamedNumber, Stated, StatedNumber};
+use set_marks::{MarkFault, MarkKind, Recognized, Refused, Remarks, mark_file, marked_copy};
 use station_book::BookKind;
 use std::alloc::Global;
 

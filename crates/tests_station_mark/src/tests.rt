@@ -3,9 +3,9 @@
 use adjust_kernel::Name;
 use byte_ends::{Held, OfWrite, Script};
 use gsi_file::{FileFault, FileKind};
+use job_statements::{Beginnings, Stated, StatedNumber};
 use set_marks::{
-    Beginnings, Flaw, MarkFault, MarkKind, Recognized, Remarks, SetPair, SetPairs, Stated,
-    StatedNumber, ZenithRange, ZenithRanges,
+    Flaw, MarkFault, MarkKind, Recognized, Remarks, SetPair, SetPairs, ZenithRange, ZenithRanges,
 };
 use station_book::BookKind;
 use station_mark::{PrintFault, notes_text, refusal_line, run_mark};

@@ -1,5 +1,5 @@
 use Rattle.command_line.proofs.MistakeLaws.{small-count}
-use Rattle.set_marks.proofs.NumberLaws.{no_numbers}
+use Rattle.job_statements.proofs.NumberLaws.{no_numbers}
 use Rattle.command_line.proofs.found.count_of.Goals as goal
 
 pub returns-in-Err-Wrong-clause-none : goal.returns-in-Err-Wrong-clause-none

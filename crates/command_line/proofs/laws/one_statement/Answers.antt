@@ -1,5 +1,5 @@
 use Rattle.command_line.specs.StatedNumbers.{texts_of}
-use Rattle.set_marks.proofs.NumberLaws.{one-statement}
+use Rattle.job_statements.proofs.NumberLaws.{one-statement}
 use Rattle.command_line.proofs.laws.one_statement.Goals as goal
 
 pub returns : goal.returns

@@ -1,13 +1,13 @@
 use Rattle.std.proofs.Common.{ℕ, List, Result, Ok, Err, inl, inr, refl, rules, subst}
 use Rattle.gsi_file.specs.FileAnswers.{file_answers}
 use Rattle.set_marks.specs.Markings.{AnswersMark}
-use Rattle.set_marks.specs.Numbers.{said_in}
-use Rattle.set_marks.specs.declared.beginnings.Beginnings.{Beginnings}
+use Rattle.job_statements.specs.Numbers.{said_in}
+use Rattle.job_statements.specs.declared.beginnings.Beginnings.{Beginnings}
 use Rattle.set_marks.specs.declared.fault.MarkFault.TheVariants.{Memory}
 use Rattle.set_marks.specs.declared.marked.Marked.{Marked}
 use Rattle.set_marks.specs.declared.refused.Refused.{Refused}
 use Rattle.set_marks.specs.declared.refused.Refused.TheVariants.{File}
-use Rattle.set_marks.specs.declared.stated.Stated.{Stated}
+use Rattle.job_statements.specs.declared.stated.Stated.{Stated}
 use Rattle.station_check.specs.Came.{source_of}
 use Rattle.page_calls.specs.Answers.{IsMarkAnswer, IsMarkOf}
 use Rattle.page_calls.specs.HandedOut.{HandsOut}

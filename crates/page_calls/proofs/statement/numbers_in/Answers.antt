@@ -2,8 +2,8 @@ use Rattle.std.proofs.Common.{◌≡◌, ◌∙◌, ap, arith, map, subst, sym}
 use Rattle.std.proofs.lemmas.Iterator.Consumers.{map_from_collect}
 use Rattle.std.proofs.lemmas.Iterator.Splits.{YieldsList-from_lines}
 use Rattle.std.specs.Str.Lines.{lines}
-use Rattle.set_marks.specs.StatedNumbers.{IsStatedBy, StateAll}
-use Rattle.set_marks.proofs.NumberLaws.{no_numbers}
+use Rattle.job_statements.specs.StatedNumbers.{IsStatedBy, StateAll}
+use Rattle.job_statements.proofs.NumberLaws.{no_numbers}
 use Rattle.page_calls.proofs.statement.numbers_in.Goals as goal
 
 pub returns-in-Ok-numbers_of-clause-stated : goal.returns-in-Ok-numbers_of-clause-stated

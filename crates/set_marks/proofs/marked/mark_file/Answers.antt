@@ -2,7 +2,7 @@ use Rattle.std.proofs.Common.{◌≡◌, ◌+◌, None, refl, rules}
 use Rattle.gsi_file.specs.FileAnswers.{file_answers}
 use Rattle.set_marks.specs.Placing.{placed}
 use Rattle.set_marks.specs.Marking.{refusal}
-use Rattle.set_marks.specs.Numbers.{said_in}
+use Rattle.job_statements.specs.Numbers.{said_in}
 use Rattle.set_marks.proofs.Making.{is_marking, no_memory}
 use Rattle.set_marks.proofs.marked.mark_file.Goals as goal
 

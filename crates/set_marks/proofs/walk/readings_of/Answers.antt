@@ -12,7 +12,7 @@ use Rattle.gsi_file.specs.declared.file_fault.FileKind.TheVariants.{Read}
 use Rattle.gsi_file.proofs.FirstBytes.{answers_failed, with_line}
 use Rattle.set_marks.specs.Copies.{BeginsAt}
 use Rattle.set_marks.specs.Keeping.{AnswersReadings}
-use Rattle.set_marks.specs.Numbers.{said_in}
+use Rattle.job_statements.specs.Numbers.{said_in}
 use Rattle.set_marks.specs.Taking.{TakesPart, readings_in}
 use Rattle.set_marks.proofs.Breaks.{some_end, no_end}
 use Rattle.set_marks.proofs.LinePlaces.{next_places, last_places, in_order, all_begin, begins_next}

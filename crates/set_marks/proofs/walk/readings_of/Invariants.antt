@@ -3,7 +3,7 @@ use Rattle.gsi_file.specs.FileAnswers.{answers_within, file_answers}
 use Rattle.gsi_file.specs.Parts.{parts}
 use Rattle.gsi_file.specs.declared.bounds.TheConstants.{LONGEST_FILE}
 use Rattle.set_marks.specs.Marks.{IsRoomy}
-use Rattle.set_marks.specs.Numbers.{said_in}
+use Rattle.job_statements.specs.Numbers.{said_in}
 use Rattle.set_marks.specs.Copies.{BeginsAt}
 use Rattle.set_marks.specs.LinePlaces.{begins_of, AreAscending}
 use Rattle.set_marks.proofs.Taking.{AreTaken}

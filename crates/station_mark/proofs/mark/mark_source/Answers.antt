@@ -1,5 +1,5 @@
 use Rattle.byte_ends.specs.Source.{reader_change}
-use Rattle.set_marks.specs.Numbers.{said_in}
+use Rattle.job_statements.specs.Numbers.{said_in}
 use Rattle.station_mark.proofs.Givings.{answered, out_of_memory}
 use Rattle.station_mark.proofs.mark.mark_source.Goals as goal
 

@@ -4,7 +4,7 @@ use Rattle.byte_ends.specs.Writers.{writer_change}
 use Rattle.set_marks.specs.declared.fault.MarkFault.TheVariants.{Memory}
 use Rattle.set_marks.specs.declared.recognized.Recognized.{Recognized}
 use Rattle.set_marks.specs.declared.refused.Refused.TheVariants.{File}
-use Rattle.set_marks.specs.Numbers.{said_in}
+use Rattle.job_statements.specs.Numbers.{said_in}
 use Rattle.station_check.specs.RunEndings.{WritesOrFails}
 use Rattle.station_mark.specs.FaultTexts.{unmarked, untold}
 use Rattle.station_mark.specs.Notes.{notes_text, stations_text}

@@ -8,7 +8,7 @@ use Rattle.set_marks.specs.Divisions.{divided_unless}
 use Rattle.set_marks.specs.Ways.{divided}
 use Rattle.set_marks.specs.Judging.{sets_fault, targets_fault}
 use Rattle.set_marks.specs.Keeping.{TakesStation, before_in}
-use Rattle.set_marks.specs.Numbers.{numbers_of, said_in}
+use Rattle.job_statements.specs.Numbers.{numbers_of, said_in}
 use Rattle.set_marks.proofs.Few.{few_sets}
 use Rattle.set_marks.proofs.Taken.{with_sets}
 use Rattle.set_marks.proofs.marking.Marking.take_called.Goals as goal

@@ -1,6 +1,6 @@
 use Rattle.std.proofs.Common.{refl, rules}
-use Rattle.set_marks.proofs.NumberLaws.{adds_each, has_each_of}
-use Rattle.set_marks.proofs.numbers.with_each.Goals as goal
+use Rattle.job_statements.proofs.NumberLaws.{adds_each, has_each_of}
+use Rattle.job_statements.proofs.numbers.with_each.Goals as goal
 
 pub returns-in-None-clause-added : goal.returns-in-None-clause-added
 returns-in-None-clause-added c =

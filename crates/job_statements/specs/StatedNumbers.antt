@@ -5,8 +5,8 @@ use Rattle.std.specs.List.{AllPairs, AllZip, filter_map}
 use Rattle.std.specs.Str.Parse.{IsNumeral, digits_value, without_leading_plus}
 use Rattle.adjust_kernel.specs.Names.{IsName}
 use Rattle.gsi_word.specs.Names.{name_of}
-use Rattle.set_marks.specs.declared.stated.NamedNumber.{NamedNumber}
-use Rattle.set_marks.specs.declared.stated.StatedNumber.{StatedNumber}
+use Rattle.job_statements.specs.declared.stated.NamedNumber.{NamedNumber}
+use Rattle.job_statements.specs.declared.stated.StatedNumber.{StatedNumber}
 
 -- No '=' stands in a text.
 abbrev pub HasNoEquals : List ℕ → Type 0

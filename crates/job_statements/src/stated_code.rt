@@ -1,9 +1,9 @@
 //! The code that is stated as one whose blocks begin a station each.
 
 ghost use Rattle.std.specs.Prelude.{IfNone, IfSome};
-ghost use Rattle.set_marks.specs.StationCodes.{IsNoStationCode, IsStationCode};
+ghost use Rattle.job_statements.specs.StationCodes.{IsNoStationCode, IsStationCode};
 
-use crate::reading::bare_name;
+use crate::zeros::bare_name;
 use adjust_kernel::Name;
 
 /// The code that a text states, without zeros before it; none where the text is no code, or one of

@@ -1,6 +1,6 @@
 use Rattle.std.proofs.Common.{◌≡◌, length}
-use Rattle.set_marks.specs.Numbers.{own_number}
-use Rattle.set_marks.proofs.stated.own_number.Given as goal
+use Rattle.job_statements.specs.Numbers.{own_number}
+use Rattle.job_statements.proofs.stated.own_number.Given as goal
 
 abbrev pub invariant-numbers : goal.invariant-numbers
 invariant-numbers l =

@@ -1,5 +1,5 @@
 use Rattle.std.proofs.Common.{refl}
-use Rattle.set_marks.proofs.numbers.with_text.Goals as goal
+use Rattle.job_statements.proofs.numbers.with_text.Goals as goal
 
 pub returns-in-Err-clause-why : goal.returns-in-Err-clause-why
 returns-in-Err-clause-why c = (refl, λ numbers holds. c.in-Err.ensures.fault numbers)

@@ -1,10 +1,10 @@
 use Rattle.std.proofs.Common.{◌≡◌, IfErr, map, rules, subst}
 use Rattle.std.specs.Prelude.{Result, Err}
-use Rattle.set_marks.specs.declared.numbers.Unstated.{Unstated}
-use Rattle.set_marks.specs.declared.stated.StatedNumber.{StatedNumber}
-use Rattle.set_marks.specs.WrongTexts.{IsUnstated}
-use Rattle.set_marks.proofs.NumberLaws.{more_of_texts, wrong_of_texts}
-use Rattle.set_marks.proofs.numbers.numbers_of.Goals as goal
+use Rattle.job_statements.specs.declared.numbers.Unstated.{Unstated}
+use Rattle.job_statements.specs.declared.stated.StatedNumber.{StatedNumber}
+use Rattle.job_statements.specs.WrongTexts.{IsUnstated}
+use Rattle.job_statements.proofs.NumberLaws.{more_of_texts, wrong_of_texts}
+use Rattle.job_statements.proofs.numbers.numbers_of.Goals as goal
 
 pub loop-text-preserved : goal.loop-text-preserved
 loop-text-preserved c =

@@ -4,12 +4,12 @@ use Rattle.std.specs.Prelude.{⊤}
 use Rattle.std.specs.Borrow.{Bor}
 use Rattle.std.specs.Str.Parse.{IsNumeral, digits_value, without_leading_plus}
 use Rattle.adjust_kernel.specs.Names.{IsName}
-use Rattle.set_marks.specs.declared.stated.StatedNumber.{StatedNumber}
-use Rattle.set_marks.specs.StatedNumbers.{HasParts, Holds, OfStation, StateAll, StatesOne}
-use Rattle.set_marks.specs.declared.numbers.CountFault.{CountFault}
-use Rattle.set_marks.specs.declared.numbers.CountFault.TheVariants as fault
-use Rattle.set_marks.specs.declared.numbers.Unstated.{Unstated}
-use Rattle.set_marks.specs.declared.numbers.Unstated.TheVariants as unstated
+use Rattle.job_statements.specs.declared.stated.StatedNumber.{StatedNumber}
+use Rattle.job_statements.specs.StatedNumbers.{HasParts, Holds, OfStation, StateAll, StatesOne}
+use Rattle.job_statements.specs.declared.numbers.CountFault.{CountFault}
+use Rattle.job_statements.specs.declared.numbers.CountFault.TheVariants as fault
+use Rattle.job_statements.specs.declared.numbers.Unstated.{Unstated}
+use Rattle.job_statements.specs.declared.numbers.Unstated.TheVariants as unstated
 
 -- One of these numbers is of this station, or of each.
 abbrev pub IsAmong : Option (List ℕ) → List OfStation → Type 0

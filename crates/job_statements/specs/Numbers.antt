@@ -6,10 +6,10 @@ use Rattle.std.specs.Prelude.{ℕ, Bool, false, ◌&&◌, not, ◌==◌, List, [
 use Rattle.std.specs.Prelude.{if◌then◌else◌, Option, Some, None, is_none}
 use Rattle.std.specs.Str.{bytes_eq}
 use Rattle.station_book.specs.Faults.{first_of}
-use Rattle.set_marks.specs.declared.stated.NamedNumber.{NamedNumber}
-use Rattle.set_marks.specs.declared.stated.Numbers.{Numbers}
-use Rattle.set_marks.specs.declared.stated.Stated.{Stated}
-use Rattle.set_marks.specs.declared.stated.StatedNumber.{StatedNumber}
+use Rattle.job_statements.specs.declared.stated.NamedNumber.{NamedNumber}
+use Rattle.job_statements.specs.declared.stated.Numbers.{Numbers}
+use Rattle.job_statements.specs.declared.stated.Stated.{Stated}
+use Rattle.job_statements.specs.declared.stated.StatedNumber.{StatedNumber}
 
 -- A number that is stated of stations: one of each of them, and others of single ones, which stand
 -- there in its place.

@@ -1,10 +1,10 @@
 use Rattle.std.proofs.Common.{◌≡◌, IfErr, List, None, Some, refl, rules, subst}
 use Rattle.std.specs.Prelude.{Result, Err}
-use Rattle.set_marks.proofs.NumberLaws.{cut_at_last, no_equals, unwritten_fault}
-use Rattle.set_marks.specs.StatedNumbers.{OfStation}
-use Rattle.set_marks.specs.WrongTexts.{IsFaultAfter}
-use Rattle.set_marks.specs.declared.numbers.CountFault.{CountFault}
-use Rattle.set_marks.proofs.numbers.number_in.Goals as goal
+use Rattle.job_statements.proofs.NumberLaws.{cut_at_last, no_equals, unwritten_fault}
+use Rattle.job_statements.specs.StatedNumbers.{OfStation}
+use Rattle.job_statements.specs.WrongTexts.{IsFaultAfter}
+use Rattle.job_statements.specs.declared.numbers.CountFault.{CountFault}
+use Rattle.job_statements.proofs.numbers.number_in.Goals as goal
 
 pub returns-in_err-number-clause-fault : goal.returns-in_err-number-clause-fault
 returns-in_err-number-clause-fault c =

@@ -1,8 +1,8 @@
 //! What is stated of a field file.
 
 ghost use Rattle.std.specs.Prelude.{◌≡◌, []};
-ghost use Rattle.set_marks.specs.Numbers.{is_asked, is_other, number_of, numbers_of};
-ghost use Rattle.set_marks.specs.Numbers.{number_said, own_number, said_in};
+ghost use Rattle.job_statements.specs.Numbers.{is_asked, is_other, number_of, numbers_of};
+ghost use Rattle.job_statements.specs.Numbers.{number_said, own_number, said_in};
 
 use adjust_kernel::Name;
 use std::alloc::Global;
@@ -75,7 +75,7 @@ impl StatedNumber {
     }
 
     /// The number that is stated of the station of this name: its own, or else that of each.
-    pub(crate) fn of(&self, name: &Name) -> Option<u32>
+    pub fn of(&self, name: &Name) -> Option<u32>
         ensures { result ≡ number_of (number_said self.now) name.now }
     {
         match own_number(&self.of_one, name) {
@@ -87,7 +87,7 @@ impl StatedNumber {
 
 impl Stated {
     /// What is stated of the sets of the station of this name.
-    pub(crate) fn of(&self, name: &Name) -> Numbers
+    pub fn of(&self, name: &Name) -> Numbers
         ensures { result ≡ numbers_of (said_in self.now) name.now }
     {
         Numbers {
@@ -98,7 +98,7 @@ impl Stated {
 }
 
 /// Whether a number is stated, and is not this one.
-pub(crate) fn is_other(stated: Option<u32>, found: usize) -> bool
+pub fn is_other(stated: Option<u32>, found: usize) -> bool
     ensures { result ≡ is_other stated found }
 {
     match stated {
@@ -108,7 +108,7 @@ pub(crate) fn is_other(stated: Option<u32>, found: usize) -> bool
 }
 
 /// Whether a number is needed, and is not stated.
-pub(crate) fn is_asked(needed: bool, stated: Option<u32>) -> bool
+pub fn is_asked(needed: bool, stated: Option<u32>) -> bool
     ensures { result ≡ is_asked needed stated }
 {
     needed && stated.is_none()

@@ -6,12 +6,12 @@
 ghost use Rattle.std.specs.Prelude.{◌≡◌, IfErr, IfOk, List, None, Some, map};
 ghost use Rattle.std.specs.List.{list_any};
 ghost use Rattle.std.specs.Str.{bytes_eq};
-ghost use Rattle.set_marks.specs.StatedNumbers.{IsStatedBy, OfStation, StatesOne, WritesNumber};
-ghost use Rattle.set_marks.specs.WrongTexts.{AddsNumber, AddsText, IsFaultAfter, IsSecond};
-ghost use Rattle.set_marks.specs.WrongTexts.{IsUnstated, IsUnstatedAfter, IsUnwritten};
+ghost use Rattle.job_statements.specs.StatedNumbers.{IsStatedBy, OfStation, StatesOne, WritesNumber};
+ghost use Rattle.job_statements.specs.WrongTexts.{AddsNumber, AddsText, IsFaultAfter, IsSecond};
+ghost use Rattle.job_statements.specs.WrongTexts.{IsUnstated, IsUnstatedAfter, IsUnwritten};
 
-use crate::reading::bare_name;
 use crate::stated::{NamedNumber, StatedNumber};
+use crate::zeros::bare_name;
 use adjust_kernel::Name;
 use std::alloc::Global;
 

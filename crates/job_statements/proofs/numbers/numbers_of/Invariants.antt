@@ -1,6 +1,6 @@
 use Rattle.std.proofs.Common.{map, take}
-use Rattle.set_marks.specs.StatedNumbers.{IsStatedBy}
-use Rattle.set_marks.proofs.numbers.numbers_of.Given as goal
+use Rattle.job_statements.specs.StatedNumbers.{IsStatedBy}
+use Rattle.job_statements.proofs.numbers.numbers_of.Given as goal
 
 abbrev pub invariant-loop-text : goal.invariant-loop-text
 invariant-loop-text l =

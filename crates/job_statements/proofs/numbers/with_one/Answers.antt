@@ -1,6 +1,6 @@
 use Rattle.std.proofs.Common.{refl, rules}
-use Rattle.set_marks.proofs.NumberLaws.{adds_one, has_name_of}
-use Rattle.set_marks.proofs.numbers.with_one.Goals as goal
+use Rattle.job_statements.proofs.NumberLaws.{adds_one, has_name_of}
+use Rattle.job_statements.proofs.numbers.with_one.Goals as goal
 
 pub returns-then-is_named-clause-why : goal.returns-then-is_named-clause-why
 returns-then-is_named-clause-why c = (

@@ -20,17 +20,17 @@ use Rattle.std.specs.Str.Pattern.{LacksTextAt, RFindsText, SplitsAroundMatch}
 use Rattle.std.specs.Str.Parse.{digits_value, without_leading_plus}
 use Rattle.adjust_kernel.specs.Names.{IsName}
 use Rattle.gsi_word.specs.Names.{name_of}
-use Rattle.set_marks.specs.declared.stated.NamedNumber.{NamedNumber}
-use Rattle.set_marks.specs.declared.stated.StatedNumber.{StatedNumber}
-use Rattle.set_marks.specs.StatedNumbers.{HasNoEquals, HasParts, Holds, IsCutAtLast}
-use Rattle.set_marks.specs.StatedNumbers.{IsStatedBy, OfStation, StateAll}
-use Rattle.set_marks.specs.StatedNumbers.{StatesOne, WritesNumber, named_number, number_of_each}
-use Rattle.set_marks.specs.WrongTexts.{AddsText, IsAmong, IsFaultAfter, IsFirstWrong}
-use Rattle.set_marks.specs.WrongTexts.{IsUnstated, IsUnstatedAfter, IsUnwritten}
-use Rattle.set_marks.specs.declared.numbers.CountFault.{CountFault}
-use Rattle.set_marks.specs.declared.numbers.CountFault.TheVariants as fault
-use Rattle.set_marks.specs.declared.numbers.Unstated.{Unstated}
-use Rattle.set_marks.specs.declared.numbers.Unstated.TheVariants as unstated
+use Rattle.job_statements.specs.declared.stated.NamedNumber.{NamedNumber}
+use Rattle.job_statements.specs.declared.stated.StatedNumber.{StatedNumber}
+use Rattle.job_statements.specs.StatedNumbers.{HasNoEquals, HasParts, Holds, IsCutAtLast}
+use Rattle.job_statements.specs.StatedNumbers.{IsStatedBy, OfStation, StateAll}
+use Rattle.job_statements.specs.StatedNumbers.{StatesOne, WritesNumber, named_number, number_of_each}
+use Rattle.job_statements.specs.WrongTexts.{AddsText, IsAmong, IsFaultAfter, IsFirstWrong}
+use Rattle.job_statements.specs.WrongTexts.{IsUnstated, IsUnstatedAfter, IsUnwritten}
+use Rattle.job_statements.specs.declared.numbers.CountFault.{CountFault}
+use Rattle.job_statements.specs.declared.numbers.CountFault.TheVariants as fault
+use Rattle.job_statements.specs.declared.numbers.Unstated.{Unstated}
+use Rattle.job_statements.specs.declared.numbers.Unstated.TheVariants as unstated
 
 -- A text in which no '=' is found has none.
 pub no_equals : (text : List ℕ) → ((i : ℕ) → i ≤ length text → LacksTextAt (codes "=") text i)
