@@ -8,8 +8,12 @@ ghost use Rattle.command_run.specs.declared.host.NoWords.{NoWords as WhyNoWords}
 
 use byte_ends::{Failed, OfRead, OfWrite, Sink, Source};
 use std::fs::File;
-use std::io::IsTerminal;
+use std::io::{BufReader, IsTerminal};
 use std::{fs, io};
+
+/// How many bytes of a file are read at once: a call of the system for each 4,096 took as long as all
+/// that is done with them.
+const READ_AT_ONCE: usize = 32_768;
 
 const TERMINAL_IS_READ: &str =
     "reading from the terminal; Ctrl-D ends the input, and 'station_check --help' explains";
@@ -75,7 +79,7 @@ pub trait Host {
 impl Host for HostRuntime {
     ghost use Rattle.std.specs.Prelude.{None};
 
-    type File = OfRead<File>;
+    type File = OfRead<BufReader<File>>;
 
     type Input = OfRead<io::Stdin>;
 
@@ -101,9 +105,11 @@ impl Host for HostRuntime {
         }
     }
 
-    fn open(&self, path: &str) -> Result<OfRead<File>, Failed> {
-        let file = fs::open(self, path).map_err(|_| Failed)?;
-        note_terminal(self, &file);
+    fn open(&self, path: &str) -> Result<OfRead<BufReader<File>>, Failed> {
+        let file = open_file(self, path, READ_AT_ONCE)
+            .or_else(|_| open_file(self, path, 0))
+            .map_err(|_| Failed)?;
+        note_terminal(self, file.get_ref());
         Ok(OfRead::new(file))
     }
 
@@ -117,6 +123,11 @@ impl Host for HostRuntime {
     fn note_input(&self) {
         note_terminal(self, &self.stdin());
     }
+}
+
+/// Opens the file of a path, which is read through a buffer of so many bytes. Of 0 it takes no memory.
+fn open_file(rt: &HostRuntime, path: &str, buffer: usize) -> io::Result<BufReader<File>> {
+    BufReader::with_capacity(rt.alloc(), buffer, fs::open(rt, path)?)
 }
 
 /// Tells a user at a terminal that what is typed there is read.
