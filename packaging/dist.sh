@@ -55,7 +55,7 @@ END
   cat << END
 
 The main contract is that of check_bytes, in crates/station_check/src/check.rt of the sources.
-README.md says what is proved, what is only tested, and what is trusted.
+docs/TRUST.md says what is proved, and README.md what is trusted.
 END
 }
 

@@ -18,12 +18,12 @@ from faults import MAN_PAGE, ROOT, escaped, man_text
 EXAMPLES = ROOT / "examples"
 CHANGES = ROOT / "CHANGELOG.md"
 
-# Each tool, and what its page says that it does.
+# Each tool, what its page says that it does, and the document that shows it.
 TOOLS = {
-    "adjust": "adjust a station by least squares, and write its sheet",
-    "check_folder": "check the sheets and tables of a folder",
-    "prepare": "leave out or rename blocks of a copy, or put codes in",
-    "residuals": "draw the residuals of a station",
+    "adjust": ("adjust a station by least squares, and write its sheet", "SHEETS.md"),
+    "check_folder": ("check the sheets and tables of a folder", "GUIDE.md"),
+    "prepare": ("leave out or rename blocks of a copy, or put codes in", "GUIDE.md"),
+    "residuals": ("draw the residuals of a station", "GUIDE.md"),
 }
 
 RELEASE = re.compile(r"^## ([0-9.]+), ([0-9-]+)\b", re.MULTILINE)
@@ -100,6 +100,7 @@ def statuses(said: str) -> Iterator[str]:
 def page(script: str) -> str:
     """The manual page of a script."""
     name, module = name_of(script), importlib.import_module(script)
+    does, document = TOOLS[script]
     parser = module.command_line()
     parser.prog, parser.formatter_class = name, Wide
     usage = parser.format_usage().removeprefix(f"usage: {name} ")
@@ -108,7 +109,7 @@ def page(script: str) -> str:
         f'.\\" The manual page of {name}, made by tools/manuals.py.',
         title(name),
         ".SH NAME",
-        f"{name} \\- {TOOLS[script]}",
+        f"{name} \\- {does}",
         ".SH SYNOPSIS",
         f".B {name}",
         *man_text(usage.strip()),
@@ -122,7 +123,7 @@ def page(script: str) -> str:
     if example := example.removeprefix("Example: ").rstrip().removesuffix("."):
         lines += [".SH EXAMPLES", *command(example)[1:]]
     lines += [".SH SEE ALSO", ".BR station_check (1)", ".PP"]
-    lines += ["The guide of an installation,", ".IR share/doc/station_check/docs/GUIDE.md ,"]
+    lines += ["A document of an installation,", f".IR share/doc/station_check/docs/{document} ,"]
     lines += ["shows it at work."]
     return "".join(f"{line}\n" for line in lines)
 

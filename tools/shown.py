@@ -1,4 +1,4 @@
-"""Writes into pages what the commands that they show print now: `python3 tools/shown.py PAGE..`.
+"""Writes into the pages what the commands that they show print now: `python3 tools/shown.py`.
 
 Nothing changes where a page shows just that. Look at the change before you keep it.
 """
@@ -6,16 +6,16 @@ Nothing changes where a page shows just that. Look at the change before you keep
 import re
 import sys
 from pathlib import Path
+from typing import Iterator
 
 ROOT = Path(__file__).resolve().parents[1]
 sys.path.insert(0, str(ROOT / "tests" / "support"))
 
-from pages import BLOCK, checked, steps_of
+from pages import BLOCK, Step, checked, steps_of
 
 
-def mended(path: Path) -> str:
-    """The page with what its commands print now."""
-    answers = iter(checked(path))
+def mended(text: str, answers: Iterator[tuple[Step, str]]) -> str:
+    """A page with what its commands print now."""
 
     def block(found: re.Match[str]) -> str:
         mended = [
@@ -24,9 +24,10 @@ def mended(path: Path) -> str:
         ]
         return f"```console\n{''.join(mended)}```"
 
-    return BLOCK.sub(block, path.read_text())
+    return BLOCK.sub(block, text)
 
 
 if __name__ == "__main__":
-    for name in sys.argv[1:]:
-        Path(name).write_text(mended(Path(name)))
+    for page, answers in checked().items():
+        path = ROOT / page
+        path.write_text(mended(path.read_text(), iter(answers)))

@@ -12,7 +12,7 @@ import tempfile
 import unittest
 from pathlib import Path
 
-from pages import page_steps, printed_by
+from pages import SHOWN, answers_in
 from program import PROGRAM, ROOT, ProgramTest, answer_of
 from test_install import INSTALLED, TOOLS
 from test_library import LIBRARY
@@ -187,7 +187,7 @@ class DistTest(ProgramTest):
         done = subprocess.run(words, capture_output=True, text=True, timeout=TIME)
         self.assertEqual((0, ""), (done.returncode, done.stdout))
 
-    def test_the_package_in_an_empty_root_does_what_the_guide_shows(self):
+    def test_the_package_in_an_empty_root_does_what_the_pages_show(self):
         root = self.folder / "root"
         (root / "var/lib/dpkg/info").mkdir(parents=True)
         for name in ("status", "available"):
@@ -199,13 +199,14 @@ class DistTest(ProgramTest):
         documents = root / "usr/share/doc/station_check"
         with self.subTest("in the root"):
             self.check_in_root(root, "/usr/bin/station_check", f"/usr/{EXAMPLES}")
-        steps = page_steps((documents / "docs" / "GUIDE.md").read_text())
+        texts = {page: (documents / page).read_text() for page in SHOWN}
         work = self.folder / "work"
-        shutil.copytree(documents / "examples", work)
-        for step, printed in zip(steps, printed_by(steps, work, root / "usr/bin/station_check")):
-            with self.subTest(command=step.command):
-                if not step.fits(printed):
-                    self.assertEqual(step.printed, printed)
+        shutil.copytree(documents / "examples", work / "examples")
+        for page, answers in answers_in(work, texts, root / "usr/bin/station_check").items():
+            for step, printed in answers:
+                with self.subTest(page=page.name, command=step.command):
+                    if not step.fits(printed):
+                        self.assertEqual(step.printed, printed)
         for name in TOOLS.values():
             self.assertIn("usage: ", output_of(root / "usr/bin" / name, "--help"))
         output_of(*install, "--remove", "station-check")

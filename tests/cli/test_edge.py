@@ -295,12 +295,12 @@ def changes_one(line, options):
 
 
 class EdgeTest(ProgramTest):
-    def test_what_no_contract_says_stands_on_the_first_page(self):
+    def test_what_no_contract_says_stands_on_the_page_of_trust(self):
         sources = [ROOT / "crates" / path for path in ["station_program/src/main.rt", "command_run/src/host.rt"]]
         main, host = (path.read_text() for path in sources)
         main = main.partition("\nfn main(")[2].partition("\n}\n")[0]
         host = host.partition("\nimpl Host for HostRuntime {")[2]
-        page = (ROOT / "README.md").read_text()
+        page = (ROOT / "docs" / "TRUST.md").read_text()
         for code in [f"```rust\nfn main({main}\n}}\n", f"\nimpl Host for HostRuntime {{{host}```\n"]:
             self.assertIn(code, page)
 

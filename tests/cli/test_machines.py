@@ -1,4 +1,4 @@
-"""What the guide says of more than one machine: its commands, with this machine as the only one."""
+"""The commands for more than one machine, with this machine as the only one."""
 
 import csv
 import re
@@ -10,8 +10,15 @@ from pages import environment_of, tools
 from program import ROOT, ProgramTest
 from worked import SHEET, STATION, edited
 
-SECTION = re.compile(r"^## More than one machine$(.*?)^## ", re.DOTALL | re.MULTILINE)
+PAGE = ROOT / "docs" / "MACHINES.md"
 BLOCK = re.compile(r"^```sh\n(.*?)^```$", re.DOTALL | re.MULTILINE)
+
+# The command that lists the folders, and the options of a run without a common disk.
+LISTING = re.compile(r"`(find .*? > folders)`")
+COPIES = re.compile(r"`(--basefile .*?)`")
+
+# What Slurm runs for a task, the words after `--wrap`: Slurm itself isn't run.
+WRAPPED = re.compile(r"--wrap \\\n  '(.*)'$", re.DOTALL)
 
 TIME = 60
 
@@ -22,11 +29,13 @@ STATUSES = {"jobs/friday": 0, "jobs/monday": 1, "jobs/tuesday": 0}
 MACHINES = ":\n"
 
 
-def blocks():
-    """The commands for a common disk, those for none, and the script for Slurm."""
-    section = SECTION.search((ROOT / "docs" / "GUIDE.md").read_text())
-    common, copies, slurm = BLOCK.findall(section[1])
-    return common, copies, slurm
+def commands():
+    """The command for a common disk, that for none, and what Slurm runs for a task."""
+    page = PAGE.read_text()
+    common, slurm = BLOCK.findall(page)
+    log, options = "checks.log \\\n", COPIES.search(page)[1]
+    copies = common.replace(log, f"copies.log {options} \\\n")
+    return common, copies, WRAPPED.search(slurm.strip())[1]
 
 
 class MachinesTest(ProgramTest):
@@ -35,13 +44,14 @@ class MachinesTest(ProgramTest):
         tools(self.folder / "bin")
         shutil.copy(ROOT / "examples" / "check_folder.py", self.folder)
         (self.folder / "machines").write_text(MACHINES)
-        (self.folder / "folders").write_text("".join(f"{name}\n" for name in STATUSES))
         for name, status in STATUSES.items():
             folder = self.folder / name
             folder.mkdir(parents=True)
             (folder / "job.gsi").write_bytes(STATION)
             wrong = edited(SHEET, (b"set,1,,-20,", b"set,1,,-21,"))
             (folder / "job.csv").write_bytes(wrong if status else SHEET)
+        self.assertEqual(0, self.run_script(LISTING.search(PAGE.read_text())[1]).returncode)
+        self.assertEqual([*STATUSES], (self.folder / "folders").read_text().splitlines())
 
     def run_script(self, script, **more):
         of_tools = environment_of(self.folder / "bin")
@@ -58,10 +68,10 @@ class MachinesTest(ProgramTest):
     def test_gnu_parallel_checks_each_folder(self):
         if not shutil.which("parallel"):
             self.skipTest("no parallel is found")
-        common, copies, _ = blocks()
-        for commands, log in [(common, "checks.log"), (copies, "copies.log")]:
+        common, copies, _ = commands()
+        for command, log in [(common, "checks.log"), (copies, "copies.log")]:
             with self.subTest(log):
-                done = self.run_script(commands)
+                done = self.run_script(command)
                 self.assertEqual(1, done.returncode, done.stderr)
                 with open(self.folder / log, newline="") as file:
                     rows = list(csv.DictReader(file, delimiter="\t"))
@@ -70,11 +80,10 @@ class MachinesTest(ProgramTest):
                 self.assertEqual(STATUSES, dict(zip(names, statuses)))
                 self.check_reports()
 
-    def test_the_script_for_slurm_checks_the_folder_of_its_task(self):
-        *_, script = blocks()
+    def test_what_slurm_runs_checks_the_folder_of_its_task(self):
+        *_, script = commands()
         for task, (name, status) in enumerate(STATUSES.items(), 1):
-            of_task = {"SLURM_ARRAY_TASK_ID": str(task), "SLURM_CPUS_PER_TASK": "2"}
-            done = self.run_script(script, **of_task)
+            done = self.run_script(script, SLURM_ARRAY_TASK_ID=str(task))
             self.assertEqual(status, done.returncode, (name, done.stderr))
         self.check_reports()
 

@@ -16,8 +16,8 @@ from worked import JOB, LIST, MARKED, NOTES, refused
 # How many times three jobs are made.
 JOBS = 4_000 if SWEEP else 300
 
-# The command of the guide by which anybody sees that only code lines were put in.
-GUIDE = ROOT / "docs" / "GUIDE.md"
+# The page with the command by which anybody sees that only code lines were put in.
+PAGE = ROOT / "docs" / "MARK.md"
 TAKEN_OUT = re.compile(r"sed -E '[^']*' ")
 
 # A fault that the copy of a job may have: it is of the readings. Some are made with an angle of 0.
@@ -72,8 +72,8 @@ class MarkTest(AgainstModel):
         self.compare(case for place in range(JOBS) for case in cases_of_jobs(place))
 
     def test_the_list_of_a_copy_has_what_was_told(self):
-        """And taking the code lines out, by the command of the guide, gives the field file back."""
-        steps = [step.command for step in page_steps(GUIDE.read_text())]
+        """And taking the code lines out, by the command of the page, gives the field file back."""
+        steps = [step.command for step in page_steps(PAGE.read_text())]
         taken_out = next(found[0] for found in map(TAKEN_OUT.match, steps) if found)
         cases = [case for place in range(JOBS) for case in cases_of_jobs(place)]
         right = [case for case in cases if case.expected()[0] == 0]

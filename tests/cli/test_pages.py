@@ -1,15 +1,37 @@
-"""What README.md and docs/GUIDE.md show is what the program does."""
+"""What README.md, the guide and the pages beside it show is what the program does."""
 
+import importlib
+import math
 import re
+import sys
 import unittest
+from fractions import Fraction
 
-from pages import checked, page_steps
-from program import ROOT, TimedTest, answer_of
+from pages import SHOWN, checked, page_steps
+from program import EXAMPLE, ROOT, TimedTest, answer_of
 
 GUIDE = ROOT / "docs" / "GUIDE.md"
+FORMATS = ROOT / "docs" / "FORMATS.md"
+FAULTS = ROOT / "docs" / "FAULTS.md"
+TABLES = ROOT / "docs" / "TABLES.md"
+
+# A row of the page of tables: how directions are printed, what rounding explains in mgon, the limit if
+# none is stated, and the least to state. A second of arc and a degree have so many mgon.
+ROUNDED = re.compile(r"^\| (.*?) \| ([\d.]+) \| ([\d.]+) mgon \| `--within ([\d.]+)mgon` \|$", re.MULTILINE)
+DEGREE = Fraction(400_000, 360)
+SECOND = DEGREE / 3600
 ARCHITECTURE = ROOT / "docs" / "ARCHITECTURE.md"
 TESTS = ROOT / "docs" / "TESTS.md"
-PAGES = [ROOT / "README.md", GUIDE]
+
+# The head of the guide's table of refusals, the faults of `mark` that have no row there, and the
+# options of prepare.py that need none.
+REFUSALS = "| Fault | What the field book shows | Way on |\n"
+OF_A_READING = {"WordTwice", "NoZenith", "FaceUnclear", "StationName"}
+OF_EACH_COPY = {"--help", "--why"}
+
+# The time of the gate, on the first page and on that of tests.
+TIME_OF_GATE = r"^\| `make test` \| .* \| (\d+) minutes \|$"
+MEASURED = r"\bof the gate took (\d+) minutes on 4 processors\b"
 
 # All pages whose links a reader follows.
 LINKED = [
@@ -62,22 +84,62 @@ class PagesTest(TimedTest):
     maxDiff = None
 
     def test_each_command_prints_what_its_page_shows(self):
-        for page in PAGES:
-            answers = checked(page)
+        for page, answers in checked().items():
             self.assertTrue(answers, page)
             for step, printed in answers:
                 with self.subTest(page=page.name, command=step.command):
                     if not step.fits(printed):
                         self.assertEqual(step.printed, printed)
 
-    def test_the_guide_runs_each_command_of_the_program(self):
-        commands = " ".join(step.command for step in page_steps(GUIDE.read_text()))
+    def test_the_pages_run_each_command_of_the_program(self):
+        texts = [(ROOT / page).read_text() for page in SHOWN]
+        commands = " ".join(step.command for text in texts for step in page_steps(text))
         listed = re.search(r"^Commands:\n(.*?)\n\n", answer_of(["--help"])[1].decode(), re.DOTALL | re.MULTILINE)
         names = re.findall(r"^  (\w+)", listed[1], re.MULTILINE)
         self.assertIn("explain", names)
         for command in [*names, "list --csv", "check --residual", "compare --residual"]:
             if command != "help":
                 self.assertRegex(commands, rf"station_check {command} ")
+
+    def test_the_table_of_refusals_has_each_fault_of_mark_and_each_option_of_prepare(self):
+        rows = GUIDE.read_text().partition(REFUSALS)[2].partition("\n\n")[0].splitlines()[1:]
+        faults = set(re.findall(r"`(\w+)`", " ".join(row.split(" | ")[0] for row in rows)))
+        section = FORMATS.read_text().partition("### Where sets begin and end")[2].partition("### The code lines")[0]
+        of_mark = set(re.findall(r"`([A-Z]\w+)`", " ".join(re.findall(r"^\| (`.*?) \|", section, re.MULTILINE))))
+        self.assertGreater(len(of_mark), 20)
+        self.assertEqual(set(), of_mark - faults - OF_A_READING)
+        explained = set(re.findall(r"`(\w+)`", " ".join(re.findall(r"^### (.*)$", FAULTS.read_text(), re.MULTILINE))))
+        self.assertEqual(set(), faults - explained)
+        sys.path.insert(0, str(ROOT / "examples"))
+        help_of_prepare = importlib.import_module("prepare").command_line().format_help()
+        options = set(re.findall(r"^  (?:-\w, )?(--[a-z-]+)", help_of_prepare, re.MULTILINE))
+        used = set(re.findall(r"--[a-z-]+", " ".join(re.findall(r"`P (--[^`]*)`", " ".join(rows)))))
+        self.assertEqual(options - OF_EACH_COPY, used)
+
+    def test_the_table_of_rounding_is_right(self):
+        """And each limit is the one to which a table so printed is held."""
+        rows = ROUNDED.findall(TABLES.read_text())
+        self.assertEqual(8, len(rows))
+        for printed, rounding, limit, least in rows:
+            with self.subTest(printed):
+                if found := re.match(r"degrees with (\d)(\.\d+)?\"", printed):
+                    zero = "00" + re.sub(r"\d", "0", found[2] or "")
+                    text = f"A,0-00-{zero}\nB,45-00-{zero}\n"
+                    place = Fraction(found[1] + (found[2] or "")) * SECOND
+                else:
+                    decimals = int(re.search(r"(\d) decimals", printed)[1])
+                    text = f"A,{0:.{decimals}f}\nB,{50 - 5 * ('degrees' in printed):.{decimals}f}\n"
+                    place = (DEGREE if "degrees" in printed else 1000) / Fraction(10**decimals)
+                self.assertEqual(Fraction(rounding), round(place / 2, 4))
+                self.assertEqual(Fraction(least), Fraction(math.ceil(place / 2 * 1000), 1000))
+                flags = ["--degrees"] if "degrees" in printed else []
+                answer = answer_of(["compare", *flags, EXAMPLE, "S1", "/dev/stdin"], text.encode())
+                self.assertIn(f"limit {limit} mgon", (answer[1] + answer[2]).decode())
+
+    def test_the_time_of_the_gate_is_one(self):
+        first = re.search(TIME_OF_GATE, (ROOT / "README.md").read_text(), re.MULTILINE)
+        measured = re.search(MEASURED, TESTS.read_text())
+        self.assertEqual(measured[1], first[1])
 
     def test_links_lead_to_files_and_headings_that_are_there(self):
         for page in LINKED:

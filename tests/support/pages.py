@@ -2,7 +2,8 @@
 
 A fenced block `console` has commands, each after `$ `, and under each what it prints on standard
 output and standard error; a line `..` stands for any number of lines. A backslash at the end of a
-line continues a command. The commands of a page are run one after the other by one shell.
+line continues a command. The commands of all pages are run one after the other by one shell, in the
+order in which the pages are read: README.md calls the program and makes the folder for the others.
 """
 
 import os
@@ -22,8 +23,11 @@ COMMAND = re.compile(r"(.*\\\n)*.*")  # its lines but the last end with a backsl
 END = "the end of a command of this page"
 SKIPPED = "..\n"
 
-# More than any page takes, in seconds.
-TIME = 60
+# The pages that show commands, in the order in which they are read.
+SHOWN = [Path("README.md"), *(Path("docs", f"{name}.md") for name in ("GUIDE", "MARK", "TABLES", "SHEETS"))]
+
+# More than all pages take, in seconds.
+TIME = 120
 
 
 class Step(NamedTuple):
@@ -80,16 +84,20 @@ def printed_by(steps: list[Step], folder: Path, program: Path = PROGRAM) -> list
     return printed[:-1]
 
 
-def copied(path: Path, folder: Path) -> Path:
-    """A copy of the examples, in which the commands of a page run: those of README.md name them
-    from the root."""
-    place = folder / "examples"
-    copytree(ROOT / "examples", place)
-    return folder if path.name == "README.md" else place
+def answers_in(
+    folder: Path, texts: dict[Path, str], program: Path = PROGRAM
+) -> dict[Path, list[tuple[Step, str]]]:
+    """Of each page its commands, and what they print now in a folder with the examples."""
+    steps = {page: page_steps(text) for page, text in texts.items()}
+    printed = iter(printed_by([step for each in steps.values() for step in each], folder, program))
+    return {page: [(step, next(printed)) for step in each] for page, each in steps.items()}
 
 
-def checked(path: Path) -> list[tuple[Step, str]]:
-    """Each command of a page, and what it prints now."""
-    steps = page_steps(path.read_text())
+def checked() -> dict[Path, list[tuple[Step, str]]]:
+    """Of each page its commands, and what they print now: as in a clone after `make run`."""
     with tempfile.TemporaryDirectory() as top:
-        return list(zip(steps, printed_by(steps, copied(path, Path(top)))))
+        folder = Path(top)
+        copytree(ROOT / "examples", folder / "examples")
+        (folder / "build").mkdir()
+        (folder / "build" / PROGRAM.name).symlink_to(PROGRAM.resolve())
+        return answers_in(folder, {page: (ROOT / page).read_text() for page in SHOWN})
