@@ -43,13 +43,17 @@ class Order:
 
     def processes(self, crate: str, most: int) -> int:
         """How many processes share a proof, of the most that may. One takes less processor time in all;
-        so there are more only where less than three tenths of the lines can be proved beside it. What
+        so there are more only where less than three tenths of the lines can be proved beside it, and
+        two of a crate that has more than a tenth of all lines, for which the longest chain waits. What
         the program isn't made of, the calls of the page, is proved when all else is."""
         if crate not in self.under:
             return most
+        total = sum(self.lines.values())
         apart = {crate, *self.under[crate], *self.above(crate)}
         beside = sum(lines for name, lines in self.lines.items() if name not in apart)
-        return most if 10 * beside < 3 * sum(self.lines.values()) else 1
+        if 10 * beside < 3 * total:
+            return most
+        return min(2, most) if 10 * self.lines[crate] > total else 1
 
 
 def main() -> None:
