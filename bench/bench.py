@@ -38,11 +38,15 @@ from shapes import Shape, field_file, job_file
 
 ROOT = Path(__file__).resolve().parent.parent
 PROGRAM = Path(os.environ.get("STATION_CHECK", ROOT / "build/station_check")).resolve()
-PAGE = ROOT / "docs" / "PERFORMANCE.md"
+PAGE = ROOT / "docs" / "MEASURED.md"
 
-# What stands before and after a table that is made here.
-BEGIN = "<!-- The table {name}, made by bench/bench.py. -->\n\n"
-END = "\n\n<!-- The end of {name}. -->"
+# What the page of what was measured begins with, and how a table of it begins.
+HEAD = """\
+# Measured
+
+This page is made by `make bench BENCH='--page ..'`: [PERFORMANCE](PERFORMANCE.md) says what is measured and how, and what the marks are. A mark that is not kept is in bold. Each table has the commit of its code, its machine, and how busy other work kept that meanwhile: where that is more than a tenth of a thread, times are too long, and their ratios uncertain.
+"""
+BEGIN = "Commit "
 
 # How rustc builds the plain programs: the fastest way that was found.
 RUSTC = ["-C", "opt-level=3", "-C", "lto=fat", "-C", "codegen-units=1", "-C", "panic=abort"]
@@ -393,6 +397,37 @@ TABLES = {
     "parts": parts,
 }
 
+# What each is called on the page, and what it shows.
+TITLES = {
+    "clock": (
+        "By the clock",
+        "Milliseconds from the start of a process to its end, and the most memory that a run held.",
+    ),
+    "instructions": (
+        "In instructions",
+        "A byte of the field file, less what the same command takes on empty files; then how much "
+        "that is of *plain* and of *tuned*. The bytes of the sheet don't count: on small files, where "
+        "it is a large part of what is read or written, `means` and `check` cost the most a byte.",
+    ),
+    "adjusting": (
+        "Directions, and what prints more",
+        "Milliseconds, and millions of instructions of the whole process. *Plain* and *tuned* have "
+        "none of these but `means`.",
+    ),
+    "rows": ("Rows", "`list --csv` beside `list`: milliseconds, and millions of instructions."),
+    "digests": ("Digests", "Milliseconds. Without `--sha256` nothing is digested."),
+    "mark": (
+        "Mark",
+        "Jobs without codes, beside `list` of the same job, which finds no set there: milliseconds, "
+        "instructions a byte, and the pages of memory that were brought in.",
+    ),
+    "parts": (
+        "Where instructions go",
+        "The functions in which most instructions are run, each counted with all that the compiler "
+        f"took into it: those with at least {LEAST_SHARE} of a hundred.",
+    ),
+}
+
 
 def of_git(*words: str) -> str:
     """What git says of the code."""
@@ -407,17 +442,33 @@ def commit() -> str:
 
 
 def machine() -> str:
-    """The processors of this machine."""
-    found = re.search(r"^model name\s*: (.*)$", Path("/proc/cpuinfo").read_text(), re.MULTILINE)
-    return f"{os.cpu_count()} threads of {found[1] if found else 'an unknown processor'}"
+    """The processors of this machine: their name, and the numbers of family and model, for many have
+    one name."""
+    text = Path("/proc/cpuinfo").read_text()
+    lines: dict[str, str] = dict(re.findall(r"^(model name|cpu family|model)\s*: (.*)$", text, re.MULTILINE))
+    name, *numbers = (lines.get(key) for key in ("model name", "cpu family", "model"))
+    kind = f" (family {numbers[0]}, model {numbers[1]})" if all(numbers) else ""
+    return f"{os.cpu_count()} threads of {name or 'an unknown processor'}{kind}"
+
+
+def tables_of(page: str) -> dict[str, str]:
+    """The tables of a page by their names, each with what is said of how it was measured."""
+    parts = [part.split("\n", 1) for part in page.split("\n## ")[1:]]
+    bodies = {title: body[body.index(BEGIN) :].rstrip("\n") for title, body in parts}
+    return {name: bodies[title] for name, (title, _) in TITLES.items() if title in bodies}
+
+
+def page_of(tables: dict[str, str]) -> str:
+    """The page that has these tables."""
+    titled = [(*TITLES[name], tables[name]) for name in TITLES if name in tables]
+    return HEAD + "".join(f"\n## {title}\n\n{what}\n\n{made}\n" for title, what, made in titled)
 
 
 def write_part(table: Table, said: str) -> None:
-    """Puts a table into the page, below what is said of how it was measured."""
-    begin, end = BEGIN.format(name=table.name), END.format(name=table.name)
-    before, rest = PAGE.read_text().split(begin)
-    made = "\n".join([said, "", *map(line_of, table.rows)])
-    PAGE.write_text(before + begin + made + end + rest.split(end)[1])
+    """Puts a table into the page, below what is said of how it was measured. The others stay."""
+    tables = tables_of(PAGE.read_text()) if PAGE.exists() else {}
+    tables[table.name] = "\n".join([said, "", *map(line_of, table.rows)])
+    PAGE.write_text(page_of(tables))
 
 
 def build(source: Path, folder: Path) -> Path:
@@ -468,7 +519,7 @@ def main() -> int:
     parser.add_argument("--turns", type=int, default=25, help=turns)
     only = "only this table; it may be said more than once"
     parser.add_argument("--only", action="append", choices=TABLES, help=only)
-    page = "put the tables into docs/PERFORMANCE.md"
+    page = f"put the tables into {PAGE.relative_to(ROOT)}"
     parser.add_argument("--page", action="store_true", help=page)
     options = parser.parse_args()
     if not os.access(PROGRAM, os.X_OK):

@@ -1,4 +1,5 @@
-"""examples/adjust.py: the program accepts its sheets, and refuses what differs from them by one."""
+"""examples/adjust.py over generated stations: the program accepts its sheets, and refuses them for the
+right fault with one number changed; no file that is there is written over."""
 
 import re
 import subprocess

@@ -1,7 +1,9 @@
-"""`make bench`: its marks, what it says of them and of the machine, and the tables of its page."""
+"""`make bench`: its marks, what it says of them and of a machine that isn't idle, and the page that it
+makes of its tables."""
 
 import io
 import itertools
+import re
 import sys
 import unittest
 from unittest import mock
@@ -98,19 +100,43 @@ class BenchTest(ProgramTest):
             self.assertEqual([True] * marks, [mark.is_kept() for mark in one.marks])
             self.assertIn(f"no program tuned was named: marks are beside {beside}\n", said)
 
-    def test_a_table_is_put_into_its_place_of_the_page(self):
+    def test_the_page_of_what_was_measured_is_made(self):
+        """All of it but the tables themselves stands in bench.py."""
+        page = bench.PAGE.read_text()
+        self.assertEqual([*bench.TABLES], [*bench.TITLES])
+        self.assertEqual([*bench.TABLES], [*bench.tables_of(page)])
+        self.assertEqual(page, bench.page_of(bench.tables_of(page)))
+
+    def test_a_table_is_put_into_its_place_and_the_others_stay(self):
         page, was = self.folder / "page.md", bench.PAGE.read_text()
         for name in bench.TABLES:
             with self.subTest(name), mock.patch.object(bench, "PAGE", page):
-                page.write_text(was)
                 with mock.patch.object(sys, "stdout", io.StringIO()):
                     table = bench.Table(name, "a", "b")
                     table.add(["1", "2"])
-                bench.write_part(table, "As it was measured.")
-                made = "As it was measured.\n\n| a | b |\n| --- | --- |\n| 1 | 2 |"
-                begin, end = bench.BEGIN.format(name=name), bench.END.format(name=name)
-                before, after = was.split(begin)[0], was.split(end)[1]
-                self.assertEqual(before + begin + made + end + after, page.read_text())
+                said = "Commit 1, measured so."
+                made = {name: f"{said}\n\n| a | b |\n| --- | --- |\n| 1 | 2 |"}
+                page.write_text(was)
+                bench.write_part(table, said)
+                self.assertEqual(bench.page_of({**bench.tables_of(was), **made}), page.read_text())
+                page.unlink()
+                bench.write_part(table, said)
+                self.assertEqual(bench.page_of(made), page.read_text())
+                self.assertEqual(made, bench.tables_of(page.read_text()))
+
+    def test_the_page_of_speed_has_the_marks(self):
+        page = (ROOT / "docs" / "PERFORMANCE.md").read_text()
+        said = re.findall(r"^\| .* \| ([\d.]+) (times|ms) \| .*\|$", page, re.MULTILINE)
+        adjusted = dict.fromkeys((most, of) for _, most, of in bench.ADJUSTED)
+        marks = [
+            (bench.TIMES_TUNED, "times"),
+            (bench.TIMES_TUNED_OF_LONG_WORDS, "times"),
+            *((most, "times" if of == bench.TIMES_MEANS else "ms") for most, of in adjusted),
+            (bench.TIMES_DIRECTIONS, "times"),
+            (bench.TIMES_LIST, "times"),
+            (bench.TIMES_LIST_OF_JOB, "times"),
+        ]
+        self.assertEqual(marks, [(float(most), of) for most, of in said])
 
 
 if __name__ == "__main__":

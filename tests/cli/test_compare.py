@@ -1,4 +1,7 @@
-"""Tables of directions compared with field files."""
+"""Tables of directions compared with field files: examples worked out by hand; tables as other
+programs print them, in gon and in degrees, in other encodings too, and the limit that their decimals
+tell; generated stations beside the model; `compare` accepts what `directions` prints with 6 decimals
+or more."""
 
 import unittest
 from random import Random

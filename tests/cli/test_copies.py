@@ -1,5 +1,6 @@
-"""examples/prepare.py: copies of a field file with blocks left out, renamed or put in, and the
-command that shows that nothing else was changed."""
+"""examples/prepare.py: each copy beside what it should be, what is refused, and the command that shows
+that nothing else was changed. Of thousands of jobs, with all kinds of sights before their sets, no
+rule takes a reading of a whole set, and of a broken one all or none."""
 
 import itertools
 import re

@@ -1,5 +1,5 @@
-"""Cut and changed input: every first part of the example, of its sheet and of its table of
-directions, every byte replaced."""
+"""Cut and changed input: each first part of the example, of its sheet and of its tables in gon and in
+degrees; each byte of them replaced by each of twelve."""
 
 import unittest
 

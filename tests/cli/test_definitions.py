@@ -1,4 +1,5 @@
-"""docs/DEFINITIONS.md is made from the comments of the definitions, and is up to date."""
+"""docs/DEFINITIONS.md is made from the comments of the definitions, and is up to date; no name of a
+definition stands for two things in one crate."""
 
 import re
 import sys

@@ -1,4 +1,5 @@
-"""The least-squares directions of stations, complete or not, as tables."""
+"""The least-squares directions of stations as tables: examples worked out by hand, and generated
+stations, complete, with gaps, in a chain or in sessions, beside the model."""
 
 import unittest
 from random import Random

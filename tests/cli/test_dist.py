@@ -1,5 +1,6 @@
-"""`make dist`: the archive runs in a container root that holds nothing else but the C library, and so does the
-package; a page that was made lies beside them."""
+"""`make dist`: the archive runs in a container root that holds nothing else but the C library. So does
+the package, where it does what the pages show, and lintian has no note on it. A page that was made
+lies beside them."""
 
 import hashlib
 import os

@@ -1,6 +1,8 @@
-"""The edge of the program: each option in each order and form, with a value that changes the answer;
-command lines of 1 to 20 words; paths of many forms, beside files of like names that would answer
-otherwise."""
+"""The edge of the program: each option and flag of each command in each order and form, with a value
+that changes the answer; where a command has flags, each choice of its options, in orders and forms
+that are drawn; limits in mgon and in their units, what is nearly one, and their ends; command lines
+of 1 to 20 words; paths of many forms and lengths, and of drawn names and endings, beside files of
+like names that would answer otherwise. The page of trust shows what asks the system."""
 
 import hashlib
 import itertools

@@ -1,4 +1,6 @@
-"""examples/check_folder.py: a folder of many field files and sheets, and folders that lack some."""
+"""examples/check_folder.py over a thousand files, some refused or missing: names, capitals or stations
+that could hide that a sheet is missing; tables in gon and in degrees; jobs without codes; what it
+may write over and remove; names that would control a terminal; pipes."""
 
 import os
 import shutil

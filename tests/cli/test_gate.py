@@ -1,4 +1,6 @@
-"""The gate's ear: what it takes from the lines of `rt ci`, and what it says of them."""
+"""The gate's ear: what it takes from the lines of `rt ci`, and what it says of them: crates proved,
+wrong bodies and why they were refused, notes, failures, counts; which times it keeps, and what it
+says of them at its next start."""
 
 import io
 import json
@@ -168,18 +170,25 @@ class TimesTest(ProgramTest):
         self.assertEqual(f"{said}of commit {gate.commit()} with 7 wrong bodies", gate.last_run())
 
     def test_where_no_run_has_passed_it_says_what_the_page_has(self):
-        page = (ROOT / "docs" / "TESTS.md").read_text()
-        self.assertEqual(1, len(gate.MEASURED.findall(page)))
-        minutes, processors = gate.MEASURED.findall(page)[0]
-        said = "no run here has passed yet; docs/TESTS.md has measured "
-        for text in (None, "", "{}", "[]", '{"minutes": "long"}'):
-            with self.subTest(text):
-                if text is not None:
-                    self.times.write_text(text)
-                self.assertEqual(
-                    f"{said}{minutes} min on {processors} processors on another machine",
-                    gate.last_run(),
-                )
+        page, said = self.folder / "page.md", "no run here has passed yet"
+        has_measured = "; docs/TESTS.md has measured 95 min on 4 threads"
+        for row, more in [
+            ("| `make test` | 95 min | 4 threads |", has_measured),
+            ("| `make test` | 95 min <!-- a note --> | 4 threads |", has_measured),
+            ("| `make test` | not measured yet | |", ""),
+        ]:
+            page.write_text(f"| `make run` | 18 min 35 s | 4 threads |\n{row}\n")
+            for text in (None, "", "{}", "[]", '{"minutes": "long"}'):
+                with self.subTest(row, text=text), mock.patch.object(gate, "TESTS_PAGE", page):
+                    self.times.unlink(missing_ok=True)
+                    if text is not None:
+                        self.times.write_text(text)
+                    self.assertEqual(said + more, gate.last_run())
+
+    def test_the_page_of_tests_has_the_place_of_its_time(self):
+        page = gate.TESTS_PAGE.read_text()
+        self.assertEqual(1, page.count("\n| `make test` | "))
+        self.assertEqual("not measured yet" not in page, bool(gate.MEASURED.search(page)))
 
     def run_of(self, *, failed_proofs, failed_tests):
         """The gate's counts, where so much failed; nothing is run."""
@@ -203,7 +212,7 @@ class TimesTest(ProgramTest):
                 self.assertEqual(not failed_proofs and not failed_tests, is_well)
                 self.assertEqual(is_well, self.times.exists())
                 self.assertEqual(is_well, "times.json keeps the times" in said)
-                self.assertTrue(said.startswith("gate: no run here has passed yet; "), said)
+                self.assertTrue(said.startswith("gate: no run here has passed yet"), said)
 
 
 class ProofsTest(ProgramTest):

@@ -1,4 +1,4 @@
-"""Generated field files and sheets, with every kind of fault, and the largest ones."""
+"""Generated field files, sheets and tables in which each fault is met, and the largest ones."""
 
 import unittest
 from collections import Counter

@@ -1,4 +1,5 @@
-"""`make install` and `make uninstall`, and the manual page."""
+"""`make install` and `make uninstall`: what they put and remove, the links of installed pages, the
+tools where documents are left out; the manual pages by groff and mandoc."""
 
 import os
 import re

@@ -1,4 +1,7 @@
-"""The shared library, from Python and from C: it gives the program's answers, and shows its calls alone."""
+"""The shared library, from Python and from C, gives the program's answers and shows its calls alone:
+the cases of conformance/; room that grows; what is out of its range; calls on several threads; the
+program of its page; the C example, and the header as C++ too; memory that is given back. Each export
+takes and says what its call does."""
 
 import hashlib
 import importlib.util

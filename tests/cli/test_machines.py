@@ -1,4 +1,5 @@
-"""The commands for more than one machine, with this machine as the only one."""
+"""The commands for more than one machine: those of GNU parallel, where it is found, with this machine
+alone; what Slurm runs for a task."""
 
 import csv
 import re

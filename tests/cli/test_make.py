@@ -1,5 +1,6 @@
-"""`make run`: which crates it proves, in which order, and what it keeps, by a toolchain that only says
-what it was asked."""
+"""`make run` and `make try`, by a toolchain that only says what it was asked: which crates are proved,
+in which order and side by side; runs that are cut off; that `make try` says that nothing is proved;
+the same archive however often it is built."""
 
 import os
 import re

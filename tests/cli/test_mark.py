@@ -1,4 +1,5 @@
-"""`mark`: copies of field files with codes put in."""
+"""`mark`: its copies beside the model over made jobs; `list` finds in each what was told, and taking
+the code lines out gives the field file back, by the command of its page; the largest files."""
 
 import itertools
 import os

@@ -1,5 +1,5 @@
 """The plain program of bench/ and the shared library, in one process: both answer alike to field files,
-sheets and tables with changes."""
+sheets and tables with changes; a difference is said, and its files are left."""
 
 import os
 import re

@@ -1,5 +1,6 @@
-"""The limit of residuals to which results of a station are held: its least-squares directions, the
-comparison with them, the differences from them, and reports."""
+"""The limit of residuals of `compare`, `differences`, `directions` and `report`: stations at their
+greatest residual and a half unit below it; a table of a reading that is 6 mgon off; which fault is
+first; that a report tells the limit that held; generated stations beside the model."""
 
 import re
 import unittest

@@ -1,7 +1,5 @@
-"""examples/residuals.py: the page that it fills in, and what has none.
-
-tests/page looks at the page in a browser.
-"""
+"""examples/residuals.py: the page that it fills in is made of the modules that draw now, and has what
+was printed as it is; what `residuals` doesn't print has none. tests/page looks at it in a browser."""
 
 import html
 import subprocess

@@ -1,4 +1,8 @@
-"""The reports of stations, complete or not."""
+"""The reports of stations: examples worked out by hand; the path and the limits as they were given; a
+table that agrees and one that is apart; a wrong direction that stands alone; digests beside those of
+`sha256sum`; paths that would add lines or control a terminal; readings across 0; the rows of `--csv`;
+generated stations and tables beside the model. No line is wider than 100 bytes but those that may
+be, and none ends in a blank."""
 
 import subprocess
 import unittest

@@ -1,4 +1,6 @@
-"""The residuals of stations, complete or not, observation by observation."""
+"""The residuals of stations, observation by observation: examples worked out by hand, and generated
+stations beside the model. Each row adds up, and with the rows of its set and of its target to 0 but
+for rounding."""
 
 import csv
 import io

@@ -1,6 +1,8 @@
-"""Wrong bodies, those that the gate tries and the others: what is kept of them, without a prover;
-and what tries them all, by a toolchain that only says what it was asked."""
+"""Wrong bodies, those that the gate tries and the others: each can be applied to the code as it is, by
+a name of its own; what `make wrong-bodies` tries and says, by a toolchain that only says what it was
+asked; and that the tests are there which find what no proof refuses."""
 
+import csv
 import os
 import re
 import shutil
@@ -18,6 +20,9 @@ CRATES = sorted(path for path in (ROOT / "crates").iterdir() if path.is_dir())
 
 # What the gate tries takes some 20 s of processor each: so many are worth it.
 MOST_OF_THE_GATE = 220
+
+# Mistakes that no contract speaks of. Each was planted once, and failed the tests beside it.
+MISTAKES = ROOT / "tests" / "mistakes.csv"
 
 # The names that rt takes, and the files that an edit may change.
 NAME = re.compile(r"[A-Za-z0-9_-]+\.edit")
@@ -112,6 +117,24 @@ class KeptTest(unittest.TestCase):
     def test_the_gate_tries_no_more_than_it_has_time_for(self):
         tried = [edit for crate in CRATES for edit in (crate / wrong_bodies.TRIED).glob("*.edit")]
         self.assertLessEqual(len(tried), MOST_OF_THE_GATE)
+
+
+def tests_of(where):
+    """What the functions of a crate of tests are called, or those of a file beside this one."""
+    files = [*ROOT.glob(f"crates/{where}/src/**/*.rt"), *ROOT.glob(f"tests/cli/{where}.py")]
+    return {name for path in files for name in re.findall(r"\b(?:def|fn) (\w+)", path.read_text())}
+
+
+class MistakesTest(unittest.TestCase):
+    def test_each_test_that_finds_a_mistake_is_there(self):
+        with open(MISTAKES, newline="", encoding="utf-8") as file:
+            rows = [*csv.DictReader(file)]
+        self.assertGreater(len(rows), 30)
+        for row in rows:
+            with self.subTest(row["mistake"]):
+                found = tests_of(row["where"])
+                self.assertTrue(found)
+                self.assertLessEqual(set(row["test"].split()), found)
 
 
 class ToolTest(ProgramTest):

@@ -1,4 +1,7 @@
-"""The calls of the page give the program's answers: its module and script, taken out of it, in node."""
+"""The calls of the page give the program's answers: its module and scripts, taken out of it as they
+are, in node. Numbers out of their ranges; changed files beside the program; residuals beside those
+of accepted sheets in exact fractions; each of the first allocations refused; a sample by the module
+with 64-bit memory too, where node has that."""
 
 import csv
 import fcntl

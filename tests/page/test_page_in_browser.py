@@ -1,4 +1,7 @@
-"""The page in a browser, as a user sees it: what is shown of each answer, what is saved, printed and sent."""
+"""The page in a headless Chromium, as a user sees it: which text is shown of answers, refusals and
+several files that were really dropped; what is saved and printed; where the picture has each
+residual; that nothing is sent; phone, dark and light, keyboard, what a screen reader is told; that no
+text lacks its translations; that a large file does not hold the window and can be stopped."""
 
 import base64
 import csv

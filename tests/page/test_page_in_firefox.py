@@ -1,4 +1,4 @@
-"""The page in Firefox: the answers that are shown, of each kind of file."""
+"""The page in a headless Firefox, from 113 on: verdicts, and the colours of the picture."""
 
 import shutil
 import subprocess

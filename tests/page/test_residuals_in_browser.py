@@ -1,4 +1,5 @@
-"""What examples/residuals.py writes, in a browser: what it shows, saves and prints."""
+"""What examples/residuals.py writes, in a browser: what it shows, saves and prints; and the picture in
+examples/ is the one that it saves now."""
 
 import shutil
 import subprocess

@@ -1,4 +1,5 @@
-"""The module that is retargeted is the one that the kit makes itself, where it can: of a crate without a heap."""
+"""The module that is retargeted is the one that the kit makes itself, byte for byte, where it can: of
+a crate without a heap."""
 
 import shutil
 import subprocess
