@@ -101,6 +101,7 @@ function setsText(/** @type {import('./records.js').Recognized} */ one) {
 /** What was recognized of a station, in sentences that stand one below the other. */
 export function recognizedTexts(/** @type {import('./records.js').Recognized} */ one) {
   const { isAgain, missing, full, others, isOpenedAgain, equal, zeniths, opening } = one;
+  const { writtenAgain } = one;
   return [
     setsText(one),
     ...isAgain ? [text('recognizedAgain', { station: one.station })] : [],
@@ -109,6 +110,7 @@ export function recognizedTexts(/** @type {import('./records.js').Recognized} */
     ...isOpenedAgain ? [text('recognizedOpenedAgain', { opening })] : [],
     ...equal.map(pair => text('recognizedEqual', pair)),
     ...zeniths.map(range => text('recognizedZeniths', range)),
+    ...writtenAgain > 0 ? [text('recognizedWrittenAgain', { n: writtenAgain })] : [],
   ];
 }
 

@@ -53,6 +53,8 @@ const STATION_WITHOUT_SETS =
 const STATION_WITH_FAULT =
   /^note: station (.*): not recognized, block (\d+): (\w+); (\d+) readings? stays? outside$/;
 const SET_UP_AGAIN = /^note: station (?:.*): set up again$/;
+const WRITTEN_AGAIN =
+  /^note: station (?:.*): set-up line written again (\d+) times?, taken as the same set-up$/;
 const MISSING = /^note: station (?:.*): (\d+) of (\d+) directions? (?:is|are) missing$/;
 const OF_ANOTHER =
   /^note: station (?:.*): (\d+) targets? after the sets in both faces: of another station\?$/;
@@ -69,17 +71,18 @@ const ZENITHS = /^note: station (?:.*): the zenith angles of (.*) differ by (\d+
  * station; whether the target that opens sets by targets is read again after them; which sets are
  * equal, and the targets whose zenith angles differ. Of one without sets no more than its readings,
  * as if all came after; and of one that isn't recognized these, its fault, and the number of the
- * block.
- * @typedef {{ station: string, isAgain: boolean, sets: number, targets: number, opening: string,
- *   turning: string, before: number, after: number, missing: number, full: number,
- *   others: number, isOpenedAgain: boolean, equal: { earlier: string, later: string }[],
+ * block. Of each how often its set-up line was written again.
+ * @typedef {{ station: string, isAgain: boolean, writtenAgain: number, sets: number,
+ *   targets: number, opening: string, turning: string, before: number, after: number,
+ *   missing: number, full: number, others: number, isOpenedAgain: boolean,
+ *   equal: { earlier: string, later: string }[],
  *   zeniths: { target: string, mgon: number }[], fault?: string, block?: number }} Recognized
  */
 
 /** @type {Omit<Recognized, 'station'>} */
 const NO_SETS = {
-  isAgain: false, sets: 0, targets: 0, opening: '', turning: '', before: 0, after: 0, missing: 0,
-  full: 0, others: 0, isOpenedAgain: false, equal: [], zeniths: [],
+  isAgain: false, writtenAgain: 0, sets: 0, targets: 0, opening: '', turning: '', before: 0,
+  after: 0, missing: 0, full: 0, others: 0, isOpenedAgain: false, equal: [], zeniths: [],
 };
 
 /**
@@ -120,6 +123,8 @@ export function recognizedIn(/** @type {string} */ notes) {
     if (last && earlier && later) last.equal = [...last.equal, { earlier, later }];
     const [, target, mgon] = note.match(ZENITHS) ?? [];
     if (last && target) last.zeniths = [...last.zeniths, { target, mgon: Number(mgon) }];
+    const [, writtenAgain] = note.match(WRITTEN_AGAIN) ?? [];
+    if (last && writtenAgain) last.writtenAgain = Number(writtenAgain);
     isAgain = SET_UP_AGAIN.test(note);
   }
   return stations;

@@ -339,6 +339,11 @@ export const TEXTS = {
     de: 'Die Zenitwinkel von {target} weichen um {mgon} mgon voneinander ab: Wurde in einem Satz ein anderer Punkt angezielt?',
     fr: 'Les angles zénithaux de {target} diffèrent de {mgon} mgon : un autre point a-t-il été visé dans une série ?',
   },
+  recognizedWrittenAgain: {
+    en: 'Its set-up line was written again {n} time: this was taken as the same set-up.|Its set-up line was written again {n} times: this was taken as the same set-up.',
+    de: 'Ihre Aufstellungszeile wurde {n}-mal wieder geschrieben: Das gilt als dieselbe Aufstellung.',
+    fr: 'Sa ligne de mise en station a été réécrite {n} fois : cela compte comme la même mise en station.',
+  },
   recognizedNot: {
     en: 'Station {station}: not recognized, block {block}: {fault}. Its {n} reading stays outside, and nothing of it was checked.|Station {station}: not recognized, block {block}: {fault}. Its {n} readings stay outside, and nothing of them was checked.',
     de: 'Station {station}: nicht erkannt, Block {block}: {fault}. Ihre {n} Ablesung bleibt außerhalb; nichts davon wurde geprüft.|Station {station}: nicht erkannt, Block {block}: {fault}. Ihre {n} Ablesungen bleiben außerhalb; nichts davon wurde geprüft.',

@@ -640,6 +640,8 @@ class PageInBrowserTest(TimedTest):
                 self.assertEqual({"read"}, {card[0] for card in self.cards(page)})
                 option = "--same-set-up" if button == buttons[0] else "--again"
                 self.assertIn(f"station_check mark {option} {case}.gsi > {case}_marked.gsi", page.text(".marked pre"))
+                written = "Its set-up line was written again 1 time: this was taken as the same set-up."
+                (self.assertIn if button == buttons[0] else self.assertNotIn)(written, page.text(".marked"))
             # It is asked again where the user wants it.
             with page.answered():
                 page.press("Ask again about stations that are set up twice")

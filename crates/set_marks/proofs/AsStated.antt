@@ -20,6 +20,7 @@ use Rattle.set_marks.specs.declared.sight.Sight.{Sight}
 use Rattle.set_marks.specs.declared.span.Span.{Span}
 use Rattle.job_statements.specs.Numbers.{Said, is_asked, is_other, number_of, numbers_of}
 use Rattle.set_marks.specs.Stations.{Occupation, stations_of}
+use Rattle.set_marks.specs.WrittenAgain.{written_again_of}
 use Rattle.set_marks.specs.Divisions.{sets_of, starts_of, in_span, first_set, parts_at, targets_of}
 use Rattle.set_marks.specs.Divisions.{part, next_of, set_flaw, readings_flaw, order_flaw, sets_flaw}
 use Rattle.set_marks.specs.Divisions.{flaw_when, are_read_alike, is_by_faces, is_by_targets}
@@ -72,8 +73,8 @@ not_by_targets stated before line s span is none =
 -- What is told of a station with sets is what is stated.
 one_as_stated : (stated : Said) (before : Before) (line : List ℕ) (s : Occupation) (span : Span)
     → judged stated before line s ≡ Sets span
-    → IsAsStated (numbers_of stated s.name) (recognized s (Sets span))
-one_as_stated stated before line s span is =
+    → (written : ℕ) → IsAsStated (numbers_of stated s.name) (recognized written s (Sets span))
+one_as_stated stated before line s span is written =
     let numbers = numbers_of stated s.name in
     let inner = in_span span s.sights in
     let taken = are_taken numbers s.sights span (has_no_fault stated before line s span is).divides
@@ -92,22 +93,36 @@ abbrev AsStated : Said → Recognized → Type 0
 AsStated stated r = (r.sets == 0) ≡ false → IsAsStated (numbers_of stated r.name) r
 
 station_as_stated : (stated : Said) (before : Before) (line : List ℕ) (s : Occupation)
-    (d : Divided) → judged stated before line s ≡ d → AsStated stated (recognized s d)
-station_as_stated stated before line s NoSets is some = cc
-station_as_stated stated before line s (Flawed f) is some = cc
-station_as_stated stated before line s (Sets span) is some =
-    one_as_stated stated before line s span is
+    (d : Divided) (written : ℕ) → judged stated before line s ≡ d
+    → AsStated stated (recognized written s d)
+station_as_stated stated before line s NoSets written is some = cc
+station_as_stated stated before line s (Flawed f) written is some = cc
+station_as_stated stated before line s (Sets span) written is some =
+    one_as_stated stated before line s span is written
 
--- So it is of all stations.
-all_as_stated : (stated : Said) (before : Before) (ss : List Occupation)
-    → AreAsStated stated (recognized_from (judged_from stated before ss))
-all_as_stated stated before [] = All-nil (AsStated stated)
-all_as_stated stated before (s ∷ ss) =
+-- So it is with a station before such ones.
+one_more_as_stated : (stated : Said) (before : Before) (s : Occupation) (written : ℕ)
+    (later : List Recognized) → AreAsStated stated later
+    → AreAsStated stated
+    (recognized written (called stated.again before s) (judged_called stated before s) ∷ later)
+one_more_as_stated stated before s written later are =
     let c = called stated.again before s in
     let d = judged_called stated before s in
+    All-cons (AsStated stated) (recognized written c d) later
+    (station_as_stated stated before s.name c d written refl) are
+
+-- So it is of all stations.
+all_as_stated : (stated : Said) (before : Before) (counts : List ℕ) (ss : List Occupation)
+    → AreAsStated stated (recognized_from counts (judged_from stated before ss))
+all_as_stated stated before counts [] = All-nil (AsStated stated)
+all_as_stated stated before [] (s ∷ ss) =
     let after = names_past stated before s in
-    All-cons (AsStated stated) (recognized c d) (recognized_from (judged_from stated after ss))
-    (station_as_stated stated before s.name c d refl) (all_as_stated stated after ss)
+    one_more_as_stated stated before s 0 (recognized_from [] (judged_from stated after ss))
+    (all_as_stated stated after [] ss)
+all_as_stated stated before (n ∷ counts) (s ∷ ss) =
+    let after = names_past stated before s in
+    one_more_as_stated stated before s n (recognized_from counts (judged_from stated after ss))
+    (all_as_stated stated after counts ss)
 
 -- In a set without a flaw targets are read as in the first.
 read_alike : (first set : List Sight) → set_flaw first set ≡ None
@@ -215,7 +230,8 @@ pub marked_as_stated : (beginnings : Beginnings) (stated : Said) (bytes : List �
     → AreAsStated stated m.stations.items
 marked_as_stated beginnings stated bytes answers m marking =
     subst (λ (rs : List Recognized). AreAsStated stated rs) (sym marking.told)
-    (all_as_stated stated none_before (stations_of beginnings marking.blocks))
+    (all_as_stated stated none_before (written_again_of beginnings marking.blocks)
+    (stations_of beginnings marking.blocks))
 
 pub marked_by_faces : (beginnings : Beginnings) (stated : Said) (bytes : List ℕ)
     (answers : FileAnswers) (m : Marked)
@@ -229,7 +245,8 @@ pub marked_few_targets : (beginnings : Beginnings) (stated : Said) (bytes : List
     → All (λ r. r.targets ≤ MOST_TARGETS) m.stations.items
 marked_few_targets beginnings stated bytes answers m marking =
     subst (λ (rs : List Recognized). All (λ r. r.targets ≤ MOST_TARGETS) rs) (sym marking.told)
-    (all_few stated none_before (stations_of beginnings marking.blocks))
+    (all_few stated none_before (written_again_of beginnings marking.blocks)
+    (stations_of beginnings marking.blocks))
 
 pub marked_faultless : (beginnings : Beginnings) (stated : Said) (bytes : List ℕ)
     (answers : FileAnswers) (m : Marked) → IsMarking beginnings stated bytes answers m

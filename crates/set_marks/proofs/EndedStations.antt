@@ -1,10 +1,11 @@
 -- Stations end one after another: what is kept of those that have ended, and of the one that is
 -- open.
-use Rattle.std.proofs.Common.{◌≡◌, ℕ, ◌+◌, ◌-◌, ◌≤◌, Bool, false, List, [], ◌∷◌, ◌++◌, length}
+use Rattle.std.proofs.Common.{◌≡◌, ℕ, ◌+◌, ◌-◌, ◌≤◌, Bool, true, false, List, [], ◌∷◌, ◌++◌, length}
 use Rattle.std.proofs.Common.{take, drop, Option, Some, None, refl, sym, ap, subst, ◌∙◌}
 use Rattle.std.proofs.Common.{arith, append_assoc}
 use Rattle.std.specs.Prelude.{if◌then◌else◌, is_some}
 use Rattle.std.specs.Option.{option_map}
+use Rattle.std.proofs.lemmas.Bool.{false≢true}
 use Rattle.std.proofs.lemmas.List.{append-nil, length-append, length-drop, drop_all, take_all}
 use Rattle.std.proofs.lemmas.List.{drop-append-le, take-append-le}
 use Rattle.gsi_word.specs.Blocks.{GsiBlock}
@@ -21,39 +22,42 @@ use Rattle.job_statements.specs.Numbers.{Said, said_in}
 use Rattle.set_marks.specs.Stations.{SetUp, Occupation, sight_in, sights_of, begins_named}
 use Rattle.set_marks.specs.Stations.{begins_after, set_up_of, open_name, set_ups_of, occupations}
 use Rattle.set_marks.specs.Stations.{stated_or, begun, stations_of}
+use Rattle.set_marks.specs.WrittenAgain.{is_written_again, last_once_more, none_yet, counts_of}
+use Rattle.set_marks.specs.WrittenAgain.{stated_count_or, written_again_of}
 use Rattle.set_marks.specs.Judging.{Before, called, judged_called, judged_from, names_past, none_before}
 use Rattle.set_marks.specs.Marking.{marks_from, recognized_from, station_marks, is_open_after}
 use Rattle.set_marks.specs.Marking.{recognized}
 use Rattle.set_marks.proofs.SetUps.{begins_unread, not_open, one_open, last_open}
+use Rattle.set_marks.proofs.SetUps.{none_open_again, begun_is_new}
 use Rattle.set_marks.proofs.StationReadings.{BeginBy, by_more, by_both}
 use Rattle.set_marks.specs.Keeping.{TakesStation, AreMarkedFirst, AreMarked, Ends, before_in}
 use Rattle.set_marks.specs.Keeping.{open_one, open_in, begun_in, BeginsStation, AddsReading, AddsTo}
-use Rattle.set_marks.specs.Keeping.{begins_in, Adds, Keeps}
+use Rattle.set_marks.specs.Keeping.{open_count, count_in, begins_in, is_again_in, Adds, Keeps}
 
 -- Nothing is marked before the first station.
 pub none_marked : (m : Marking) (stated : Said) → said_in m.stated ≡ stated → m.marks.items ≡ []
     → m.stations.items ≡ [] → before_in m.names ≡ none_before → m.in_set ≡ false
-    → AreMarkedFirst stated [] m
+    → AreMarkedFirst stated [] [] m
 none_marked m stated said marks stations names in_set = record {
   same = said;
   marks = λ later. rw (marks, in_set)
       (ap (λ (b : Before). marks_from false (judged_from stated b later)) (sym names));
-  told = λ later. rw stations
-      (ap (λ (b : Before). recognized_from (judged_from stated b later)) (sym names));
+  told = λ later more. rw stations
+      (ap (λ (b : Before). recognized_from more (judged_from stated b later)) (sym names));
 }
 
 -- A station more is judged, marked and told.
-pub one_marked : (stated : Said) (ended : List Occupation) (s : Occupation) (old new : Marking)
-    → AreMarkedFirst stated ended old
-    → TakesStation s.name (called old.stated.again (before_in old.names) s)
+pub one_marked : (stated : Said) (ended : List Occupation) (counts : List ℕ) (s : Occupation)
+    (n : ℕ) (old new : Marking) → AreMarkedFirst stated ended counts old
+    → TakesStation s.name n (called old.stated.again (before_in old.names) s)
     (judged_called (said_in old.stated) (before_in old.names) s) old new
-    → AreMarkedFirst stated (ended ++ s ∷ []) new
-one_marked stated ended s old new are took =
+    → AreMarkedFirst stated (ended ++ s ∷ []) (counts ++ n ∷ []) new
+one_marked stated ended counts s n old new are took =
     let before = before_in old.names in
     let c = called stated.again before s in
     let d = judged_called stated before s in
-    let takes : TakesStation s.name c d old new =
-    subst (λ (st : Said). TakesStation s.name (called st.again before s)
+    let takes : TakesStation s.name n c d old new =
+    subst (λ (st : Said). TakesStation s.name n (called st.again before s)
     (judged_called st before s) old new) are.same took in
     record {
       same = ap said_in takes.stated ∙ are.same;
@@ -69,37 +73,44 @@ one_marked stated ended s old new are took =
           ∙ ap (λ (b : Bool). new.marks.items ++ marks_from b rest) (sym takes.in_set)
           ∙ ap (λ (names : Before). new.marks.items
           ++ marks_from new.in_set (judged_from stated names later)) (sym takes.names);
-      told = λ later.
-          let rest = judged_from stated (names_past stated before s) later in
-          ap (λ (ss : List Occupation). recognized_from (judged_from stated none_before ss))
+      told = λ later more.
+          let rest = recognized_from more (judged_from stated (names_past stated before s) later) in
+          ap (λ (ss : List Occupation).
+          recognized_from ((counts ++ n ∷ []) ++ more) (judged_from stated none_before ss))
           (append_assoc ended (s ∷ []) later)
-          ∙ are.told (s ∷ later)
-          ∙ sym (append_assoc old.stations.items (recognized c d ∷ []) (recognized_from rest))
-          ∙ ap (λ (rs : List Recognized). rs ++ recognized_from rest) (sym takes.stations)
+          ∙ ap (λ (ns : List ℕ).
+          recognized_from ns (judged_from stated none_before (ended ++ s ∷ later)))
+          (append_assoc counts (n ∷ []) more)
+          ∙ are.told (s ∷ later) (n ∷ more)
+          ∙ sym (append_assoc old.stations.items (recognized n c d ∷ []) rest)
+          ∙ ap (λ (rs : List Recognized). rs ++ rest) (sym takes.stations)
           ∙ ap (λ (names : Before). new.stations.items
-          ++ recognized_from (judged_from stated names later)) (sym takes.names);
+          ++ recognized_from more (judged_from stated names later)) (sym takes.names);
     }
 
 -- The station that is open has ended: it is judged and marked.
 pub open_ended : (old : Readings) (m : Marking) (name : List ℕ) (sights : List Sight)
     → old.station ≡ Some name → sights ≡ old.sights.items
-    → TakesStation name
+    → TakesStation name old.written_again
     (called old.marking.stated.again (before_in old.marking.names)
     (record { name = name; sights = sights }))
     (judged_called (said_in old.marking.stated) (before_in old.marking.names)
     (record { name = name; sights = sights })) old.marking m
-    → (stated : Said) (ended : List Occupation) → AreMarkedFirst stated ended old.marking
-    → AreMarkedFirst stated (ended ++ open_in old) m
-open_ended old m name sights is all takes = λ stated ended are.
+    → (stated : Said) (ended : List Occupation) (counts : List ℕ)
+    → AreMarkedFirst stated ended counts old.marking
+    → AreMarkedFirst stated (ended ++ open_in old) (counts ++ count_in old) m
+open_ended old m name sights is all takes = λ stated ended counts are.
     let s : Occupation = record { name = name; sights = sights } in
-    rw (is, sym all) (one_marked stated ended s old.marking m are takes)
+    rw (is, sym all) (one_marked stated ended counts s old.written_again old.marking m are takes)
 
 -- Where none is open, nothing ends.
 pub none_open : (old new : Readings) → old.station ≡ None → new.marking ≡ old.marking
     → Ends old new
-none_open old new none marking = λ stated ended are.
-    rw (none, marking) (subst (λ (ss : List Occupation). AreMarkedFirst stated ss old.marking)
-    (sym (append-nil ended)) are)
+none_open old new none marking = λ stated ended counts are.
+    rw (none, marking) (subst (λ (ss : List Occupation).
+    AreMarkedFirst stated ss (counts ++ []) old.marking) (sym (append-nil ended))
+    (subst (λ (ns : List ℕ). AreMarkedFirst stated ended ns old.marking) (sym (append-nil counts))
+    are))
 
 at_most : (n : ℕ) (name : Option (List ℕ)) → BeginBy n (set_up_of n name)
 at_most n None = tt
@@ -232,39 +243,73 @@ keeps_open beginnings stated h r kept =
     ap (λ (n : Option (List ℕ)). is_empty (begun_in n)) kept.station
     ∙ one_open (begun beginnings h)
 
+-- The count of the last is one more, whichever stand before it.
+later_once_more : (k : ℕ) (counts : List ℕ) (n : ℕ)
+    → last_once_more (k ∷ (counts ++ n ∷ [])) ≡ k ∷ last_once_more (counts ++ n ∷ [])
+later_once_more k [] n = refl
+later_once_more k (m ∷ counts) n = refl
+
+open_once_more : (counts : List ℕ) (n : ℕ)
+    → last_once_more (counts ++ n ∷ []) ≡ counts ++ (n + 1) ∷ []
+open_once_more [] n = refl
+open_once_more (k ∷ counts) n =
+    later_once_more k counts n ∙ ap (λ (ns : List ℕ). k ∷ ns) (open_once_more counts n)
+
+-- The counts after a block that begins no station: that of the station that is open is one more,
+-- where the block is its set-up line, written again.
+counted_more : (station : Option (List ℕ)) (again : Bool) (counts : List ℕ) (n m : ℕ)
+    → (station ≡ None → again ≡ false) → m ≡ (if again then n + 1 else n)
+    → (if again then last_once_more (counts ++ open_count station n)
+    else (counts ++ open_count station n) ++ []) ≡ counts ++ open_count station m
+counted_more station false counts n m none is =
+    append-nil (counts ++ open_count station n)
+    ∙ ap (λ (k : ℕ). counts ++ open_count station k) (sym is)
+counted_more None true counts n m none is = absurd (false≢true (sym (none refl)))
+counted_more (Some name) true counts n m none is =
+    open_once_more counts n ∙ ap (λ (k : ℕ). counts ++ k ∷ []) (sym is)
+
 -- What is kept before the first block.
 pub none_kept : (beginnings : Beginnings) (stated : Said) (r : Readings)
-    → AreMarkedFirst stated [] r.marking → r.sights.items ≡ []
+    → AreMarkedFirst stated [] [] r.marking → r.sights.items ≡ [] → r.written_again ≡ 0
     → r.station ≡ option_map name_of beginnings.station → r.blocks ≡ 0
     → Keeps beginnings stated [] r
-none_kept beginnings stated r marked sights is blocks = by beginnings.station refl is where
+none_kept beginnings stated r marked sights count is blocks = by beginnings.station refl is where
   by : (station : Option (List ℕ)) → beginnings.station ≡ station
       → r.station ≡ option_map name_of station → Keeps beginnings stated [] r
   by None e none = record {
     ended = [];
+    counts = [];
     stations = rw (e, none) refl;
+    counted = rw (e, none) refl;
     are_ended = marked;
     station = rw (e, none) refl;
     blocks = blocks;
   }
   by (Some name) e one = record {
     ended = [];
+    counts = [];
     stations = rw (e, one, sights) refl;
+    counted = rw (e, one, count) refl;
     are_ended = marked;
     station = rw (e, one) refl;
     blocks = blocks;
   }
 
--- What is kept with a block more, which begins no station.
+-- What is kept with a block more, which begins no station, and after which these are the counts.
 pub reads_more : (beginnings : Beginnings) (stated : Said) (h : History) (b : GsiBlock)
-    (r r' : Readings) → begun beginnings (b ∷ h) ≡ begun beginnings h
-    → Keeps beginnings stated h r → AddsReading b (length h + 1) r r'
+    (again : Bool) (r r' : Readings) → begun beginnings (b ∷ h) ≡ begun beginnings h
+    → (kept : Keeps beginnings stated h r)
+    → written_again_of beginnings (b ∷ h) ≡ kept.counts ++ open_count r.station r'.written_again
+    → AddsReading again b (length h + 1) r r'
     → r'.blocks ≡ length h + 1 → Keeps beginnings stated (b ∷ h) r'
-reads_more beginnings stated h b r r' same kept adds blocks =
+reads_more beginnings stated h b again r r' same kept counted adds blocks =
     let rs = sights_of h in
     let more = sight_in (length h + 1) b in
     record {
       ended = kept.ended;
+      counts = kept.counts;
+      counted = counted ∙ ap (λ (n : Option (List ℕ)).
+          kept.counts ++ open_count n r'.written_again) (sym adds.station);
       stations = ap (λ (ss : List SetUp). occupations ss (rs ++ more)) same
           ∙ occupied_more (begun beginnings h) rs more (begun_by beginnings h)
           ∙ ap (λ (ss : List Occupation). with_more more ss) kept.stations
@@ -296,8 +341,24 @@ begins_next beginnings stated h b name r r' unstated begins kept adds blocks =
     let after : begun beginnings (b ∷ h) ≡ ss ++ new ∷ [] =
     ap (λ (s : Option (List ℕ)). stated_or s (set_ups_of beginnings (b ∷ h))) unstated
     ∙ ap (λ (o : Option (List ℕ)). ss ++ set_up_of (length rs) o) begins in
+    let counts = counts_of beginnings h in
+    let counts_before : counts ≡ kept.counts ++ count_in r =
+    sym (ap (λ (s : Option (List ℕ)). stated_count_or s counts) unstated) ∙ kept.counted in
+    let counts_after : written_again_of beginnings (b ∷ h) ≡ counts ++ 0 ∷ [] =
+    ap (λ (s : Option (List ℕ)). stated_count_or s (counts_of beginnings (b ∷ h))) unstated
+    ∙ ap (λ (t : Bool). if t then last_once_more counts
+    else counts ++ none_yet (begins_after beginnings (open_name ss) b))
+    (begun_is_new beginnings (open_name ss) b name begins)
+    ∙ ap (λ (o : Option (List ℕ)). counts ++ none_yet o) begins in
     record {
       ended = kept.ended ++ open_in r;
+      counts = kept.counts ++ count_in r;
+      counted = counts_after
+          ∙ ap (λ (ns : List ℕ). ns ++ 0 ∷ []) counts_before
+          ∙ ap (λ (n : ℕ). (kept.counts ++ count_in r) ++ open_count (Some name) n)
+          (sym adds.count)
+          ∙ ap (λ (s : Option (List ℕ)).
+          (kept.counts ++ count_in r) ++ open_count s r'.written_again) (sym adds.station);
       stations = ap (λ (ts : List SetUp). occupations ts (rs ++ sight_in (length h + 1) b)) after
           ∙ ap (λ (l : List Sight). occupations (ss ++ new ∷ []) (rs ++ l)) none
           ∙ ap (λ (l : List Sight). occupations (ss ++ new ∷ []) l) (append-nil rs)
@@ -308,7 +369,7 @@ begins_next beginnings stated h b name r r' unstated begins kept adds blocks =
           (sym adds.sights)
           ∙ ap (λ (n : Option (List ℕ)). (kept.ended ++ open_in r) ++ open_one n r'.sights.items)
           (sym adds.station);
-      are_ended = adds.ends stated kept.ended kept.are_ended;
+      are_ended = adds.ends stated kept.ended kept.counts kept.are_ended;
       station = adds.station
           ∙ sym (ap (λ (ts : List SetUp). open_name ts) after ∙ last_open ss new);
       blocks = blocks ∙ omega arith;
@@ -317,17 +378,33 @@ begins_next beginnings stated h b name r r' unstated begins kept adds blocks =
 -- What is kept with a block more, where no station is stated.
 next_unstated : (beginnings : Beginnings) (stated : Said) (h : History) (b : GsiBlock)
     (r r' : Readings) (name : Option (List ℕ)) → beginnings.station ≡ None
+    → r.station ≡ open_name (set_ups_of beginnings h)
     → begins_after beginnings (open_name (set_ups_of beginnings h)) b ≡ name
-    → Keeps beginnings stated h r → AddsTo name b (length h + 1) r r'
+    → Keeps beginnings stated h r
+    → AddsTo name (is_written_again beginnings (open_name (set_ups_of beginnings h)) b)
+    b (length h + 1) r r'
     → r'.blocks ≡ length h + 1 → Keeps beginnings stated (b ∷ h) r'
-next_unstated beginnings stated h b r r' None unstated begins kept adds blocks =
+next_unstated beginnings stated h b r r' None unstated current begins kept adds blocks =
     let ss = set_ups_of beginnings h in
+    let again = is_written_again beginnings (open_name ss) b in
+    let counts = counts_of beginnings h in
+    let counts_before : counts ≡ kept.counts ++ count_in r =
+    sym (ap (λ (s : Option (List ℕ)). stated_count_or s counts) unstated) ∙ kept.counted in
+    let counted : written_again_of beginnings (b ∷ h)
+    ≡ kept.counts ++ open_count r.station r'.written_again =
+    ap (λ (s : Option (List ℕ)). stated_count_or s (counts_of beginnings (b ∷ h))) unstated
+    ∙ ap (λ (o : Option (List ℕ)).
+    if again then last_once_more counts else counts ++ none_yet o) begins
+    ∙ ap (λ (ns : List ℕ). if again then last_once_more ns else ns ++ []) counts_before
+    ∙ counted_more r.station again kept.counts r.written_again r'.written_again
+    (λ none. ap (λ (o : Option (List ℕ)). is_written_again beginnings o b) (sym current ∙ none)
+    ∙ none_open_again beginnings.same_set_up (begins_named beginnings b)) adds.count in
     let same : begun beginnings (b ∷ h) ≡ begun beginnings h =
     ap (λ (o : Option (List ℕ)).
     stated_or beginnings.station (ss ++ set_up_of (length (sights_of h)) o)) begins
     ∙ ap (λ (ts : List SetUp). stated_or beginnings.station ts) (append-nil ss) in
-    reads_more beginnings stated h b r r' same kept adds blocks
-next_unstated beginnings stated h b r r' (Some name) unstated begins kept adds blocks =
+    reads_more beginnings stated h b again r r' same kept counted adds blocks
+next_unstated beginnings stated h b r r' (Some name) unstated current begins kept adds blocks =
     begins_next beginnings stated h b name r r' unstated begins kept adds blocks
 
 -- What is kept with a block more.
@@ -341,7 +418,15 @@ keeps_next beginnings stated h b r r' kept adds = by beginnings.station refl whe
       let same : begun beginnings (b ∷ h) ≡ begun beginnings h =
       ap (λ (s : Option (List ℕ)). stated_or s (set_ups_of beginnings (b ∷ h))) e
       ∙ sym (ap (λ (s : Option (List ℕ)). stated_or s (set_ups_of beginnings h)) e) in
-      reads_more beginnings stated h b r r' same kept (rw e at adds.adds) adds.blocks
+      let counts : written_again_of beginnings (b ∷ h)
+      ≡ kept.counts ++ open_count r.station r.written_again =
+      ap (λ (s : Option (List ℕ)). stated_count_or s (counts_of beginnings (b ∷ h))) e
+      ∙ sym (ap (λ (s : Option (List ℕ)). stated_count_or s (counts_of beginnings h)) e)
+      ∙ kept.counted in
+      let reads : AddsReading false b (length h + 1) r r' = rw e at adds.adds in
+      reads_more beginnings stated h b false r r' same kept
+      (counts ∙ ap (λ (n : ℕ). kept.counts ++ open_count r.station n) (sym reads.count))
+      reads adds.blocks
   by None e =
       let ss = set_ups_of beginnings h in
       let current : r.station ≡ open_name ss = kept.station
@@ -350,25 +435,36 @@ keeps_next beginnings stated h b r r' kept adds = by beginnings.station refl whe
       ap (λ (s : Option (List ℕ)).
       if is_some s then None else begins_after beginnings r.station b) e
       ∙ ap (λ (c : Option (List ℕ)). begins_after beginnings c b) current in
-      next_unstated beginnings stated h b r r' (begins_after beginnings (open_name ss) b) e refl
-      kept
-      (subst (λ (o : Option (List ℕ)). AddsTo o b (length h + 1) r r') begins adds.adds)
+      let again : is_again_in beginnings r.station b
+      ≡ is_written_again beginnings (open_name ss) b =
+      ap (λ (s : Option (List ℕ)).
+      if is_some s then false else is_written_again beginnings r.station b) e
+      ∙ ap (λ (c : Option (List ℕ)). is_written_again beginnings c b) current in
+      next_unstated beginnings stated h b r r' (begins_after beginnings (open_name ss) b) e current
+      refl kept
+      (subst (λ (t : Bool). AddsTo (begins_after beginnings (open_name ss) b) t b (length h + 1) r r')
+      again (subst (λ (o : Option (List ℕ)).
+      AddsTo o (is_again_in beginnings r.station b) b (length h + 1) r r') begins adds.adds))
       adds.blocks
 
 -- All stations are marked, once the last has ended.
 pub all_marked : (beginnings : Beginnings) (stated : Said) (h : History) (old new : Readings)
     → Keeps beginnings stated h old → Ends old new
-    → AreMarkedFirst stated (stations_of beginnings h) new.marking
+    → AreMarkedFirst stated (stations_of beginnings h) (written_again_of beginnings h) new.marking
 all_marked beginnings stated h old new kept ends =
-    subst (λ (ss : List Occupation). AreMarkedFirst stated ss new.marking) (sym kept.stations)
-    (ends stated kept.ended kept.are_ended)
+    subst (λ (ss : List Occupation).
+    AreMarkedFirst stated ss (written_again_of beginnings h) new.marking) (sym kept.stations)
+    (subst (λ (ns : List ℕ). AreMarkedFirst stated (kept.ended ++ open_in old) ns new.marking)
+    (sym kept.counted) (ends stated kept.ended kept.counts kept.are_ended))
 
-pub are_marked : (stated : Said) (stations : List Occupation) (m : Marking)
-    → AreMarkedFirst stated stations m → AreMarked stated stations m
-are_marked stated stations m are = record {
+pub are_marked : (stated : Said) (stations : List Occupation) (counts : List ℕ) (m : Marking)
+    → AreMarkedFirst stated stations counts m → AreMarked stated stations counts m
+are_marked stated stations counts m are = record {
   same = are.same;
   marks = sym (ap (λ (ss : List Occupation). marks_from false (judged_from stated none_before ss))
       (sym (append-nil stations)) ∙ are.marks [] ∙ append-nil m.marks.items);
-  told = sym (ap (λ (ss : List Occupation). recognized_from (judged_from stated none_before ss))
-      (sym (append-nil stations)) ∙ are.told [] ∙ append-nil m.stations.items);
+  told = sym (ap (λ (ss : List Occupation).
+      recognized_from counts (judged_from stated none_before ss)) (sym (append-nil stations))
+      ∙ ap (λ (ns : List ℕ). recognized_from ns (judged_from stated none_before (stations ++ [])))
+      (sym (append-nil counts)) ∙ are.told [] [] ∙ append-nil m.stations.items);
 }

@@ -15,6 +15,7 @@ use Rattle.set_marks.specs.declared.mark.Code.TheVariants.{Station, Set, Close}
 use Rattle.set_marks.specs.declared.remarks.Remarks.{Remarks}
 use Rattle.set_marks.specs.declared.sight.Sight.{Sight}
 use Rattle.set_marks.specs.Stations.{SetUp, sets_up, tells_set_up, sights_of, set_ups_of}
+use Rattle.set_marks.specs.WrittenAgain.{written_again_of}
 use Rattle.set_marks.specs.Divisions.{starts_of}
 use Rattle.set_marks.specs.Ways.{divided}
 use Rattle.set_marks.specs.Stations.{Occupation, begins_named}
@@ -152,13 +153,13 @@ again = sight 6 (codes "A") false ∷ sight 7 (codes "B") false
 
 -- The names of the stations that are told where P1 comes again with a set, and then once more.
 abbrev names_told : List (List ℕ)
-names_told = map (λ r. r.name) (recognized_from (judged_from again_apart none_before
+names_told = map (λ r. r.name) (recognized_from [] (judged_from again_apart none_before
     (station (codes "P1") one_set ∷ station (codes "P1") one_set ∷ station (codes "P1") []
     ∷ station (codes "P1") one_set ∷ [])))
 
 -- What is told of the stations P1, of one set, and P2, where A and B are read as above.
 abbrev told : Said → List Recognized
-told stated = recognized_from (judged_from stated none_before
+told stated = recognized_from [] (judged_from stated none_before
     (station (codes "P1") one_set ∷ station (codes "P2") again ∷ []))
 
 -- What is wrong with P2: with more leading readings the rest goes further.
@@ -251,7 +252,7 @@ after_pair = sight 1 (codes "A") false ∷ sight 2 (codes "A") true
 
 -- what is told, beyond their numbers, of the sets that so many of these readings are
 abbrev remarked : ℕ → List Sight → Option Remarks
-remarked to rs = (recognized (record { name = codes "P1"; sights = rs }) (up_to to)).remarks
+remarked to rs = (recognized 0 (record { name = codes "P1"; sights = rs }) (up_to to)).remarks
 
 -- what is found in such files
 record AreExamples : Type 0 where
@@ -276,6 +277,11 @@ record AreExamples : Type 0 where
   begun_twice : set_ups_of by_set_ups (set_up ∷ set_up ∷ []) ≡ p1 ∷ p1 ∷ []
   joined : set_ups_of by_codes (set_up ∷ set_up ∷ []) ≡ p1 ∷ []
   by_code : set_ups_of by_codes (set_up ∷ coded (w 42 (codes "000000P1") ∷ []) ∷ []) ≡ p1 ∷ []
+  never : written_again_of by_set_ups (set_up ∷ set_up ∷ []) ≡ 0 ∷ 0 ∷ []
+  once : written_again_of by_codes (set_up ∷ set_up ∷ []) ≡ 1 ∷ []
+  three_times : written_again_of by_codes (set_up ∷ set_up ∷ one a_name
+      ∷ coded (w 42 (codes "000000P1") ∷ []) ∷ set_up ∷ coded (w 42 (codes "000000P2") ∷ []) ∷ [])
+      ≡ 0 ∷ 3 ∷ []
   of_no_name : set_ups_of by_codes (coded [] ∷ []) ≡ []
   of_no_code : set_ups_of by_set_ups (coded (w 42 (codes "000000P1") ∷ []) ∷ []) ≡ []
   sets_asked : read_as by_targets None None ≡ at_first kinds.ByTargets
@@ -372,8 +378,8 @@ record AreExamples : Type 0 where
       (record { marked = []; faulty = codes "P1" ∷ []; visits = [] })
       (station (codes "P1") one_set) ≡ at_first kinds.StationTwice
   both_told : told nothing
-      ≡ recognized (station (codes "P1") one_set) (up_to 4)
-      ∷ recognized (station (codes "P2") again) (Flawed alone) ∷ []
+      ≡ recognized 0 (station (codes "P1") one_set) (up_to 4)
+      ∷ recognized 0 (station (codes "P2") again) (Flawed alone) ∷ []
   refused : refusal nothing 10 (told nothing) ≡ Some alone
   left_outside : refusal others 10 (told others) ≡ None
   no_blocks : refusal nothing 1 [] ≡ Some (record { block = 1; kind = kinds.Empty })
@@ -386,7 +392,7 @@ record AreExamples : Type 0 where
       (station (codes "B") one_set) ≡ Flawed (record { block = 2; kind = kinds.SightsItself })
   zero : visit_name (codes "0") 1 ≡ codes "0"
   no_room : visit_name (codes "FIFTEEN OF BYTE") 1 ≡ codes "FIFTEEN OF BYTE"
-  not_there : refusal (of_p1 1) 10 (recognized (station (codes "P2") one_set) (up_to 4) ∷ [])
+  not_there : refusal (of_p1 1) 10 (recognized 0 (station (codes "P2") one_set) (up_to 4) ∷ [])
       ≡ Some (record { block = 10; kind = kinds.NoSuchStation })
 
 -- The digit of a second set-up.
@@ -408,6 +414,9 @@ examples = record {
   begun_twice = refl;
   joined = refl;
   by_code = refl;
+  never = refl;
+  once = refl;
+  three_times = refl;
   of_no_name = refl;
   of_no_code = refl;
   sets_asked = refl;

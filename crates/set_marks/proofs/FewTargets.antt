@@ -88,21 +88,34 @@ abbrev HasFew : Recognized → Type 0
 HasFew r = r.targets ≤ MOST_TARGETS
 
 station_few : (stated : Said) (before : Before) (line : List ℕ) (s : Occupation) (d : Divided)
-    → judged stated before line s ≡ d → HasFew (recognized s d)
-station_few stated before line s NoSets is = omega arith
-station_few stated before line s (Flawed f) is = omega arith
-station_few stated before line s (Sets span) is =
+    (written : ℕ) → judged stated before line s ≡ d → HasFew (recognized written s d)
+station_few stated before line s NoSets written is = omega arith
+station_few stated before line s (Flawed f) written is = omega arith
+station_few stated before line s (Sets span) written is =
     few_with [] (in_span span s.sights) (omega arith)
     (none_found kinds.TooManyTargets (one_too_many [] (in_span span s.sights))
     (has_no_fault stated before line s span is).targets)
 
--- What is told of stations that are judged.
-pub all_few : (stated : Said) (before : Before) (ss : List Occupation)
-    → All HasFew (recognized_from (judged_from stated before ss))
-all_few stated before [] = All-nil HasFew
-all_few stated before (s ∷ ss) =
+-- So it is with a station before such ones.
+one_more_few : (stated : Said) (before : Before) (s : Occupation) (written : ℕ)
+    (later : List Recognized) → All HasFew later
+    → All HasFew
+    (recognized written (called stated.again before s) (judged_called stated before s) ∷ later)
+one_more_few stated before s written later few =
     let c = called stated.again before s in
     let d = judged_called stated before s in
+    All-cons HasFew (recognized written c d) later
+    (station_few stated before s.name c d written refl) few
+
+-- What is told of stations that are judged.
+pub all_few : (stated : Said) (before : Before) (counts : List ℕ) (ss : List Occupation)
+    → All HasFew (recognized_from counts (judged_from stated before ss))
+all_few stated before counts [] = All-nil HasFew
+all_few stated before [] (s ∷ ss) =
     let after = names_past stated before s in
-    All-cons HasFew (recognized c d) (recognized_from (judged_from stated after ss))
-    (station_few stated before s.name c d refl) (all_few stated after ss)
+    one_more_few stated before s 0 (recognized_from [] (judged_from stated after ss))
+    (all_few stated after [] ss)
+all_few stated before (n ∷ counts) (s ∷ ss) =
+    let after = names_past stated before s in
+    one_more_few stated before s n (recognized_from counts (judged_from stated after ss))
+    (all_few stated after counts ss)

@@ -18,6 +18,7 @@ use Rattle.set_marks.specs.declared.recognized.Recognized.{Recognized}
 use Rattle.set_marks.specs.declared.refused.Refused.TheVariants as refused
 use Rattle.job_statements.specs.Numbers.{Said, said_in}
 use Rattle.set_marks.specs.Stations.{stations_of}
+use Rattle.set_marks.specs.WrittenAgain.{written_again_of}
 use Rattle.set_marks.specs.Marking.{marks_of, refusal}
 use Rattle.set_marks.specs.Placing.{placed}
 use Rattle.set_marks.specs.Copies.{woven, AreOrdered, BeginsLine}
@@ -28,7 +29,8 @@ use Rattle.set_marks.proofs.Identity.{made_is_copy}
 -- All stations are judged, marked and told, of whatever is kept in these readings.
 abbrev AllMarked : Readings → Marking → Type 0
 AllMarked r m = (beginnings : Beginnings) (stated : Said) (h : History)
-    → Keeps beginnings stated h r → AreMarked stated (stations_of beginnings h) m
+    → Keeps beginnings stated h r
+    → AreMarked stated (stations_of beginnings h) (written_again_of beginnings h) m
 
 -- The number after the last block is that of the blocks that came, and one more.
 last_is : (beginnings : Beginnings) (stated : Said) (h : History) (r : Readings) (end : ℕ)

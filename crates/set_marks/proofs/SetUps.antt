@@ -1,7 +1,7 @@
 -- Blocks that begin stations: they are no readings, and the last station that has begun is open.
 use Rattle.std.proofs.Common.{◌≡◌, ℕ, Bool, true, false, ◌&&◌, not, List, [], ◌∷◌, ◌++◌}
 use Rattle.std.proofs.Common.{Option, Some, None, refl, sym, ap, ◌∙◌, inl, inr}
-use Rattle.std.specs.Prelude.{if◌then◌else◌, is_some}
+use Rattle.std.specs.Prelude.{if◌then◌else◌, is_some, is_none}
 use Rattle.std.specs.Str.{bytes_eq}
 use Rattle.std.proofs.lemmas.Bool.{cases_Bool, and_parts, false≢true}
 use Rattle.gsi_word.specs.Blocks.{GsiBlock}
@@ -17,7 +17,8 @@ use Rattle.set_marks.specs.declared.fault.MarkKind.TheVariants as kinds
 use Rattle.set_marks.specs.Stations.{SetUp, sets_up, tells_set_up, is_other, has_code, information}
 use Rattle.set_marks.specs.Stations.{begins_named, is_open_as, unless_open, begins_after, open_name}
 use Rattle.set_marks.specs.Stations.{set_up_fault}
-use Rattle.set_marks.specs.Keeping.{begun_in, begins_in}
+use Rattle.set_marks.specs.WrittenAgain.{is_written_again}
+use Rattle.set_marks.specs.Keeping.{begun_in, begins_in, is_again_in}
 
 no_direction : (m l w : Bool) → (m && (l && w)) ≡ true → (m && not l) ≡ false
 no_direction true true w e = refl
@@ -152,6 +153,33 @@ no_set_up_fault beginnings number b e = by (is_some beginnings.station) where
       then Some (At number kinds.HasSetUp) else None) ≡ None
   by true = rw e refl
   by false = refl
+
+-- A block that has no name to begin a station of is no set-up line that is written again.
+pub named_none_again : (beginnings : Beginnings) (current : Option (List ℕ)) (b : GsiBlock)
+    → begins_named beginnings b ≡ None → is_again_in beginnings current b ≡ false
+named_none_again beginnings current b e = by (is_some beginnings.station) where
+  by : (t : Bool) → (if t then false else is_written_again beginnings current b) ≡ false
+  by true = refl
+  by false = ap (λ (o : Option (List ℕ)).
+      is_some o && is_none (unless_open beginnings.same_set_up current o)) e
+
+-- Where no station is open, none is written again.
+pub none_open_again : (same : Bool) (o : Option (List ℕ))
+    → (is_some o && is_none (unless_open same None o)) ≡ false
+none_open_again same None = refl
+none_open_again true (Some name) = refl
+none_open_again false (Some name) = refl
+
+-- What begins a station is none that is written again.
+pub begun_is_new : (beginnings : Beginnings) (current : Option (List ℕ)) (b : GsiBlock)
+    (name : List ℕ) → begins_after beginnings current b ≡ Some name
+    → is_written_again beginnings current b ≡ false
+begun_is_new beginnings current b name e =
+    ap (λ (o : Option (List ℕ)). is_some (begins_named beginnings b) && is_none o) e
+    ∙ by (is_some (begins_named beginnings b)) where
+      by : (t : Bool) → (t && false) ≡ false
+      by true = refl
+      by false = refl
 
 -- What begins, unless its name is had, is named.
 pub not_open : (same : Bool) (current o : Option (List ℕ)) (name : List ℕ)

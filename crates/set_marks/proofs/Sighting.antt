@@ -21,7 +21,7 @@ use Rattle.set_marks.specs.Stations.{SetUp, sight_in, tells_set_up, begins_named
 use Rattle.set_marks.specs.Stations.{fault_as, block_fault, has_code}
 use Rattle.set_marks.specs.Keeping.{Adds}
 use Rattle.set_marks.proofs.SetUps.{reading_names_none, measurement_names_none, uncoded_names_none}
-use Rattle.set_marks.proofs.SetUps.{named_none, no_set_up_fault}
+use Rattle.set_marks.proofs.SetUps.{named_none, named_none_again, no_set_up_fault}
 
 is_second : (b : GsiBlock) → is_of_face Two b
     ≡ (nat_lt HALF_CIRCLE (angles b).zenith && nat_lt (angles b).zenith CIRCLE)
@@ -58,7 +58,8 @@ with_direction b r e = elim (cases_Bool (lacks 21 b)) [
 pub adds_sight : (beginnings : Beginnings) (b : GsiBlock) (number : ℕ) (old new : Readings)
     (r : Reading)
     → role_of b ≡ Measurement → read b ≡ Ok (Some r)
-    → new.station ≡ old.station → new.marking ≡ old.marking
+    → new.station ≡ old.station → new.written_again ≡ old.written_again
+    → new.marking ≡ old.marking
     → new.sights.items ≡ old.sights.items ++ record {
       block = number;
       wide = b.width == 16;
@@ -66,14 +67,17 @@ pub adds_sight : (beginnings : Beginnings) (b : GsiBlock) (number : ℕ) (old ne
       second = nat_lt HALF_CIRCLE r.angles.zenith && nat_lt r.angles.zenith CIRCLE;
       angles = r.angles;
     } ∷ [] → new.blocks ≡ number → Adds beginnings b number old new
-adds_sight beginnings b number old new r role e station marking sights blocks =
+adds_sight beginnings b number old new r role e station count marking sights blocks =
     let sees : has_direction b ≡ true = rw (role, with_direction b r e) refl in
-    let none = named_none beginnings old.station b (reading_names_none beginnings b sees) in
+    let unnamed = reading_names_none beginnings b sees in
+    let none = named_none beginnings old.station b unnamed in
+    let not_again = named_none_again beginnings old.station b unnamed in
     record {
-      adds = rw none (record {
+      adds = rw (none, not_again) (record {
         station = station;
         sights = sights ∙ ap (λ (l : List Sight). old.sights.items ++ l)
             (sym (sight_is number b r role e));
+        count = count;
         marking = marking;
       });
       blocks = blocks;
@@ -98,18 +102,22 @@ no_sight b role e = rw (role, undirected b e) refl
 -- What is kept with a block more that is no reading and begins no station.
 adds_none : (beginnings : Beginnings) (b : GsiBlock) (number : ℕ) (old new : Readings)
     → has_direction b ≡ false → begins_named beginnings b ≡ None
-    → new.station ≡ old.station → new.marking ≡ old.marking
-    → new.sights.items ≡ old.sights.items
+    → new.station ≡ old.station → new.written_again ≡ old.written_again
+    → new.marking ≡ old.marking → new.sights.items ≡ old.sights.items
     → new.blocks ≡ number → Adds beginnings b number old new
-adds_none beginnings b number old new e none station marking sights blocks = record {
-  adds = rw (named_none beginnings old.station b none) (record {
-    station = station;
-    sights = sights ∙ sym (ap (λ (l : List Sight). old.sights.items ++ l)
-        (let no : sight_in number b ≡ [] = rw e refl in no) ∙ append-nil old.sights.items);
-    marking = marking;
-  });
-  blocks = blocks;
-}
+adds_none beginnings b number old new e none station count marking sights blocks =
+    let begins_none = named_none beginnings old.station b none in
+    let not_again = named_none_again beginnings old.station b none in
+    record {
+      adds = rw (begins_none, not_again) (record {
+        station = station;
+        sights = sights ∙ sym (ap (λ (l : List Sight). old.sights.items ++ l)
+            (let no : sight_in number b ≡ [] = rw e refl in no) ∙ append-nil old.sights.items);
+        count = count;
+        marking = marking;
+      });
+      blocks = blocks;
+    }
 
 -- A measurement that says no reading and sets no station up has no fault.
 pub passed_clean : (beginnings : Beginnings) (ss : List SetUp) (number : ℕ) (b : GsiBlock)
@@ -121,12 +129,12 @@ passed_clean beginnings ss number b role e tells = rw (undirected b e)
 -- What is kept with such a measurement more.
 pub adds_passed : (beginnings : Beginnings) (b : GsiBlock) (number : ℕ) (old new : Readings)
     → role_of b ≡ Measurement → read b ≡ Ok None → tells_set_up b ≡ false
-    → new.station ≡ old.station → new.marking ≡ old.marking
-    → new.sights.items ≡ old.sights.items
+    → new.station ≡ old.station → new.written_again ≡ old.written_again
+    → new.marking ≡ old.marking → new.sights.items ≡ old.sights.items
     → new.blocks ≡ number → Adds beginnings b number old new
-adds_passed beginnings b number old new role e tells station marking sights blocks =
+adds_passed beginnings b number old new role e tells station count marking sights blocks =
     adds_none beginnings b number old new (no_sight b role e)
-    (measurement_names_none beginnings b role tells) station marking sights blocks
+    (measurement_names_none beginnings b role tells) station count marking sights blocks
 
 -- A block that is neither a measurement nor of code 10, 20 or 30 has no fault where it hasn't the
 -- code that is stated.
@@ -139,9 +147,9 @@ other_clean beginnings ss number b one role code = rw (one, role, code)
 -- What is kept with such a block more.
 pub adds_other : (beginnings : Beginnings) (b : GsiBlock) (number : ℕ) (old new : Readings)
     → role_of b ≡ Other → has_code beginnings.code b ≡ false
-    → new.station ≡ old.station → new.marking ≡ old.marking
-    → new.sights.items ≡ old.sights.items
+    → new.station ≡ old.station → new.written_again ≡ old.written_again
+    → new.marking ≡ old.marking → new.sights.items ≡ old.sights.items
     → new.blocks ≡ number → Adds beginnings b number old new
-adds_other beginnings b number old new role code station marking sights blocks =
+adds_other beginnings b number old new role code station count marking sights blocks =
     adds_none beginnings b number old new (rw role refl)
-    (uncoded_names_none beginnings b role code) station marking sights blocks
+    (uncoded_names_none beginnings b role code) station count marking sights blocks

@@ -22,13 +22,13 @@ use Rattle.set_marks.proofs.Few.{few_sets, none_of_three}
 use Rattle.set_marks.proofs.Judged.{is_short}
 
 -- A station without sets stays outside.
-pub takes_none : (line : List ℕ) (s : Occupation) (old new : Marking)
+pub takes_none : (line : List ℕ) (written : ℕ) (s : Occupation) (old new : Marking)
     → new.stated ≡ old.stated
     → new.marks.items ≡ old.marks.items ++ close_mark old.in_set s.sights
-    → new.stations.items ≡ old.stations.items ++ outside s None ∷ []
+    → new.stations.items ≡ old.stations.items ++ outside written s None ∷ []
     → new.names ≡ old.names → new.in_set ≡ (old.in_set && is_empty s.sights)
-    → TakesStation line s NoSets old new
-takes_none line s old new stated marks stations names in_set = record {
+    → TakesStation line written s NoSets old new
+takes_none line written s old new stated marks stations names in_set = record {
   stated = stated;
   marks = marks;
   stations = stations;
@@ -37,13 +37,14 @@ takes_none line s old new stated marks stations names in_set = record {
 }
 
 -- So does one with a fault.
-pub takes_fault : (line : List ℕ) (s : Occupation) (f : Flaw) (old new : Marking)
+pub takes_fault : (line : List ℕ) (written : ℕ) (s : Occupation) (f : Flaw) (old new : Marking)
     → new.stated ≡ old.stated
     → new.marks.items ≡ old.marks.items ++ close_mark old.in_set s.sights
-    → new.stations.items ≡ old.stations.items ++ outside s (Some f) ∷ []
+    → new.stations.items ≡ old.stations.items ++ outside written s (Some f) ∷ []
     → before_in new.names ≡ names_after (before_in old.names) line s (Flawed f)
-    → new.in_set ≡ (old.in_set && is_empty s.sights) → TakesStation line s (Flawed f) old new
-takes_fault line s f old new stated marks stations names in_set = record {
+    → new.in_set ≡ (old.in_set && is_empty s.sights)
+    → TakesStation line written s (Flawed f) old new
+takes_fault line written s f old new stated marks stations names in_set = record {
   stated = stated;
   marks = marks;
   stations = stations;
@@ -52,11 +53,11 @@ takes_fault line s f old new stated marks stations names in_set = record {
 }
 
 -- One with sets, of few targets, is marked.
-pub takes_sets : (line : List ℕ) (s : Occupation) (span : Span) (old new : Marking)
+pub takes_sets : (line : List ℕ) (written : ℕ) (s : Occupation) (span : Span) (old new : Marking)
     → targets_fault s span ≡ None
-    → TakesStation line s (Sets span) old new
-    → TakesStation line s (divided_unless (targets_fault s span) span) old new
-takes_sets line s span old new none takes = rw none takes
+    → TakesStation line written s (Sets span) old new
+    → TakesStation line written s (divided_unless (targets_fault s span) span) old new
+takes_sets line written s span old new none takes = rw none takes
 
 -- What a station with sets is judged to be.
 unless_more : (o : Option Flaw) (span : Span)

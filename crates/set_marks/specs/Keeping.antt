@@ -1,6 +1,6 @@
 -- What the code keeps of the blocks of a file, and what it answers on the way.
-use Rattle.std.specs.Prelude.{◌≡◌, ℕ, List, [], ◌∷◌, ◌++◌, length, false, if◌then◌else◌, Option}
-use Rattle.std.specs.Prelude.{Some, None, is_some, Result, Ok, Err, ⊤}
+use Rattle.std.specs.Prelude.{◌≡◌, ℕ, ◌+◌, Bool, List, [], ◌∷◌, ◌++◌, length, false, if◌then◌else◌}
+use Rattle.std.specs.Prelude.{Option, Some, None, is_some, Result, Ok, Err, ⊤}
 use Rattle.gsi_word.specs.Blocks.{GsiBlock}
 use Rattle.gsi_file.specs.FileAnswers.{FileAnswers}
 use Rattle.station_book.specs.Places.{History}
@@ -15,6 +15,7 @@ use Rattle.set_marks.specs.declared.sight.Sight.{Sight}
 use Rattle.job_statements.specs.Numbers.{Said, said_in}
 use Rattle.set_marks.specs.Stations.{SetUp, Occupation, begun, open_name, begins_after, sight_in}
 use Rattle.set_marks.specs.Stations.{fault_of_blocks, stations_of}
+use Rattle.set_marks.specs.WrittenAgain.{is_written_again, written_again_of}
 use Rattle.set_marks.specs.Judging.{Before, none_before, names_after, judged_from}
 use Rattle.set_marks.specs.Marking.{marks_from, recognized_from, station_marks, is_open_after}
 use Rattle.set_marks.specs.Marking.{recognized}
@@ -36,6 +37,15 @@ open_one (Some name) rs = record { name = name; sights = rs } ∷ []
 abbrev pub open_in : Readings → List Occupation
 open_in r = open_one r.station r.sights.items
 
+-- how often the set-up line of the station of this name was written again, where one is open
+abbrev pub open_count : Option (List ℕ) → ℕ → List ℕ
+open_count None n = []
+open_count (Some name) n = n ∷ []
+
+-- how often that of the station that is open was written again so far
+abbrev pub count_in : Readings → List ℕ
+count_in r = open_count r.station r.written_again
+
 -- the begin of a station, where one is open
 abbrev pub begun_in : Option (List ℕ) → List SetUp
 begun_in None = []
@@ -46,59 +56,72 @@ abbrev pub before_in : StationNames → Before
 before_in names =
     record { marked = names.marked; faulty = names.faulty; visits = names.visits }
 
--- These stations, of whose sets this is stated, are judged, marked and told, whichever come after
--- them.
-pub record AreMarkedFirst (stated : Said) (ended : List Occupation) (m : Marking)
+-- These stations, of whose sets this is stated, and whose set-up lines were written again so often,
+-- are judged, marked and told, whichever come after them.
+pub record AreMarkedFirst (stated : Said) (ended : List Occupation) (counts : List ℕ) (m : Marking)
     : Type 0 where
   pub same : said_in m.stated ≡ stated
   pub marks : (later : List Occupation)
       → marks_from false (judged_from stated none_before (ended ++ later))
       ≡ m.marks.items ++ marks_from m.in_set (judged_from stated (before_in m.names) later)
-  pub told : (later : List Occupation)
-      → recognized_from (judged_from stated none_before (ended ++ later))
-      ≡ m.stations.items ++ recognized_from (judged_from stated (before_in m.names) later)
+  pub told : (later : List Occupation) (more : List ℕ)
+      → recognized_from (counts ++ more) (judged_from stated none_before (ended ++ later))
+      ≡ m.stations.items ++ recognized_from more (judged_from stated (before_in m.names) later)
 
 -- The station that is open has ended too.
 abbrev pub Ends : Readings → Readings → Type 0
-Ends old new = (stated : Said) (ended : List Occupation)
-    → AreMarkedFirst stated ended old.marking
-    → AreMarkedFirst stated (ended ++ open_in old) new.marking
+Ends old new = (stated : Said) (ended : List Occupation) (counts : List ℕ)
+    → AreMarkedFirst stated ended counts old.marking
+    → AreMarkedFirst stated (ended ++ open_in old) (counts ++ count_in old) new.marking
 
 -- A block begins a station of this name, and ends the one that was open.
 pub record BeginsStation (name : List ℕ) (old new : Readings) : Type 0 where
   pub station : new.station ≡ Some name
   pub sights : new.sights.items ≡ []
+  pub count : new.written_again ≡ 0
   pub ends : Ends old new
 
--- A block begins none, and is one more reading, if it is one.
-pub record AddsReading (b : GsiBlock) (number : ℕ) (old new : Readings) : Type 0 where
+-- A block begins none, and is one more reading, if it is one, or the set-up line of the station that
+-- is open, if it is that, written again.
+pub record AddsReading (again : Bool) (b : GsiBlock) (number : ℕ) (old new : Readings)
+    : Type 0 where
   pub station : new.station ≡ old.station
   pub sights : new.sights.items ≡ old.sights.items ++ sight_in number b
+  pub count : new.written_again ≡ (if again then old.written_again + 1
+      else old.written_again)
   pub marking : new.marking ≡ old.marking
 
 -- the one, where a block begins a station of this name, or the other
-abbrev pub AddsTo : Option (List ℕ) → GsiBlock → ℕ → Readings → Readings → Type 0
-AddsTo (Some name) b number old new = BeginsStation name old new
-AddsTo None b number old new = AddsReading b number old new
+abbrev pub AddsTo : Option (List ℕ) → Bool → GsiBlock → ℕ → Readings → Readings → Type 0
+AddsTo (Some name) again b number old new = BeginsStation name old new
+AddsTo None again b number old new = AddsReading again b number old new
 
 -- the name of the station that a block begins where one of this name is open, unless one is stated
 abbrev pub begins_in : Beginnings → Option (List ℕ) → GsiBlock → Option (List ℕ)
 begins_in beginnings current b =
     if is_some beginnings.station then None else begins_after beginnings current b
 
+-- whether it is the set-up line of this station, written again, unless one is stated
+abbrev pub is_again_in : Beginnings → Option (List ℕ) → GsiBlock → Bool
+is_again_in beginnings current b =
+    if is_some beginnings.station then false else is_written_again beginnings current b
+
 -- A block more is kept: the station that it begins, or its reading.
 pub record Adds (beginnings : Beginnings) (b : GsiBlock) (number : ℕ) (old new : Readings)
     : Type 0 where
-  pub adds : AddsTo (begins_in beginnings old.station b) b number old new
+  pub adds : AddsTo (begins_in beginnings old.station b) (is_again_in beginnings old.station b)
+      b number old new
   pub blocks : new.blocks ≡ number
 
 -- These blocks are kept: the stations that have ended, of whose sets this is stated, and the one
--- that is open.
+-- that is open; and how often the set-up line of each was written again.
 pub record Keeps (beginnings : Beginnings) (stated : Said) (h : History) (r : Readings)
     : Type 0 where
   pub ended : List Occupation
+  pub counts : List ℕ
   pub stations : stations_of beginnings h ≡ ended ++ open_in r
-  pub are_ended : AreMarkedFirst stated ended r.marking
+  pub counted : written_again_of beginnings h ≡ counts ++ count_in r
+  pub are_ended : AreMarkedFirst stated ended counts r.marking
   pub station : r.station ≡ open_name (begun beginnings h)
   pub blocks : r.blocks ≡ length h
 
@@ -116,17 +139,20 @@ abbrev pub AnswersReadings : Beginnings → Said → FileAnswers → Result Read
 AnswersReadings beginnings stated answers (Ok r) = AreReadings beginnings stated answers r
 AnswersReadings beginnings stated answers (Err fault) = IsFault beginnings answers fault
 
--- A station more, which was set up under this name, is marked and told.
-pub record TakesStation (line : List ℕ) (s : Occupation) (d : Divided) (old new : Marking)
-    : Type 0 where
+-- A station more, which was set up under this name, and whose set-up line was written again so
+-- often, is marked and told.
+pub record TakesStation (line : List ℕ) (written : ℕ) (s : Occupation) (d : Divided)
+    (old new : Marking) : Type 0 where
   pub stated : new.stated ≡ old.stated
   pub marks : new.marks.items ≡ old.marks.items ++ station_marks old.in_set s d
-  pub stations : new.stations.items ≡ old.stations.items ++ recognized s d ∷ []
+  pub stations : new.stations.items ≡ old.stations.items ++ recognized written s d ∷ []
   pub names : before_in new.names ≡ names_after (before_in old.names) line s d
   pub in_set : new.in_set ≡ is_open_after old.in_set s d
 
--- These stations, of whose sets this is stated, are judged, marked and told.
-pub record AreMarked (stated : Said) (stations : List Occupation) (m : Marking) : Type 0 where
+-- These stations, of whose sets this is stated, and whose set-up lines were written again so often,
+-- are judged, marked and told.
+pub record AreMarked (stated : Said) (stations : List Occupation) (counts : List ℕ) (m : Marking)
+    : Type 0 where
   pub same : said_in m.stated ≡ stated
   pub marks : m.marks.items ≡ marks_from false (judged_from stated none_before stations)
-  pub told : m.stations.items ≡ recognized_from (judged_from stated none_before stations)
+  pub told : m.stations.items ≡ recognized_from counts (judged_from stated none_before stations)

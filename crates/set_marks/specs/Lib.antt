@@ -1,5 +1,6 @@
 -- The public definitions, in the order in which a reader needs them.
 pub mod Stations
+pub mod WrittenAgain
 pub mod Divisions
 pub mod Outside
 pub mod Doubts

@@ -22,6 +22,7 @@ use Rattle.set_marks.specs.declared.span.Span.{Span}
 use Rattle.job_statements.specs.declared.stated.NamedNumber.{NamedNumber}
 use Rattle.job_statements.specs.Numbers.{Said}
 use Rattle.set_marks.specs.Stations.{Occupation}
+use Rattle.set_marks.specs.WrittenAgain.{written_again_of}
 use Rattle.set_marks.specs.Divisions.{starts_of, targets_of, in_span, are_by_targets}
 use Rattle.set_marks.specs.Judging.{Judged, judged_of}
 use Rattle.set_marks.specs.Remarks.{remarks_of}
@@ -73,9 +74,10 @@ marks_from in_set (j ∷ js) =
 abbrev pub marks_of : Beginnings → Said → History → List BlockMark
 marks_of beginnings stated h = marks_from false (judged_of beginnings stated h)
 
--- what is told of a station of which all readings stand outside, with its fault, if it has one
-abbrev pub outside : Occupation → Option Flaw → Recognized
-outside s fault = record {
+-- what is told of a station of which all readings stand outside, with its fault, if it has one, and
+-- whose set-up line was written again so often
+abbrev pub outside : ℕ → Occupation → Option Flaw → Recognized
+outside written s fault = record {
   name = s.name;
   fault = fault;
   sets = 0;
@@ -84,13 +86,14 @@ outside s fault = record {
   before = length s.sights;
   after = 0;
   remarks = None;
+  written_again = written;
 }
 
--- what is told of a station
-abbrev pub recognized : Occupation → Divided → Recognized
-recognized s NoSets = outside s None
-recognized s (Flawed f) = outside s (Some f)
-recognized s (Sets span) = record {
+-- what is told of a station whose set-up line was written again so often
+abbrev pub recognized : ℕ → Occupation → Divided → Recognized
+recognized written s NoSets = outside written s None
+recognized written s (Flawed f) = outside written s (Some f)
+recognized written s (Sets span) = record {
   name = s.name;
   fault = None;
   sets = length (starts_of (in_span span s.sights));
@@ -99,16 +102,22 @@ recognized s (Sets span) = record {
   before = span.from;
   after = length s.sights - span.to;
   remarks = remarks_of (in_span span s.sights) (drop span.to s.sights);
+  written_again = written;
 }
 
--- what is told of these stations, also of one without readings
-abbrev pub recognized_from : List Judged → List Recognized
-recognized_from [] = []
-recognized_from (j ∷ js) = recognized j.station j.division ∷ recognized_from js
+-- What is told of these stations, also of one without readings. Their set-up lines were written
+-- again so often; that of one without a count never.
+abbrev pub recognized_from : List ℕ → List Judged → List Recognized
+recognized_from counts [] = []
+recognized_from [] (j ∷ js) = recognized 0 j.station j.division ∷ recognized_from [] js
+recognized_from (n ∷ counts) (j ∷ js) =
+    recognized n j.station j.division ∷ recognized_from counts js
 
--- What is told of a file: of each station, in the file's order.
+-- What is told of a file: of each station, in the file's order, with how often its set-up line was
+-- written again.
 abbrev pub recognized_of : Beginnings → Said → History → List Recognized
-recognized_of beginnings stated h = recognized_from (judged_of beginnings stated h)
+recognized_of beginnings stated h =
+    recognized_from (written_again_of beginnings h) (judged_of beginnings stated h)
 
 -- the fault of the first of these stations that has one
 abbrev pub first_fault : List Recognized → Option Flaw

@@ -10,6 +10,7 @@ ghost use Rattle.job_statements.specs.declared.beginnings.Beginnings.{Beginnings
 ghost use Rattle.job_statements.specs.Numbers.{Said, said_in};
 ghost use Rattle.set_marks.specs.Marks.{IsRoomy};
 ghost use Rattle.set_marks.specs.Stations.{stations_of};
+ghost use Rattle.set_marks.specs.WrittenAgain.{written_again_of};
 ghost use Rattle.set_marks.specs.Keeping.{AreMarked, AreMarkedFirst, Ends, Keeps};
 
 use crate::marking::Marking;
@@ -24,13 +25,15 @@ impl Readings {
     pub(crate) fn new(alloc: Global, station: Option<Name>, stated: Stated) -> Readings
         ensures station { result.station ≡ station }
         ensures sights { result.sights.items ≡ [] }
+        ensures count { result.written_again ≡ 0 }
         ensures room { All IsRoomy result.marking.marks.items }
-        ensures marked { AreMarkedFirst (said_in stated) [] result.marking }
+        ensures marked { AreMarkedFirst (said_in stated) [] [] result.marking }
         ensures blocks { result.blocks ≡ 0 }
     {
         Readings {
             station,
             sights: Vec::new(alloc),
+            written_again: 0,
             marking: Marking::new(alloc, stated),
             blocks: 0,
         }
@@ -60,7 +63,8 @@ impl Readings {
         let Some(name) = self.station else {
             return Ok(());
         };
-        self.marking.take(alloc, &name, &self.sights)?;
+        self.marking
+            .take(alloc, &name, &self.sights, self.written_again)?;
         Ok(())
     }
 
@@ -70,7 +74,7 @@ impl Readings {
         ensures room { IfOk result (λ m. All IsRoomy m.marks.items) }
         ensures marked { IfOk result (λ m. (beginnings : Beginnings) (stated : Said)
             (h : History) → Keeps beginnings stated h self
-            → AreMarked stated (stations_of beginnings h) m) }
+            → AreMarked stated (stations_of beginnings h) (written_again_of beginnings h) m) }
     {
         let mut readings = self;
         readings.end_station(alloc)?;

@@ -158,6 +158,7 @@ impl Marking {
         &mut self,
         name: &Name,
         sights: &[Sight],
+        written_again: usize,
         fault: Option<Flaw>,
     ) -> Result<(), AllocError>
         requires room { All IsRoomy self.old.marks.items }
@@ -166,7 +167,8 @@ impl Marking {
         ensures marks { OnOk result (self.new.marks.items
             ≡ self.old.marks.items ++ close_mark self.old.in_set sights.now) }
         ensures stations { OnOk result (self.new.stations.items ≡ self.old.stations.items
-            ++ outside (record { name = name.now; sights = sights.now }) fault ∷ []) }
+            ++ outside written_again (record { name = name.now; sights = sights.now }) fault
+            ∷ []) }
         ensures names { OnOk result (self.new.names ≡ self.old.names) }
         ensures in_set { OnOk result
             (self.new.in_set ≡ (self.old.in_set && is_empty sights.now)) }
@@ -182,6 +184,7 @@ impl Marking {
             before: sights.len(),
             after: 0,
             remarks: None,
+            written_again,
         })?;
         Ok(())
     }
@@ -193,13 +196,14 @@ impl Marking {
         line: &Name,
         name: &Name,
         sights: &[Sight],
+        written_again: usize,
     ) -> Result<(), AllocError>
         requires room { All IsRoomy self.old.marks.items }
         ensures room { All IsRoomy self.new.marks.items }
-        ensures takes { OnOk result (TakesStation line.now
+        ensures takes { OnOk result (TakesStation line.now written_again
             (record { name = name.now; sights = sights.now }) NoSets self.old self.new) }
     {
-        self.leave_outside(name, sights, None)
+        self.leave_outside(name, sights, written_again, None)
     }
 
     /// Takes a station that has this fault.
@@ -209,14 +213,15 @@ impl Marking {
         line: &Name,
         name: &Name,
         sights: &[Sight],
+        written_again: usize,
         flaw: Flaw,
     ) -> Result<(), AllocError>
         requires room { All IsRoomy self.old.marks.items }
         ensures room { All IsRoomy self.new.marks.items }
-        ensures takes { OnOk result (TakesStation line.now
+        ensures takes { OnOk result (TakesStation line.now written_again
             (record { name = name.now; sights = sights.now }) (Flawed flaw) self.old self.new) }
     {
-        self.leave_outside(name, sights, Some(flaw))?;
+        self.leave_outside(name, sights, written_again, Some(flaw))?;
         self.names.faulty.add(name)?;
         self.names.visits.add(line)?;
         Ok(())
@@ -229,13 +234,14 @@ impl Marking {
         line: &Name,
         name: &Name,
         sights: &[Sight],
+        written_again: usize,
         span: Span,
     ) -> Result<(), AllocError>
         requires few { length (starts_of (in_span span sights.now)) ≤ MOST_SETS }
         requires here { is_too_long name.now (slice_get sights.now span.from) ≡ false }
         requires room { All IsRoomy self.old.marks.items }
         ensures room { All IsRoomy self.new.marks.items }
-        ensures takes { OnOk result (TakesStation line.now
+        ensures takes { OnOk result (TakesStation line.now written_again
             (record { name = name.now; sights = sights.now })
             (divided_unless (targets_fault (record { name = name.now; sights = sights.now })
             span) span) self.old self.new) }
@@ -244,7 +250,7 @@ impl Marking {
         let starts = starts_of(alloc, in_sets)?;
         let targets = count_targets(alloc, in_sets)?;
         if let Some(flaw) = targets_fault(alloc, targets, in_sets)? {
-            return self.take_faulty(line, name, sights, flaw);
+            return self.take_faulty(line, name, sights, written_again, flaw);
         }
         let after = rest_after(span.to, sights);
         let remarks = remarks_of(alloc, &starts, in_sets, targets, after)?;
@@ -261,27 +267,30 @@ impl Marking {
             before: span.from,
             after: sights.len().saturating_sub(span.to),
             remarks,
+            written_again,
         })?;
         Ok(())
     }
 
-    /// Takes a station of the name of a set-up line: it is judged by the name that it is called.
+    /// Takes a station of the name of a set-up line, which was written again so often: it is judged
+    /// by the name that it is called.
     pub(crate) fn take(
         &mut self,
         alloc: Global,
         line: &Name,
         sights: &[Sight],
+        written_again: usize,
     ) -> Result<(), AllocError>
         requires room { All IsRoomy self.old.marks.items }
         ensures room { All IsRoomy self.new.marks.items }
-        ensures takes { OnOk result (TakesStation line.now
+        ensures takes { OnOk result (TakesStation line.now written_again
             (called self.old.stated.again (before_in self.old.names)
             (record { name = line.now; sights = sights.now }))
             (judged_called (said_in self.old.stated) (before_in self.old.names)
             (record { name = line.now; sights = sights.now })) self.old self.new) }
     {
         let name = self.names.called(self.stated.again, line, sights);
-        self.take_called(alloc, line, &name, sights)
+        self.take_called(alloc, line, &name, sights, written_again)
     }
 
     /// Takes a station that is called so: it is judged by itself, and marked where it has sets.
@@ -292,23 +301,24 @@ impl Marking {
         line: &Name,
         name: &Name,
         sights: &[Sight],
+        written_again: usize,
     ) -> Result<(), AllocError>
         requires room { All IsRoomy self.old.marks.items }
         ensures room { All IsRoomy self.new.marks.items }
-        ensures takes { OnOk result (TakesStation line.now
+        ensures takes { OnOk result (TakesStation line.now written_again
             (record { name = name.now; sights = sights.now })
             (judged (said_in self.old.stated) (before_in self.old.names) line.now
             (record { name = name.now; sights = sights.now })) self.old self.new) }
     {
         match divide(alloc, self.stated.of(name), sights)? {
-            Divided::NoSets => self.take_without_sets(line, name, sights),
+            Divided::NoSets => self.take_without_sets(line, name, sights, written_again),
             Divided::Flawed(flaw) => match self.names.twice_fault(name, sights) {
-                Some(twice) => self.take_faulty(line, name, sights, twice),
-                None => self.take_faulty(line, name, sights, flaw),
+                Some(twice) => self.take_faulty(line, name, sights, written_again, twice),
+                None => self.take_faulty(line, name, sights, written_again, flaw),
             },
             Divided::Sets(span) => match sets_fault(&mut self.names, line, name, sights, span) {
-                Some(flaw) => self.take_faulty(line, name, sights, flaw),
-                None => self.take_sets(alloc, line, name, sights, span),
+                Some(flaw) => self.take_faulty(line, name, sights, written_again, flaw),
+                None => self.take_sets(alloc, line, name, sights, written_again, span),
             },
         }
     }

@@ -1,6 +1,6 @@
 //! How the blocks of a field file are read.
 
-ghost use Rattle.std.specs.Prelude.{◌≡◌, ◌≤◌, ◌++◌, ◌∷◌, [], All, IfErr, OnOk, None, Some};
+ghost use Rattle.std.specs.Prelude.{◌≡◌, ◌≤◌, ◌+◌, ◌++◌, ◌∷◌, [], All, IfErr, OnOk, None, Some};
 ghost use Rattle.std.specs.Prelude.{false, not, nat_lt, ◌&&◌};
 ghost use Rattle.std.specs.Bool.{OnTrue};
 ghost use Rattle.station_book.specs.declared.bounds.TheConstants.{CIRCLE, HALF_CIRCLE};
@@ -368,7 +368,7 @@ impl Readings {
             return Err(MarkFault::At(number, MarkKind::HasSetUp));
         }
         if beginnings.same_set_up && self.is_open_as(&name) {
-            self.blocks = number;
+            self.count_again(number)?;
             return Ok(());
         }
         self.begin_station(alloc, number, name)?;
@@ -385,6 +385,24 @@ impl Readings {
         }
     }
 
+    /// Counts that the set-up line of the station that is open was written again. What no count can
+    /// hold is no memory.
+    fn count_again(&mut self, number: u32) -> Result<(), AllocError>
+        requires { number ≤ LONGEST_FILE }
+        ensures station { OnOk result (self.new.station ≡ self.old.station) }
+        ensures sights { OnOk result (self.new.sights.items ≡ self.old.sights.items) }
+        ensures count { OnOk result (self.new.written_again ≡ self.old.written_again + 1) }
+        ensures marking { self.new.marking ≡ self.old.marking }
+        ensures blocks { OnOk result (self.new.blocks ≡ number) }
+    {
+        let Some(count) = self.written_again.checked_add(1) else {
+            return Err(AllocError);
+        };
+        self.written_again = count;
+        self.blocks = number;
+        Ok(())
+    }
+
     /// Begins a station, and ends the one that was open.
     fn begin_station(&mut self, alloc: Global, number: u32, name: Name) -> Result<(), AllocError>
         requires bound { number ≤ LONGEST_FILE }
@@ -392,11 +410,13 @@ impl Readings {
         ensures room { All IsRoomy self.new.marking.marks.items }
         ensures station { OnOk result (self.new.station ≡ Some name) }
         ensures sights { OnOk result (self.new.sights.items ≡ []) }
+        ensures count { OnOk result (self.new.written_again ≡ 0) }
         ensures ends { OnOk result (Ends self.old self.new) }
         ensures blocks { OnOk result (self.new.blocks ≡ number) }
     {
         self.end_station(alloc)?;
         self.station = Some(name);
+        self.written_again = 0;
         self.blocks = number;
         Ok(())
     }
@@ -406,6 +426,7 @@ impl Readings {
     fn add_sight(&mut self, number: u32, wide: bool, reading: &Reading) -> Result<(), AllocError>
         requires { number ≤ LONGEST_FILE }
         ensures station { OnOk result (self.new.station ≡ self.old.station) }
+        ensures count { OnOk result (self.new.written_again ≡ self.old.written_again) }
         ensures marking { self.new.marking ≡ self.old.marking }
         ensures sights { OnOk result (self.new.sights.items ≡ self.old.sights.items ++ record {
           block = number;

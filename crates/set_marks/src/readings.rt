@@ -14,6 +14,8 @@ pub(crate) struct Readings {
     pub(crate) station: Option<Name>,
     /// Its readings.
     pub(crate) sights: Vec<Sight>,
+    /// How often its set-up line was written again.
+    pub(crate) written_again: usize,
     /// The code lines of the stations before it.
     pub(crate) marking: Marking,
     /// How many blocks came.

@@ -24,4 +24,7 @@ pub struct Recognized {
     pub after: usize,
     /// What is told of its sets beyond their numbers, where it has any.
     pub remarks: Option<Remarks>,
+    /// How often its set-up line was written again while it was open, where it is stated that such
+    /// a line begins nothing.
+    pub written_again: usize,
 }

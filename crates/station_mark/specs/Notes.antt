@@ -173,10 +173,25 @@ abbrev pub unread_line : List ℕ → List Recognized → List ℕ
 unread_line name later =
     if is_named_again name later then [] else note_line name (codes "no readings")
 
--- The lines of a station before these others, after stations with readings that have these names.
+-- what a station is told by its readings, before these others, after stations with readings that
+-- have these names
+abbrev pub read_lines : List (List ℕ) → Recognized → List Recognized → List ℕ
+read_lines names r later =
+    if has_readings r then station_lines (is_among names r.name) r else unread_line r.name later
+
+-- how often a set-up line was written again while its station was open:
+-- `set-up line written again 2 times, taken as the same set-up`
+abbrev pub written_again_text : ℕ → List ℕ
+written_again_text count =
+    codes "set-up line written again "
+    ++ (counted count (codes "time") ++ codes ", taken as the same set-up")
+
+-- The lines of a station before these others, after stations with readings that have these names:
+-- the last is that its set-up line was written again, where it was.
 abbrev pub next_lines : List (List ℕ) → Recognized → List Recognized → List ℕ
 next_lines names r later =
-    if has_readings r then station_lines (is_among names r.name) r else unread_line r.name later
+    read_lines names r later
+    ++ line_of_some r.written_again r.name (written_again_text r.written_again)
 
 -- these names, and that of a station with readings
 abbrev pub names_after : List (List ℕ) → Recognized → List (List ℕ)

@@ -10,6 +10,7 @@ ghost use Rattle.station_mark.specs.Notes.{station_lines, stations_text, unread_
 ghost use Rattle.station_mark.specs.Notes.{with_sets_text, without_sets_text};
 ghost use Rattle.station_mark.specs.Notes.{pair_lines, pair_text, zenith_lines, zeniths_text};
 ghost use Rattle.station_mark.specs.Notes.{opened_again_line, opened_again_text, whole_mgon};
+ghost use Rattle.station_mark.specs.Notes.{read_lines, written_again_text};
 ghost use Rattle.station_mark.specs.Notes as spec;
 
 use adjust_kernel::Name;
@@ -64,12 +65,53 @@ fn add_next(
         ≡ text.old.items ++ next_lines names.old station.now later.now) }
     ensures names { OnOk result (names.new ≡ names_after names.old station.now) }
 {
+    add_read(text, names, station, later)?;
+    add_written_again(text, station)?;
+    Ok(())
+}
+
+/// Adds what a station is told by its readings.
+fn add_read(
+    text: &mut Vec<u8>,
+    names: &mut Names,
+    station: &Recognized,
+    later: &[Recognized],
+) -> Result<(), AllocError>
+    ensures text { OnOk result (text.new.items
+        ≡ text.old.items ++ read_lines names.old station.now later.now) }
+    ensures names { OnOk result (names.new ≡ names_after names.old station.now) }
+{
     if has_readings(station) {
         let again = names.add(&station.name)?;
         add_station(text, again, station)?;
     } else {
         add_unread(text, &station.name, later)?;
     }
+    Ok(())
+}
+
+/// Adds the line of a station whose set-up line was written again, where it was.
+fn add_written_again(text: &mut Vec<u8>, station: &Recognized) -> Result<(), AllocError>
+    ensures { OnOk result (text.new.items ≡ text.old.items
+        ++ line_of_some station.now.written_again station.now.name
+        (written_again_text station.now.written_again)) }
+{
+    if station.written_again == 0 {
+        return Ok(());
+    }
+    add_head(text, &station.name)?;
+    add_times(text, station.written_again)?;
+    text.extend_from_slice(b"\n")?;
+    Ok(())
+}
+
+/// Adds how often a set-up line was written again.
+fn add_times(text: &mut Vec<u8>, count: usize) -> Result<(), AllocError>
+    ensures { OnOk result (text.new.items ≡ text.old.items ++ written_again_text count) }
+{
+    text.extend_from_slice(b"set-up line written again ")?;
+    add_counted(text, count, b"time")?;
+    text.extend_from_slice(b", taken as the same set-up")?;
     Ok(())
 }
 

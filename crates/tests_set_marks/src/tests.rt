@@ -1,6 +1,8 @@
 use adjust_kernel::Name;
 use job_statements::{Beginnings, NamedNumber, Stated, StatedNumber};
-use set_marks::{MarkFault, MarkKind, Recognized, Refused, Remarks, mark_file, marked_copy};
+use set_marks::{
+    MarkFault, MarkKind, Marked, Recognized, Refused, Remarks, mark_file, marked_copy,
+};
 use station_book::BookKind;
 use std::alloc::Global;
 
@@ -752,4 +754,49 @@ fn a_code_block_names_the_station_that_it_begins(rt: HostRuntime) {
         return;
     };
     assert!(rt; told(&marked.stations) == [(b'1', 0), (b'2', 0), (0, 0)]);
+}
+
+/// How often the set-up lines of the first three stations that are told were written again.
+fn counts(stations: &[Recognized]) -> [usize; 3] {
+    let mut counts = [0; 3];
+    for (place, station) in stations.iter().enumerate() {
+        if place < counts.len() {
+            counts[place] = station.written_again;
+        }
+    }
+    counts
+}
+
+/// The stations that are told, whether the file is refused for one of them or not.
+fn stations_told(answer: Result<Marked, Refused>) -> Option<Vec<Recognized>> {
+    match answer {
+        Ok(marked) => Some(marked.stations),
+        Err(Refused::Stations(_, stations)) => Some(stations),
+        Err(Refused::File(_)) => None,
+    }
+}
+
+#[test]
+fn set_up_lines_that_are_written_again_are_counted(rt: HostRuntime) {
+    let a = rt.alloc();
+    let rows: [(&[u8], (&[u8], bool, &[u8]), [usize; 3]); 9] = [
+        (b"1pA1B1B2A21p", (b"", false, b""), [0, 0, 0]),
+        (b"1p1pA1B1B2A2", (b"", false, b""), [0, 0, 0]),
+        (b"1pA1B11pB2A2", (b"", true, b""), [1, 0, 0]),
+        (b"1p1pA1B11pB2A21p", (b"", true, b""), [3, 0, 0]),
+        (b"1p1pA1B1B2A22p3pA1B13pB2A2", (b"", true, b""), [1, 0, 1]),
+        (b"1pA12p2pA1B1B2A21pA11p", (b"", true, b""), [0, 1, 1]),
+        (b"1pA1B11pB1A2", (b"", true, b""), [1, 0, 0]),
+        (b"k1A1k1B11pB2A2k2k2", (b"", true, b"47"), [2, 1, 0]),
+        (b"A1B1B2A2", (b"7", true, b""), [0, 0, 0]),
+    ];
+    for (text, (station, same_set_up, code), want) in rows {
+        let beginnings = stated_so(station, same_set_up, code);
+        let Some(bytes) = file(a, text) else {
+            return;
+        };
+        let answer = mark_file(a, &bytes, false, beginnings, nothing(a));
+        let told = stations_told(answer).map(|stations| counts(&stations));
+        assert!(rt; told == Some(want));
+    }
 }

@@ -233,6 +233,7 @@ fn with_sets(rt: &impl Abort, alloc: Global, name: &[u8]) -> Recognized {
             equal_sets: SetPairs::new(alloc),
             zeniths: ZenithRanges::new(alloc),
         }),
+        written_again: 0,
     }
 }
 
@@ -487,6 +488,47 @@ note: station P2: no readings\n\
 note: station P1: set up again\n\
 note: station P1: no sets; 3 readings stay outside\n\
 note: station P2: no readings\n";
+    expect_told(&rt, alloc, &stations, want)
+}
+
+#[test]
+fn a_set_up_line_that_was_written_again_is_told(rt: HostRuntime) -> Result<(), Fail> {
+    let alloc = rt.alloc();
+    let flaw = Flaw {
+        block: 14,
+        kind: MarkKind::ReadTwice,
+    };
+    let stations = [
+        Recognized {
+            written_again: 1,
+            ..with_sets(&rt, alloc, b"P1")
+        },
+        Recognized {
+            written_again: 2,
+            ..without_sets(&rt, alloc, b"P2", 3)
+        },
+        without_sets(&rt, alloc, b"P3", 0),
+        Recognized {
+            written_again: 3,
+            ..with_a_fault(&rt, alloc, b"P2", flaw, 4)
+        },
+        Recognized {
+            written_again: usize::MAX,
+            ..without_sets(&rt, alloc, b"P4", 0)
+        },
+    ];
+    let want: &[u8] = b"note: station P1: 1 set, 2 targets, from SIXTEEN OF BYTES to SIXTEEN OF \
+BYTES; 0 readings before them and 0 after stay outside\n\
+note: station P1: set-up line written again 1 time, taken as the same set-up\n\
+note: station P2: no sets; 3 readings stay outside\n\
+note: station P2: set-up line written again 2 times, taken as the same set-up\n\
+note: station P3: no readings\n\
+note: station P2: set up again\n\
+note: station P2: not recognized, block 14: ReadTwice; 4 readings stay outside\n\
+note: station P2: set-up line written again 3 times, taken as the same set-up\n\
+note: station P4: no readings\n\
+note: station P4: set-up line written again 18446744073709551615 times, taken as the same \
+set-up\n";
     expect_told(&rt, alloc, &stations, want)
 }
 

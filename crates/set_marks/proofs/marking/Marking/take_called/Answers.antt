@@ -29,10 +29,11 @@ returns-in-None-sets_fault-clause-takes c =
     search rules in
     let none : sets_fault (before_in old.names) c.args.line.now s span ≡ None = search rules in
     let wanted = divided_unless (targets_fault s span) span in
-    subst (λ (d : Divided). OnOk c.take_sets.result (TakesStation c.args.line.now s d old new))
+    subst (λ (d : Divided). OnOk c.take_sets.result
+    (TakesStation c.args.line.now c.args.written_again s d old new))
     (sym (with_sets (said_in old.stated) (before_in old.names) c.args.line.now s span divides none))
     (subst (λ (names : StationNames). OnOk c.take_sets.result
-    (TakesStation c.args.line.now s wanted (record {
+    (TakesStation c.args.line.now c.args.written_again s wanted (record {
       stated = old.stated;
       marks = old.marks;
       stations = old.stations;

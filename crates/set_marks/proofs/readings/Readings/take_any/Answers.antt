@@ -13,3 +13,4 @@ pub returns-then-not-has_code-clause-adds : goal.returns-then-not-has_code-claus
 returns-then-not-has_code-clause-adds c =
     adds_other c.args.beginnings.now (block_of c.args.block.now) c.args.number c.args.self.now _
     (search rules) (search rules) (search rules) (search rules) (search rules) (search rules)
+    (search rules)

@@ -9,7 +9,7 @@ pub returns-in_ok-add_sight-in-Ok-Some-clause-adds :
 returns-in_ok-add_sight-in-Ok-Some-clause-adds c =
     adds_sight c.args.beginnings.now (block_of c.args.block.now) c.args.number c.args.self.now
     c.add_sight.new.self c.in-Ok-Some.reading c.requires.measurement (search rules) (search rules)
-    (search rules) (search rules) (search rules)
+    (search rules) (search rules) (search rules) (search rules)
 
 pub returns-then-not-tells_set_up-clause-clean : goal.returns-then-not-tells_set_up-clause-clean
 returns-then-not-tells_set_up-clause-clean c =
@@ -20,4 +20,4 @@ pub returns-then-not-tells_set_up-clause-adds : goal.returns-then-not-tells_set_
 returns-then-not-tells_set_up-clause-adds c =
     adds_passed c.args.beginnings.now (block_of c.args.block.now) c.args.number c.args.self.now _
     c.requires.measurement (search rules) (search rules) (search rules) (search rules)
-    (search rules) (search rules)
+    (search rules) (search rules) (search rules)
