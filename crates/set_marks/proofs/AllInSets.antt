@@ -2,9 +2,9 @@
 use Rattle.std.proofs.Common.{◌≡◌, ℕ, ◌+◌, ◌≤◌, Bool, true, false, List, [], ◌∷◌, ◌++◌}
 use Rattle.std.proofs.Common.{length, take, drop, Option, Some, None, is_none, refl, sym, ap, subst}
 use Rattle.std.proofs.Common.{◌∙◌, arith, All, append_assoc}
-use Rattle.std.specs.Prelude.{◌||◌, not, Contains, ◌==◌, nat_le, if◌then◌else◌}
+use Rattle.std.specs.Prelude.{◌||◌, not, Contains, nat_le, if◌then◌else◌}
 use Rattle.std.specs.List.{list_any}
-use Rattle.std.proofs.lemmas.Bool.{or_left, or_right, lt-leb, eqb-true}
+use Rattle.std.proofs.lemmas.Bool.{or_left, or_right, lt-leb}
 use Rattle.std.proofs.lemmas.List.{take_all, length-append}
 use Rattle.std.proofs.lemmas.List.Elements.{All-nil, All-head, All-tail, All-append}
 use Rattle.std.proofs.lemmas.List.Elements.{All-take, All-contains_itself, filter-append}
@@ -166,16 +166,33 @@ none_is : (o : Option Flaw) → is_none o ≡ true → o ≡ None
 none_is None e = refl
 none_is (Some f) e = cc
 
--- The same, by the first places where sets begin.
+-- The first places where sets begin are all, where nothing is wrong with the sets.
+pub whole_starts : (starts : List ℕ) (rs : List Sight)
+    → starts ≡ take (MOST_SETS + 1) (starts_of rs)
+    → is_none (sets_flaw (first_cut starts rs) 0 (cut_end starts rs) starts rs) ≡ true
+    → starts ≡ starts_of rs
+whole_starts starts rs are sets =
+    few_are_all starts rs are
+    (sym (none_is (sets_flaw (first_cut starts rs) 0 (cut_end starts rs) starts rs) sets))
+
+-- So the last ends where they say.
+pub whole_end : (starts : List ℕ) (rs : List Sight) (end : ℕ)
+    → starts ≡ take (MOST_SETS + 1) (starts_of rs)
+    → is_none (sets_flaw (first_cut starts rs) 0 (cut_end starts rs) starts rs) ≡ true
+    → end ≡ cut_end starts rs → end ≡ length rs → cut_end (starts_of rs) rs ≡ length rs
+whole_end starts rs end are sets is whole =
+    ap (λ (l : List ℕ). cut_end l rs) (sym (whole_starts starts rs are sets)) ∙ sym is ∙ whole
+
+-- The same, by these places.
 pub whole_by_few : (starts : List ℕ) (rs rest : List Sight) (r : Sight) (end : ℕ)
     → rs ≡ rest ++ r ∷ [] → starts ≡ take (MOST_SETS + 1) (starts_of rs)
     → is_none (sets_flaw (first_cut starts rs) 0 (cut_end starts rs) starts rs) ≡ true
-    → end ≡ cut_end starts rs → (end == length rs) ≡ true → NoneOpen rs → (stated : Numbers)
+    → end ≡ cut_end starts rs → end ≡ length rs → NoneOpen rs → (stated : Numbers)
     → divided_by stated rs (ways_of rs)
     ≡ divided_unless (doubt_after stated [] rs rs) (span_from 0 rs)
 whole_by_few starts rs rest r end last are sets is whole closed stated =
     let none = none_is (sets_flaw (first_cut starts rs) 0 (cut_end starts rs) starts rs) sets in
-    let all = few_are_all starts rs are (sym none) in
+    let all = whole_starts starts rs are sets in
     divided_whole stated rs (some_last rs rest r last)
     (ap (λ (l : List ℕ). sets_flaw (first_cut l rs) 0 (cut_end l rs) l rs) (sym all) ∙ none)
-    (ap (λ (l : List ℕ). cut_end l rs) (sym all) ∙ sym is ∙ eqb-true end (length rs) whole) closed
+    (whole_end starts rs end are sets is whole) closed

@@ -25,7 +25,7 @@ counted_surplus rs seconds more is e =
     let all = in_two_faces rs in omega (arith, is, e, all)
 
 -- The last of some readings that aren't none is the last of all.
-last_stays : (k : ℕ) (rs : List Sight) → k < length rs → ends_in_one (drop k rs) ≡ ends_in_one rs
+pub last_stays : (k : ℕ) (rs : List Sight) → k < length rs → ends_in_one (drop k rs) ≡ ends_in_one rs
 last_stays zero rs lt = refl
 last_stays (suc k) [] lt = absurd (omega (arith, lt))
 last_stays (suc k) (r ∷ []) lt = absurd (omega (arith, lt))

@@ -1,18 +1,25 @@
 -- Where the range of a target stands among ranges, each of another target.
 use Rattle.std.proofs.Common.{◌≡◌, ℕ, zero, suc, true, false, ◌||◌, List, [], ◌∷◌, ◌++◌}
-use Rattle.std.proofs.Common.{refl, sym, ap, ◌∙◌, inl, inr}
-use Rattle.std.specs.Prelude.{slice_get, slice_set, Some, None}
+use Rattle.std.proofs.Common.{refl, sym, ap, ◌∙◌, inl, inr, arith, ◌+◌}
+use Rattle.std.specs.Prelude.{slice_get, slice_set, Some, None, if◌then◌else◌, length}
+use Rattle.std.specs.List.{position_or_len}
 use Rattle.std.specs.Str.{bytes_eq}
 use Rattle.std.proofs.lemmas.Bool.{cases_Bool, false≢true}
+use Rattle.std.proofs.lemmas.List.{length-map}
+use Rattle.std.proofs.lemmas.List.Recursion.{is_position_or_len}
 use Rattle.std.proofs.lemmas.Slice.Eq.{bytes_eq-Decides}
 use Rattle.station_book.proofs.lists.Elements.{same_bytes}
+use Rattle.station_book.proofs.lists.NameMaps.{name_eq, names_by_bytes}
+use Rattle.station_book.specs.Places.{is_among, with_new}
 use Rattle.set_marks.specs.declared.sight.Sight.{Sight}
 use Rattle.set_marks.specs.declared.zeniths.ZenithRange.{ZenithRange}
-use Rattle.set_marks.specs.Ranging.{IsUnique, has_range, place_in}
+use Rattle.set_marks.specs.Divisions.{names_with, targets_of}
+use Rattle.set_marks.specs.Ranging.{IsUnique, has_range, place_among, place_in, targets_in}
 use Rattle.set_marks.specs.Zeniths.{range_of, with_angle, with_reading, zenith_in_one}
+use Rattle.set_marks.specs.Zeniths.{ranges_of, ranges_with}
 
 -- A range at a place is among them.
-there : (zs : List ZenithRange) (place : ℕ) (z : ZenithRange) (name : List ℕ)
+pub there : (zs : List ZenithRange) (place : ℕ) (z : ZenithRange) (name : List ℕ)
     → slice_get zs place ≡ Some z → bytes_eq z.target name ≡ true → has_range name zs ≡ true
 there [] place z name is e = cc
 there (y ∷ zs) zero z name is e =
@@ -90,3 +97,53 @@ stay_unique (z ∷ zs) r unique = elim (cases_Bool (bytes_eq z.target r.target))
     stay_unique zs r unique.1,
   )
 ]
+
+-- The place of a name among others is that of the first with its bytes.
+by_bytes : (names : List (List ℕ)) (name : List ℕ)
+    → place_among names name ≡ position_or_len (λ other. bytes_eq other name) names
+by_bytes names name =
+    is_position_or_len (λ (others : List (List ℕ)). place_among others name)
+    (λ other. bytes_eq other name) refl
+    (λ n others.
+    let one : suc (place_among others name) ≡ 1 + place_among others name = omega arith in
+    ap (λ (k : ℕ). if bytes_eq n name then 0 else k) one) names
+
+-- A table of names finds a name at its place among them.
+pub key_place : (names : List (List ℕ)) (name : List ℕ)
+    → position_or_len (name_eq name) names ≡ place_among names name
+key_place names name =
+    (λ i. position_or_len (λ other. (names_by_bytes name other ∙ same_bytes name other) i) names)
+    ∙ sym (by_bytes names name)
+
+-- A name that is not the first goes last after the others, where it is new.
+after_first : (first : List ℕ) (names : List (List ℕ)) (name : List ℕ)
+    → first ∷ with_new names name
+    ≡ (if is_among names name then first ∷ names else first ∷ (names ++ name ∷ []))
+after_first first names name = elim (cases_Bool (is_among names name)) [
+  | inl h ↦ rw h refl
+  | inr h ↦ rw h refl
+]
+
+-- With a reading more, its target is one of those of the ranges.
+pub targets_with : (zs : List ZenithRange) (r : Sight)
+    → targets_in (with_reading zs r) ≡ with_new (targets_in zs) r.target
+targets_with [] r = refl
+targets_with (z ∷ zs) r = elim (cases_Bool (bytes_eq z.target r.target)) [
+  | inl h ↦ rw h refl
+  | inr h ↦ rw h (ap (λ (names : List (List ℕ)). z.target ∷ names) (targets_with zs r)
+      ∙ after_first z.target (targets_in zs) r.target)
+]
+
+-- Each target of some readings has one range.
+targets_of_all : (zs : List ZenithRange) (rs : List Sight)
+    → targets_in (ranges_with zs rs) ≡ names_with (targets_in zs) rs
+targets_of_all zs [] = refl
+targets_of_all zs (r ∷ rs) =
+    targets_of_all (with_reading zs r) rs
+    ∙ ap (λ (names : List (List ℕ)). names_with names rs) (targets_with zs r)
+
+-- So there are as many ranges as targets.
+pub as_many : (rs : List Sight) → length (ranges_of rs) ≡ length (targets_of rs)
+as_many rs =
+    sym (length-map (ranges_of rs) (λ z. z.target))
+    ∙ ap (λ (names : List (List ℕ)). length names) (targets_of_all [] rs)

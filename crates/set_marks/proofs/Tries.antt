@@ -1,11 +1,11 @@
 -- How the fewest leading readings of an ending are looked for.
-use Rattle.std.proofs.Common.{◌≡◌, ℕ, zero, suc, ◌+◌, ◌<◌, ◌≤◌, Bool, true, false}
+use Rattle.std.proofs.Common.{◌≡◌, ℕ, zero, suc, ◌+◌, ◌-◌, ◌<◌, ◌≤◌, Bool, true, false}
 use Rattle.std.proofs.Common.{List, [], ◌∷◌, length, take, drop, Option, Some, None, refl, sym}
 use Rattle.std.proofs.Common.{ap, ◌∙◌, arith, inl, inr, ◌⊎◌}
-use Rattle.std.specs.Prelude.{nat_le, is_none, slice_get}
+use Rattle.std.specs.Prelude.{nat_le, nat_lt, is_none, slice_get}
 use Rattle.std.specs.Option.{option_map}
-use Rattle.std.proofs.lemmas.Bool.{cases_Bool, cases_lt, le-leb, lt-leb}
-use Rattle.std.proofs.lemmas.List.{length-take, length-drop}
+use Rattle.std.proofs.lemmas.Bool.{cases_Bool, cases_lt, le-leb, lt-leb, ltb-true}
+use Rattle.std.proofs.lemmas.List.{drop-drop, length-take, length-drop}
 use Rattle.gsi_file.specs.FileAnswers.{least}
 use Rattle.station_book.specs.Faults.{first_of}
 use Rattle.set_marks.specs.declared.bounds.TheConstants.{MOST_READINGS}
@@ -16,12 +16,12 @@ use Rattle.set_marks.specs.declared.outside.Ending.TheVariants.{Nothing, CheckSi
 use Rattle.set_marks.specs.declared.sight.Sight.{Sight}
 use Rattle.set_marks.specs.Divisions.{flaw_at, flaw_when, seconds_of, rest_of, place_of, starts_of}
 use Rattle.set_marks.specs.Divisions.{is_by_targets, are_in_face, first_cut, cut_end}
-use Rattle.set_marks.specs.Divisions.{sets_flaw, flaw_found}
-use Rattle.set_marks.specs.Outside.{is_ended, may_end, before_ending, in_ending}
-use Rattle.set_marks.specs.Searching.{ends_in_one, may_be_plain, may_divide, IsClosed}
+use Rattle.set_marks.specs.Divisions.{sets_flaw, flaw_found, begins_with_pair}
+use Rattle.set_marks.specs.Outside.{is_ended, may_end, before_ending, in_ending, last_of}
+use Rattle.set_marks.specs.Searching.{ends_in_one, seems_ended, may_be_plain, may_divide, IsClosed}
 use Rattle.set_marks.specs.Ways.{flaw_after, is_division, leading_of, most_leading}
 use Rattle.set_marks.specs.Ways.{cut_flaw, is_no_end, detail_between}
-use Rattle.set_marks.proofs.Endings.{no_checks}
+use Rattle.set_marks.proofs.Endings.{last_stays, no_checks}
 
 -- The least number that passes, where none before it does.
 pub least_at : (p : ℕ → Bool) (last n : ℕ) → n ≤ last → ((k : ℕ) → k < n → p k ≡ false)
@@ -197,17 +197,51 @@ pub open_at : (ending : Ending) (rs rest : List Sight) (n : ℕ) (o : Option Fla
 open_at ending rs rest n o is lt e = ap is_none e ∙ sym (divides_after ending rs rest n is lt)
 
 -- With an ending that is closed there are no sets.
-pub closed_none : (ending : Ending) (rs : List Sight) → rest_of rs ≡ rs → IsClosed ending rs
+closed_in : (ending : Ending) (rs rest : List Sight) → rest ≡ rest_of rs → IsClosed ending rest
     → leading_of ending rs ≡ None
-closed_none ending rs rest closed =
+closed_in ending rs rest is closed =
     least_none (is_division ending rs) (most_leading rs) (λ k le. at k le)
   where
     at : (k : ℕ) → k ≤ most_leading rs → is_division ending rs k ≡ false
-    at k le = elim (cases_lt k (length rs)) [
-      | inr more ↦ no_rest ending rs k (let long = ap length rest in omega (arith, more, long))
-      | inl lt ↦ sym (closed_at ending rs rs k (sym rest) lt
+    at k le = elim (cases_lt k (length rest)) [
+      | inr more ↦ no_rest ending rs k (let long = ap length is in omega (arith, more, long))
+      | inl lt ↦ sym (closed_at ending rs rest k is lt
           (closed k lt (let many = many_tried rs in omega (arith, many, le))))
     ]
+
+pub closed_none : (ending : Ending) (rs : List Sight) → rest_of rs ≡ rs → IsClosed ending rs
+    → leading_of ending rs ≡ None
+closed_none ending rs rest closed = closed_in ending rs rs (sym rest) closed
+
+-- Whatever leads, the last two readings stay.
+no_pair : (n : ℕ) (rs : List Sight) → begins_with_pair (last_of 2 rs) ≡ false
+    → is_ended CheckPair (drop n rs) ≡ false
+no_pair n rs e = elim (cases_Bool (nat_lt 2 (length (drop n rs)))) [
+  | inr h ↦ rw h refl
+  | inl h ↦
+      let more : 2 < length (drop n rs) = ltb-true 2 (length (drop n rs)) h in
+      let long : length (drop n rs) ≡ length rs - n = length-drop n rs in
+      let place : n + (length (drop n rs) - 2) ≡ length rs - 2 = omega (arith, more, long) in
+      let last : last_of 2 (drop n rs) ≡ last_of 2 rs =
+      drop-drop (length (drop n rs) - 2) n rs ∙ ap (λ (k : ℕ). drop k rs) place in
+      let none : begins_with_pair (last_of 2 (drop n rs)) ≡ false = ap begins_with_pair last ∙ e in
+      rw (h, none) refl
+]
+
+-- Where the last readings are no such ending, it is closed.
+pub closed_by_last : (ending : Ending) (rest : List Sight) → seems_ended ending rest ≡ false
+    → IsClosed ending rest
+closed_by_last Nothing rest e = λ n lt le. cc
+closed_by_last CheckSights rest e = λ n lt le.
+    let last : ends_in_one (drop n rest) ≡ false = last_stays n rest lt ∙ e in rw last refl
+closed_by_last CheckPair rest e = λ n lt le.
+    let none : is_ended CheckPair (drop n rest) ≡ false = no_pair n rest e in rw none refl
+
+-- Then no number of leading readings gives sets.
+pub none_by_last : (ending : Ending) (rs rest : List Sight) → rest ≡ rest_of rs
+    → seems_ended ending rest ≡ false → None ≡ leading_of ending rs
+none_by_last ending rs rest is e =
+    sym (closed_in ending rs rest is (closed_by_last ending rest e))
 
 -- One more that doesn't pass.
 pub none_more : (p : ℕ → Bool) (n : ℕ) → ((k : ℕ) → k < n → p k ≡ false) → p n ≡ false

@@ -13,7 +13,8 @@ use Rattle.set_marks.specs.declared.outside.Ending.TheVariants.{Nothing, CheckSi
 use Rattle.set_marks.specs.declared.sight.Sight.{Sight}
 use Rattle.set_marks.specs.declared.ways.Found.{Found}
 use Rattle.set_marks.specs.Divisions.{is_of, is_again, are_in_face, is_by_targets}
-use Rattle.set_marks.specs.Outside.{is_ended, may_end, before_ending, in_ending}
+use Rattle.set_marks.specs.Divisions.{begins_with_pair}
+use Rattle.set_marks.specs.Outside.{is_ended, may_end, before_ending, in_ending, last_of}
 use Rattle.set_marks.specs.Ways.{leading_of}
 
 -- The places at which sets begin, from a place on: `even` says whether the opening target was read
@@ -55,6 +56,12 @@ abbrev pub ends_in_one : List Sight → Bool
 ends_in_one [] = false
 ends_in_one (r ∷ []) = not r.second
 ends_in_one (r ∷ s ∷ rs) = ends_in_one (s ∷ rs)
+
+-- The last of these readings may be this ending, whatever number of them leads.
+abbrev pub seems_ended : Ending → List Sight → Bool
+seems_ended Nothing rs = true
+seems_ended CheckSights rs = ends_in_one rs
+seems_ended CheckPair rs = begins_with_pair (last_of 2 rs)
 
 -- So many of any kind, or all in face I, or pairs: else these may not lead.
 abbrev pub may_be_plain : List Sight → Bool

@@ -20,7 +20,7 @@ use std::alloc::{AllocError, Global};
 pub(crate) fn seconds_of(alloc: Global, sights: &[Sight]) -> Result<Vec<Sight>, AllocError>
     ensures { IfOk result (λ seconds. seconds.items ≡ seconds_of sights.now) }
 {
-    let mut seconds = Vec::new(alloc);
+    let mut seconds = Vec::with_capacity(alloc, sights.len())?;
     let mut left = sights;
     'sights: while let Some((sight, rest)) = left.split_first() {
         if sight.second {
@@ -41,7 +41,7 @@ pub(crate) fn known_in(
         → rest.items ≡ known_in others sights.now) }
     ensures unchanged { known.new ≡ known.old }
 {
-    let mut found = Vec::new(alloc);
+    let mut found = Vec::with_capacity(alloc, sights.len())?;
     let mut left = sights;
     'sights: while let Some((sight, rest)) = left.split_first() {
         if known.has(&sight.target) {

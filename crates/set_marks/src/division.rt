@@ -1,7 +1,7 @@
 //! The division of a station's readings into sets.
 
-ghost use Rattle.std.specs.Prelude.{◌≡◌, ◌≤◌, ◌<◌, ◌+◌, ◌^◌, [], IfOk, List, None, length, take};
-ghost use Rattle.std.specs.Prelude.{not, true, ◌&&◌, ◌==◌, drop, is_none};
+ghost use Rattle.std.specs.Prelude.{◌≡◌, ◌≤◌, ◌<◌, ◌+◌, ◌^◌, [], IfOk, IfSome, List, None, length};
+ghost use Rattle.std.specs.Prelude.{not, true, ◌&&◌, ◌==◌, drop, is_none, take};
 ghost use Rattle.std.specs.Bool.{OnFalse, OnTrue};
 ghost use Rattle.std.specs.List.{list_any};
 ghost use Rattle.adjust_kernel.specs.declared.bounds.TheConstants.{MOST_SETS};
@@ -447,7 +447,30 @@ pub(crate) fn divided_unless(flaw: Option<Flaw>, span: Span) -> Divided
 }
 
 /// Sets of readings that are no details, from this place of the station on and after these leading
-/// ones, unless there is a doubt about them; `sights` are they and all readings after them.
+/// ones, unless there is a doubt about them. They begin at these places, and the last ends at this
+/// one; `sights` are they and all readings after them.
+fn divide_at(
+    alloc: Global,
+    stated: Numbers,
+    leading: &[Sight],
+    from: usize,
+    starts: &[usize],
+    end: usize,
+    sets: &[Sight],
+    sights: &[Sight],
+) -> Result<Divided, AllocError>
+    requires fits { from + end < 2 ^ 64 }
+    requires starts { starts.now ≡ starts_of sets.now }
+    requires end { end ≡ cut_end (starts_of sets.now) sets.now }
+    ensures { IfOk result (λ d. d ≡ divided_unless
+        (doubt_after stated leading.now sets.now sights.now) (span_from from sets.now)) }
+{
+    let doubt = doubt_after(alloc, stated, leading, starts, end, sets, sights)?;
+    let to = from + end;
+    Ok(divided_unless(doubt, Span { from, to }))
+}
+
+/// The same, where it is to be found where they begin and end.
 pub(crate) fn divide_after(
     alloc: Global,
     stated: Numbers,
@@ -462,9 +485,7 @@ pub(crate) fn divide_after(
 {
     let starts = starts_of(alloc, sets)?;
     let end = cut_end(alloc, &starts, sets)?;
-    let doubt = doubt_after(alloc, stated, leading, &starts, end, sets, sights)?;
-    let to = from + end;
-    Ok(divided_unless(doubt, Span { from, to }))
+    divide_at(alloc, stated, leading, from, &starts, end, sets, sights)
 }
 
 /// Whether nothing is wrong with the sets that begin at these places.
@@ -475,28 +496,39 @@ fn are_sets(alloc: Global, starts: &[usize], sights: &[Sight]) -> Result<bool, A
     Ok(sets_flaw(alloc, starts, sights)?.is_none())
 }
 
-/// Whether sets take all readings of a station. Then none is a detail, and none stands before them.
+/// Where the sets of a station begin that take all its readings, if they do. Then none is a detail,
+/// and none stands before them.
 ///
 /// It is asked only where the last reading is of a target of the first half: else some readings
-/// stand outside, or there is one set.
-fn are_all_in_sets(alloc: Global, sights: &[Sight]) -> Result<bool, AllocError>
-    ensures { IfOk result (λ whole. OnTrue whole (NoneOpen sights.now → (stated : Numbers)
+/// stand outside, or there is one set; and of a single set where the opening target is read in both
+/// faces: else it leads.
+fn starts_of_all(alloc: Global, sights: &[Sight]) -> Result<Option<Vec<usize>>, AllocError>
+    ensures starts { IfOk result (λ o. IfSome o (λ starts. starts.items ≡ starts_of sights.now)) }
+    ensures end { IfOk result
+        (λ o. IfSome o (λ _. cut_end (starts_of sights.now) sights.now ≡ length sights.now)) }
+    ensures whole { IfOk result (λ o. IfSome o (λ _. NoneOpen sights.now → (stated : Numbers)
         → divided_by stated sights.now (ways_of sights.now)
         ≡ divided_unless (doubt_after stated [] sights.now sights.now)
         (span_from 0 sights.now))) }
 {
     let Some((last, _)) = sights.split_last() else {
-        return Ok(false);
+        return Ok(None);
     };
     if !reads_target(front(sights.len() / 2, sights), &last.target) {
-        return Ok(false);
+        return Ok(None);
     }
     let starts = few_starts(alloc, sights)?;
+    if starts.len() == 1 && !has_pair(&sights[0], sights) {
+        return Ok(None);
+    }
     if !are_sets(alloc, &starts, sights)? {
-        return Ok(false);
+        return Ok(None);
     }
     let end = cut_end(alloc, &starts, sights)?;
-    Ok(end == sights.len())
+    if end != sights.len() {
+        return Ok(None);
+    }
+    Ok(Some(starts))
 }
 
 /// Whether another ending than none may give sets too.
@@ -506,6 +538,26 @@ fn may_be_ended(sights: &[Sight]) -> bool
     is_open_somewhere(Ending::CheckSights, sights) || is_open_somewhere(Ending::CheckPair, sights)
 }
 
+/// What a station's readings are whose sets take all of them, if they do.
+fn divide_all(
+    alloc: Global,
+    stated: Numbers,
+    sights: &[Sight],
+) -> Result<Option<Divided>, AllocError>
+    ensures { IfOk result (λ o. IfSome o
+        (λ d. d ≡ divided_by stated sights.now (ways_of sights.now))) }
+{
+    let Some(starts) = starts_of_all(alloc, sights)? else {
+        return Ok(None);
+    };
+    if may_be_ended(sights) {
+        return Ok(None);
+    }
+    let end = sights.len();
+    let divided = divide_at(alloc, stated, &[], 0, &starts, end, sights, sights)?;
+    Ok(Some(divided))
+}
+
 /// What a station's readings are, of whose sets this is stated.
 pub fn divide(alloc: Global, stated: Numbers, sights: &[Sight]) -> Result<Divided, AllocError>
     ensures { IfOk result (λ d. d ≡ divided stated sights.now) }
@@ -513,8 +565,8 @@ pub fn divide(alloc: Global, stated: Numbers, sights: &[Sight]) -> Result<Divide
     if has_no_sets(sights) {
         return Ok(Divided::NoSets);
     }
-    if are_all_in_sets(alloc, sights)? && !may_be_ended(sights) {
-        return divide_after(alloc, stated, &[], 0, sights, sights);
+    if let Some(divided) = divide_all(alloc, stated, sights)? {
+        return Ok(divided);
     }
     let seconds = seconds_of(alloc, sights)?;
     let mut known = Known::of(alloc, &seconds)?;

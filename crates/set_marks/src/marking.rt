@@ -17,7 +17,6 @@ ghost use Rattle.set_marks.specs.Keeping.{TakesStation, before_in};
 use crate::division::{Divided, are_by_targets, divide, part, rest_after};
 use crate::flaw::Flaw;
 use crate::judging::{StationNames, sets_fault, targets_fault};
-use crate::known::count_targets;
 use crate::mark::{BlockMark, Code};
 use crate::recognized::Recognized;
 use crate::remarks::remarks_of;
@@ -25,6 +24,7 @@ use crate::set::sight_at;
 use crate::sight::Sight;
 use crate::span::Span;
 use crate::starts::starts_of;
+use crate::zeniths::ranges_of;
 use adjust_kernel::Name;
 use job_statements::Stated;
 use std::alloc::{AllocError, Global};
@@ -248,12 +248,14 @@ impl Marking {
     {
         let in_sets = part(span.from, span.to, sights);
         let starts = starts_of(alloc, in_sets)?;
-        let targets = count_targets(alloc, in_sets)?;
+        // Each target has a range, so they aren't counted by themselves.
+        let ranges = ranges_of(alloc, in_sets)?;
+        let targets = ranges.len();
         if let Some(flaw) = targets_fault(alloc, targets, in_sets)? {
             return self.take_faulty(line, name, sights, written_again, flaw);
         }
         let after = rest_after(span.to, sights);
-        let remarks = remarks_of(alloc, &starts, in_sets, targets, after)?;
+        let remarks = remarks_of(alloc, &starts, in_sets, targets, &ranges, after)?;
         put_station(&mut self.marks, self.in_set, name, sights, span, &starts)?;
         self.in_set = sight_at(sights, span.to).is_none();
         self.names.marked.add(name)?;

@@ -3,6 +3,7 @@
 ghost use Rattle.std.specs.Prelude.{◌≡◌, [], true, length, IfOk, OnOk};
 ghost use Rattle.std.specs.Bool.{OnTrue};
 ghost use Rattle.station_book.specs.Places.{is_among, with_new};
+ghost use Rattle.set_marks.specs.Ranging.{place_among};
 
 use adjust_kernel::Name;
 use indexmap::IndexSet;
@@ -119,6 +120,15 @@ impl Names {
             return Ok(true);
         }
         self.insert(*name)
+    }
+
+    /// Adds a name, where it is new, and answers its place among them, by its hash.
+    pub(crate) fn place(&mut self, name: &Name) -> Result<usize, AllocError>
+        ensures place { IfOk result (λ place. place ≡ place_among self.old name.now) }
+        ensures added { OnOk result (self.new ≡ with_new self.old name.now) }
+    {
+        let (place, _) = self.kept.insert_full(*name)?;
+        Ok(place)
     }
 
     /// Adds a name as `add` does, by its hash.

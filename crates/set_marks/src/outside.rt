@@ -10,7 +10,7 @@ ghost use Rattle.set_marks.specs.Outside.{are_among, are_sights_to, are_plain, s
 ghost use Rattle.set_marks.specs.Outside.{may_lead, may_precede, surplus, last_of};
 ghost use Rattle.set_marks.specs.Outside.{all_but, in_ending, before_ending, is_ended, may_end};
 ghost use Rattle.set_marks.specs.Outside.{may_follow};
-ghost use Rattle.set_marks.specs.Searching.{ends_in_one};
+ghost use Rattle.set_marks.specs.Searching.{ends_in_one, seems_ended};
 
 use crate::bounds::{FEW_LEADING, READINGS_OF_TWO};
 use crate::division::{are_by_targets, first_cut, rest_after};
@@ -189,6 +189,17 @@ pub(crate) fn is_ended(ending: Ending, sights: &[Sight]) -> bool
         Ending::Nothing => true,
         Ending::CheckSights => ends_with_checks(sights),
         Ending::CheckPair => 2 < sights.len() && begins_with_pair(last_of(2, sights)),
+    }
+}
+
+/// Whether the last of these readings may be this ending, whatever number of them leads.
+pub(crate) fn seems_ended(ending: Ending, sights: &[Sight]) -> bool
+    ensures { result ≡ seems_ended ending sights.now }
+{
+    match ending {
+        Ending::Nothing => true,
+        Ending::CheckSights => ends_in_one(sights),
+        Ending::CheckPair => begins_with_pair(last_of(2, sights)),
     }
 }
 

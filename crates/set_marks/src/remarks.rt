@@ -8,6 +8,7 @@ ghost use Rattle.set_marks.specs.Remarks.{length_to_turn, turning_of, full_count
 ghost use Rattle.set_marks.specs.Remarks.{seems_of_another, others_after, remarks_by, remarks_of};
 ghost use Rattle.set_marks.specs.Remarks.{is_opened_again};
 ghost use Rattle.set_marks.specs.Searching.{KnowsTargetsOf, KeepsFaces};
+ghost use Rattle.set_marks.specs.Zeniths.{ranges_of};
 
 use crate::bounds::MOST_READINGS;
 use crate::division::{are_by_targets, first_cut};
@@ -17,7 +18,7 @@ use crate::known::Known;
 use crate::names::Names;
 use crate::set::{first_target, has_second, is_by_targets, reads_target, sight_at};
 use crate::sight::Sight;
-use crate::zeniths::{ZenithRanges, spread_ranges};
+use crate::zeniths::{ZenithRange, ZenithRanges, spread_ranges};
 use adjust_kernel::Name;
 use std::alloc::{AllocError, Global};
 
@@ -153,19 +154,21 @@ fn remarks_by(
     }
 }
 
-/// What is told of the sets that begin at these places of readings that have so many targets and
-/// are all in sets, before these readings after them.
+/// What is told of the sets that begin at these places of readings that are all in sets, and have so
+/// many targets with these ranges, before these readings after them.
 pub(crate) fn remarks_of(
     alloc: Global,
     starts: &[usize],
     in_sets: &[Sight],
     targets: usize,
+    ranges: &[ZenithRange],
     after: &[Sight],
 ) -> Result<Option<Remarks>, AllocError>
     requires few_sets { length starts.now ≤ MOST_SETS }
     requires few_targets { targets ≤ MOST_TARGETS }
     requires starts { starts.now ≡ starts_of in_sets.now }
     requires targets { targets ≡ length (targets_of in_sets.now) }
+    requires ranges { ranges.now ≡ ranges_of in_sets.now }
     ensures { IfOk result (λ r. r ≡ remarks_of in_sets.now after.now) }
 {
     let others = count_others(alloc, in_sets, after)?;
@@ -175,7 +178,7 @@ pub(crate) fn remarks_of(
     let turning = turning_of(first_cut(starts, in_sets));
     let again = is_opened_again(in_sets, after);
     let equal = equal_sets(alloc, starts, in_sets)?;
-    let zeniths = spread_ranges(alloc, in_sets)?;
+    let zeniths = spread_ranges(alloc, ranges)?;
     Ok(remarks_by(
         opening, turning, directions, missing, others, again, equal, zeniths,
     ))

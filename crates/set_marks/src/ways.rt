@@ -24,6 +24,7 @@ use crate::flaw::{Flaw, first_flaw, flaw_at, flaw_found, flaw_when};
 use crate::known::Known;
 use crate::outside::{
     Ending, before_ending, ends_in_one, in_ending, is_ended, may_end, may_follow, may_precede,
+    seems_ended,
 };
 use crate::set::{are_in_face, front, is_by_targets, sight_at};
 use crate::sight::Sight;
@@ -86,6 +87,9 @@ fn is_no_end(
         (λ b. b ≡ is_no_end sights.now place ending sets.now ended.now) }
     ensures unchanged { known.new ≡ known.old }
 {
+    if let Ending::Nothing = ending {
+        return Ok(false);
+    }
     if !may_end(ending, sets, ended) {
         return Ok(true);
     }
@@ -175,6 +179,9 @@ fn may_divide(ending: Ending, leading: &[Sight], after: &[Sight]) -> bool
 pub(crate) fn is_open_somewhere(ending: Ending, rest: &[Sight]) -> bool
     ensures { OnFalse result (IsClosed ending rest.now) }
 {
+    if !seems_ended(ending, rest) {
+        return false;
+    }
     let mut leading = 0;
     'tries: while leading < rest.len() && leading <= MOST_READINGS {
         if may_divide(ending, front(leading, rest), rest_after(leading, rest)) {
@@ -225,6 +232,9 @@ fn leading_of(
     ensures value { IfOk result (λ o. o ≡ leading_of ending sights.now) }
     ensures unchanged { known.new ≡ known.old }
 {
+    if !seems_ended(ending, rest) {
+        return Ok(None);
+    }
     let mut leading = 0;
     'tries: while leading < rest.len() && leading <= MOST_READINGS {
         if is_division(alloc, ending, known, sights, rest, leading)? {

@@ -1,11 +1,16 @@
 //! How far apart the zenith angles of each target are.
 
-ghost use Rattle.std.specs.Prelude.{◌≡◌, ◌++◌, ◌∷◌, [], IfOk, OnOk, option_map, slice_get};
+ghost use Rattle.std.specs.Prelude.{◌≡◌, ◌++◌, ◌∷◌, [], true, IfOk, IfSome, OnOk, filter, length};
+ghost use Rattle.std.specs.Prelude.{option_map, slice_get};
 ghost use Rattle.std.specs.Bool.{OnTrue};
-ghost use Rattle.set_marks.specs.Ranging.{IsUnique, place_in};
+ghost use Rattle.station_book.specs.Places.{with_new};
+ghost use Rattle.set_marks.specs.Divisions.{targets_of};
+ghost use Rattle.set_marks.specs.Ranging.{IsUnique, has_range, place_in, targets_in};
 ghost use Rattle.set_marks.specs.Zeniths.{zenith_in_one, range_of, with_angle, with_reading};
-ghost use Rattle.set_marks.specs.Zeniths.{ranges_of, spread, is_spread, spread_ranges};
+ghost use Rattle.set_marks.specs.Zeniths.{ranges_of, spread, is_spread};
 
+use crate::bounds::{FEW_READINGS, MOST_READINGS};
+use crate::names::Names;
 use crate::sight::Sight;
 use adjust_kernel::Name;
 use station_book::CIRCLE;
@@ -139,7 +144,8 @@ fn place_in(name: &Name, ranges: &[ZenithRange]) -> usize
 #[inline(always)]
 fn is_at(name: &Name, place: usize, ranges: &[ZenithRange]) -> bool
     requires { IsUnique ranges.now }
-    ensures { OnTrue result (place_in name.now ranges.now ≡ place) }
+    ensures place { OnTrue result (place_in name.now ranges.now ≡ place) }
+    ensures known { OnTrue result (has_range name.now ranges.now ≡ true) }
 {
     match range_at(ranges, place) {
         Some(range) => range.target.is_same(name),
@@ -147,24 +153,71 @@ fn is_at(name: &Name, place: usize, ranges: &[ZenithRange]) -> bool
     }
 }
 
-/// What `place_in` answers, by the place of the range that was asked for last: beside it the next
-/// one is looked for first, since targets are read in turn, and in face II mostly backwards.
-fn place_beside(name: &Name, last: usize, ranges: &[ZenithRange]) -> usize
+/// Where the range of the next reading's target is expected: after this place in face I, before it
+/// in face II, since targets are read in turn, and then mostly backwards. A guess, for speed: the
+/// target is compared.
+#[inline(always)]
+fn beside(place: usize, second: bool) -> usize {
+    if second {
+        place.wrapping_sub(1)
+    } else {
+        place.wrapping_add(1)
+    }
+}
+
+/// The place of the range of a reading's target, if it is one of those beside the range that was
+/// asked for last.
+#[inline(always)]
+fn place_beside(sight: &Sight, last: usize, ranges: &[ZenithRange]) -> Option<usize>
     requires { IsUnique ranges.now }
-    ensures { result ≡ place_in name.now ranges.now }
+    ensures place { IfSome result (λ place. place ≡ place_in sight.now.target ranges.now) }
+    ensures known { IfSome result (λ _. has_range sight.now.target ranges.now ≡ true) }
 {
-    let next = last.wrapping_add(1);
-    if is_at(name, next, ranges) {
-        return next;
+    let next = beside(last, sight.second);
+    if is_at(&sight.target, next, ranges) {
+        return Some(next);
     }
-    if is_at(name, last, ranges) {
-        return last;
+    if is_at(&sight.target, last, ranges) {
+        return Some(last);
     }
-    let before = last.wrapping_sub(1);
-    if is_at(name, before, ranges) {
-        return before;
+    let other = beside(last, !sight.second);
+    if is_at(&sight.target, other, ranges) {
+        return Some(other);
     }
-    place_in(name, ranges)
+    None
+}
+
+/// The place of the range of a reading's target, or how many ranges there are where it has none.
+/// Beside the range that was asked for last it is looked for first.
+fn place_of(sight: &Sight, last: usize, ranges: &[ZenithRange]) -> usize
+    requires { IsUnique ranges.now }
+    ensures { result ≡ place_in sight.now.target ranges.now }
+{
+    match place_beside(sight, last, ranges) {
+        Some(place) => place,
+        None => place_in(&sight.target, ranges),
+    }
+}
+
+/// What `place_of` answers, by the hash of the target. The names are those of the ranges, and the
+/// target's is among them then.
+#[inline(always)]
+fn place_by(
+    names: &mut Names,
+    sight: &Sight,
+    last: usize,
+    ranges: &[ZenithRange],
+) -> Result<usize, AllocError>
+    requires unique { IsUnique ranges.now }
+    requires names { names.old ≡ targets_in ranges.now }
+    ensures place { IfOk result (λ place. place ≡ place_in sight.now.target ranges.now) }
+    ensures names { OnOk result
+        (names.new ≡ with_new (targets_in ranges.now) sight.now.target) }
+{
+    match place_beside(sight, last, ranges) {
+        Some(place) => Ok(place),
+        None => names.place(&sight.target),
+    }
 }
 
 /// Adds a reading to the ranges at the place that its target has among them.
@@ -182,19 +235,52 @@ fn add_at(ranges: &mut Vec<ZenithRange>, place: usize, sight: &Sight) -> Result<
     Ok(())
 }
 
-/// The least and the greatest zenith angle of each target.
-fn ranges_of(alloc: Global, sights: &[Sight]) -> Result<Vec<ZenithRange>, AllocError>
+/// What `ranges_of` answers, of few readings.
+fn ranges_of_few(alloc: Global, sights: &[Sight]) -> Result<Vec<ZenithRange>, AllocError>
     ensures { IfOk result (λ ranges. ranges.items ≡ ranges_of sights.now) }
 {
     let mut ranges = Vec::new(alloc);
     let mut last = 0;
     let mut left = sights;
     'sights: while let Some((sight, rest)) = left.split_first() {
-        let place = place_beside(&sight.target, last, &ranges);
+        let place = place_of(sight, last, &ranges);
         add_at(&mut ranges, place, sight)?;
         last = place;
         left = rest;
     }
+    Ok(ranges)
+}
+
+/// The same, by a table of the targets.
+fn ranges_of_many(alloc: Global, sights: &[Sight]) -> Result<Vec<ZenithRange>, AllocError>
+    ensures { IfOk result (λ ranges. ranges.items ≡ ranges_of sights.now) }
+{
+    let mut ranges = Vec::new(alloc);
+    // Mostly the sets of a station have the same targets.
+    let mut names = Names::with_room(alloc, sights.len().min(MOST_READINGS) / 2)?;
+    let mut last = 0;
+    let mut left = sights;
+    'sights: while let Some((sight, rest)) = left.split_first() {
+        let place = place_by(&mut names, sight, last, &ranges)?;
+        add_at(&mut ranges, place, sight)?;
+        last = place;
+        left = rest;
+    }
+    Ok(ranges)
+}
+
+/// The least and the greatest zenith angle of each target.
+#[tactic(auto, using(crate::proofs::RangePlaces::as_many))]
+pub(crate) fn ranges_of(alloc: Global, sights: &[Sight]) -> Result<Vec<ZenithRange>, AllocError>
+    ensures ranges { IfOk result (λ ranges. ranges.items ≡ ranges_of sights.now) }
+    ensures count { IfOk result
+        (λ ranges. length ranges.items ≡ length (targets_of sights.now)) }
+{
+    let ranges = if sights.len() <= FEW_READINGS {
+        ranges_of_few(alloc, sights)?
+    } else {
+        ranges_of_many(alloc, sights)?
+    };
     Ok(ranges)
 }
 
@@ -205,13 +291,15 @@ fn is_spread(range: &ZenithRange) -> bool
     range.spread() > LARGEST_SPREAD
 }
 
-/// The targets of these readings whose zenith angles differ.
-pub(crate) fn spread_ranges(alloc: Global, sights: &[Sight]) -> Result<ZenithRanges, AllocError>
-    ensures { IfOk result (λ found. found ≡ spread_ranges sights.now) }
+/// The targets of these ranges whose zenith angles differ.
+pub(crate) fn spread_ranges(
+    alloc: Global,
+    ranges: &[ZenithRange],
+) -> Result<ZenithRanges, AllocError>
+    ensures { IfOk result (λ found. found ≡ filter is_spread ranges.now) }
 {
-    let ranges = ranges_of(alloc, sights)?;
     let mut found = ZenithRanges::new(alloc);
-    let mut left: &[ZenithRange] = &ranges;
+    let mut left = ranges;
     'targets: while let Some((range, rest)) = left.split_first() {
         if is_spread(range) {
             found.add(*range)?;

@@ -1,7 +1,12 @@
-use Rattle.std.proofs.Common.{sym, ◌∙◌, take, drop, arith}
-use Rattle.set_marks.specs.Searching.{may_divide}
-use Rattle.set_marks.proofs.Tries.{none_more}
+use Rattle.std.proofs.Common.{◌≡◌, false, rules, sym, ◌∙◌, take, drop, arith}
+use Rattle.set_marks.specs.Searching.{may_divide, seems_ended}
+use Rattle.set_marks.proofs.Tries.{closed_by_last, none_more}
 use Rattle.set_marks.proofs.ways.is_open_somewhere.Goals as goal
+
+pub returns-then-not-seems_ended : goal.returns-then-not-seems_ended
+returns-then-not-seems_ended c =
+    let none : seems_ended c.args.ending c.args.rest.now ≡ false = search rules in
+    closed_by_last c.args.ending c.args.rest.now none
 
 pub tries-preserved : goal.tries-preserved
 tries-preserved c =

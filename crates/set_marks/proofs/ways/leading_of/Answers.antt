@@ -1,7 +1,13 @@
-use Rattle.std.proofs.Common.{sym, ◌∙◌, arith}
+use Rattle.std.proofs.Common.{◌≡◌, false, rules, sym, ◌∙◌, arith}
+use Rattle.set_marks.specs.Searching.{seems_ended}
 use Rattle.set_marks.specs.Ways.{is_division}
-use Rattle.set_marks.proofs.Tries.{found_leading, found_none, none_more}
+use Rattle.set_marks.proofs.Tries.{found_leading, found_none, none_by_last, none_more}
 use Rattle.set_marks.proofs.ways.leading_of.Goals as goal
+
+pub returns-then-not-seems_ended-clause-value : goal.returns-then-not-seems_ended-clause-value
+returns-then-not-seems_ended-clause-value c =
+    let none : seems_ended c.args.ending c.args.rest.now ≡ false = search rules in
+    none_by_last c.args.ending c.args.sights.now c.args.rest.now c.requires.rest none
 
 pub returns-then-branch-clause-value : goal.returns-then-branch-clause-value
 returns-then-branch-clause-value c =
