@@ -23,7 +23,8 @@ AGREEMENT = ("station_compare", "Agreeing")
 
 # The promises of what is printed, each after those whose files it shares.
 PRINTED = {
-    "What `directions` prints": ("station_compare", "Directions"),
+    "What `directions` prints": ("station_answers", "Directions"),
+    "What `directions`, `residuals`, `report` and `report --csv` say of a field file": ("station_answers", "Answers"),
     "What `list` prints": ("station_check", "Listing"),
     "What `list --csv` prints": ("list_rows", "Listing"),
     "What `means` prints": ("station_check", "Means"),

@@ -15,8 +15,11 @@ use Rattle.command_line.specs.declared.request.Request.{Request}
 use Rattle.command_line.specs.declared.request.Request.TheVariants as request
 use Rattle.direction_table.specs.declared.unit.AngleUnit.{AngleUnit}
 use Rattle.list_rows.specs.Runs.{IsRowsRun}
-use Rattle.report_rows.specs.Runs.{IsReportRowsRun}
+use Rattle.report_rows.specs.Stating.{AreReportRows}
+use Rattle.station_answers.specs.Runs.{IsAnswerRun}
+use Rattle.station_answers.specs.Saying.{SaysDirections, SaysReport, SaysResiduals}
 use Rattle.station_book.specs.Limits.{FaceLimits}
+use Rattle.station_book.specs.ResultLimits.{of_faces}
 use Rattle.station_book.specs.declared.result_limits.ResultLimits.{ResultLimits}
 use Rattle.station_check.specs.ListNotes.{unchecked_note}
 use Rattle.station_check.specs.RunEndings.{Run, RunWithNotes, WritesOrFails}
@@ -24,7 +27,7 @@ use Rattle.station_check.specs.Runs.{IsCheckRun, IsMeansRun, IsNotedListRun, IsW
 use Rattle.station_check.specs.VerdictLines.{refusal_line}
 use Rattle.station_check.specs.declared.fault.Fault.TheVariants.{Memory}
 use Rattle.station_compare.specs.FaultTexts.{refusal_line as compare_refusal_line}
-use Rattle.station_compare.specs.Runs.{IsCompareRun, IsDirectionsRun}
+use Rattle.station_compare.specs.Runs.{IsCompareRun}
 use Rattle.station_differences.specs.Runs.{IsDifferencesRun}
 use Rattle.station_explain.specs.Table.{Explanation}
 use Rattle.station_mark.specs.FaultTexts.{refusal_text as mark_refusal_text}
@@ -43,8 +46,6 @@ use Rattle.job_statements.specs.Numbers.{Said, said_in}
 use Rattle.station_record.specs.Recorded.{IsRecordedCheck, IsRecordedCompare, IsRecordedReport}
 use Rattle.station_record.specs.Recorded.{IsRecordedTableReport}
 use Rattle.station_record.specs.declared.named.NamedReader.{NamedReader}
-use Rattle.station_report.specs.Runs.{IsReportRun}
-use Rattle.station_residuals.specs.Runs.{IsResidualsRun}
 use Rattle.table_report.specs.Runs.{IsTableReportRun}
 use Rattle.table_report.specs.Stating.{ReportAsked}
 
@@ -78,7 +79,7 @@ abbrev pub ReportsFile : {F : Type 0} → Readers F → WriterChange → WriterC
     → List ℕ → ResultLimits → Digests → ℕ → Type 0
 ReportsFile files out err gsi station limits digests.Omitted status =
     IsTakenIn files gsi.reader (λ gsi_change. Run {A = ⊤} compare_refusal_line
-    (IsReportRun gsi.name.now limits gsi_change station) status out err)
+    (IsAnswerRun (SaysReport gsi.name.now limits) limits gsi_change station) status out err)
 ReportsFile files out err gsi station limits digests.Printed status =
     IsTakenIn files gsi.reader (λ gsi_change. Run {A = ⊤} compare_refusal_line
     (IsRecordedReport gsi.name.now limits gsi_change station) status out err)
@@ -134,15 +135,15 @@ IsRun files new_files inputs input faults out err (request.Means gsi station lim
     (IsMeansRun limits gsi station.now) status out err)
 IsRun files new_files inputs input faults out err (request.Directions gsi station limits decimals) status =
     IsTakenIn files gsi.reader (λ gsi. Run {A = ⊤} compare_refusal_line
-    (IsDirectionsRun limits gsi station.now decimals) status out err)
+    (IsAnswerRun (SaysDirections decimals) limits gsi station.now) status out err)
 IsRun files new_files inputs input faults out err (request.Residuals gsi station limits) status =
     IsTakenIn files gsi.reader (λ gsi. Run {A = ⊤} compare_refusal_line
-    (IsResidualsRun limits gsi station.now) status out err)
+    (IsAnswerRun SaysResiduals (of_faces limits) gsi station.now) status out err)
 IsRun files new_files inputs input faults out err (request.Report gsi station limits digests) status =
     ReportsFile files out err gsi station.now limits digests status
 IsRun files new_files inputs input faults out err (request.ReportRows gsi station limits) status =
     IsTakenIn files gsi.reader (λ gsi. Run {A = ⊤} compare_refusal_line
-    (IsReportRowsRun limits gsi station.now) status out err)
+    (IsAnswerRun AreReportRows limits gsi station.now) status out err)
 IsRun files new_files inputs input faults out err
     (request.TableReport gsi station table unit limits within digests) status =
     ReportsFiles files out err gsi station.now table unit limits within digests status

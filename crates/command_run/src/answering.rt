@@ -20,10 +20,10 @@ use command_line::{Digests, ListForm, Request};
 use direction_table::AngleUnit;
 use job_statements::{Beginnings, Stated};
 use list_rows::run_list_rows;
-use report_rows::run_report_rows;
+use station_answers::{Directions, Report, ReportRows, Residuals, run_answer};
 use station_book::{Limits, ResultLimits};
 use station_check::{run_check, run_list, run_means, run_words};
-use station_compare::{run_compare, run_directions};
+use station_compare::run_compare;
 use station_differences::run_differences;
 use station_explain::Explanation;
 use station_mark::run_mark;
@@ -31,8 +31,6 @@ use station_record::{
     NamedReader, run_check_recorded, run_compare_recorded, run_report_recorded,
     run_table_report_recorded,
 };
-use station_report::run_report;
-use station_residuals::run_residuals;
 use std::alloc::Global;
 use table_report::{Asked, run_table_report};
 
@@ -332,20 +330,34 @@ fn run_request<'a, H: Host, W: Sink, E: Sink>(
             station,
             limits,
             decimals,
-        } => run_directions(
-            alloc,
-            gsi.reader,
-            station.as_bytes(),
-            limits,
-            decimals,
-            out,
-            err,
-        ),
+        } => {
+            let asked = Directions { decimals };
+            run_answer(
+                alloc,
+                gsi.reader,
+                station.as_bytes(),
+                limits,
+                &asked,
+                out,
+                err,
+            )
+        }
         Request::Residuals {
             gsi,
             station,
             limits,
-        } => run_residuals(alloc, gsi.reader, station.as_bytes(), limits, out, err),
+        } => {
+            let limits = ResultLimits::of_faces(limits);
+            run_answer(
+                alloc,
+                gsi.reader,
+                station.as_bytes(),
+                limits,
+                &Residuals,
+                out,
+                err,
+            )
+        }
         Request::Report {
             gsi,
             station,
@@ -356,7 +368,15 @@ fn run_request<'a, H: Host, W: Sink, E: Sink>(
             gsi,
             station,
             limits,
-        } => run_report_rows(alloc, gsi.reader, station.as_bytes(), limits, out, err),
+        } => run_answer(
+            alloc,
+            gsi.reader,
+            station.as_bytes(),
+            limits,
+            &ReportRows,
+            out,
+            err,
+        ),
         Request::TableReport {
             gsi,
             station,
@@ -546,7 +566,10 @@ fn report_file<F: Source, W: Sink, E: Sink>(
 {
     let name = station.as_bytes();
     match digests {
-        Digests::Omitted => run_report(alloc, gsi.reader, gsi.name, name, limits, out, err),
+        Digests::Omitted => {
+            let asked = Report { path: gsi.name };
+            run_answer(alloc, gsi.reader, name, limits, &asked, out, err)
+        }
         Digests::Printed => run_report_recorded(alloc, gsi, name, limits, out, err),
     }
 }

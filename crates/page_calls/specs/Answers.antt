@@ -8,8 +8,12 @@ use Rattle.byte_digests.specs.declared.put_line.TheConstants.{MOST_BESIDE_NAME}
 use Rattle.direction_table.specs.declared.unit.AngleUnit.TheVariants.{Gon}
 use Rattle.gsi_file.specs.FileAnswers.{file_answers}
 use Rattle.adjust_kernel.specs.declared.accepted.Accepted.{Accepted}
+use Rattle.station_answers.specs.Answers.{TellsOf}
+use Rattle.station_answers.specs.Saying.{SaysDirections, SaysReport, SaysResiduals}
 use Rattle.station_book.specs.Limits.{FaceLimits}
 use Rattle.station_book.specs.ResultLimits.{of_faces}
+use Rattle.station_book.specs.Stations.{SurveyedStation}
+use Rattle.station_book.specs.declared.result_limits.ResultLimits.{ResultLimits}
 use Rattle.set_marks.specs.Markings.{AnswersMark}
 use Rattle.job_statements.specs.Numbers.{said_in}
 use Rattle.job_statements.specs.declared.beginnings.Beginnings.{Beginnings}
@@ -30,15 +34,12 @@ use Rattle.station_check.specs.Words.{WritesWords}
 use Rattle.station_check.specs.declared.runs.TheConstants.{ACCEPTED, REFUSED}
 use Rattle.station_check.specs.declared.verdict_line.TheConstants.{LONGEST_VERDICT_LINE}
 use Rattle.station_compare.specs.Answers.{Compares}
-use Rattle.station_compare.specs.Directions.{TellsDirections}
 use Rattle.station_compare.specs.declared.agreement.Agreement.{Agreement}
 use Rattle.station_compare.specs.declared.fault.CompareFault.{CompareFault}
 use Rattle.station_differences.specs.Answers.{TellsDifferences}
 use Rattle.station_explain.specs.Table.{Explanation, IsTheTable}
 use Rattle.station_mark.specs.FaultTexts.{refusal_line}
 use Rattle.station_mark.specs.declared.fault.PrintFault.TheVariants.{Mark}
-use Rattle.station_report.specs.Answers.{TellsReport}
-use Rattle.station_residuals.specs.Answers.{TellsResiduals}
 use Rattle.page_calls.specs.Explained.{AnswersLine, explanation_or_refusal}
 use Rattle.page_calls.specs.HandedOut.{HandsOut, verdict_line, text_or_refusal, refusal_text}
 use Rattle.page_calls.specs.HandedOut.{comparison_line, table_or_refusal, copy_text}
@@ -98,35 +99,29 @@ pub record IsWordsOf (gsi : List ℕ) (refusal_room : ℕ) (refusal : List ℕ) 
   pub hands_text_out : HandsOut (status_of answer) text room status shown
   pub hands_line_out : HandsOut status (refusal_text answer) refusal_room answered refusal
 
--- The status and the table are those of the least-squares directions of the station of this name in
--- these bytes, with so many decimals, by the largest limit of residuals.
-pub record IsDirectionsOf (two_c two_i : ℕ) (gsi name : List ℕ) (decimals room answered : ℕ)
-    (shown : List ℕ) : Type 0 where
+-- The status and the text are those of what is answered of the station of this name in these bytes,
+-- by the largest limit of residuals.
+pub record IsTextOf (Says : ResultLimits → SurveyedStation → List ℕ → Type 0) (two_c two_i : ℕ)
+    (gsi name : List ℕ) (room answered : ℕ) (shown : List ℕ) : Type 0 where
   pub limits : FaceLimits
   pub states : States two_c two_i limits
   pub answer : Result (List ℕ) CompareFault
-  pub tells : TellsDirections (of_faces limits) (file_answers (source_of gsi)) name decimals answer
+  pub tells : TellsOf (Says (of_faces limits)) (of_faces limits) (file_answers (source_of gsi))
+      name answer
   pub hands_out : HandsOut (status_of answer) (table_or_refusal answer) room answered shown
 
--- The status and the text are those of the residuals of the station of this name in these bytes,
--- observation by observation.
-pub record IsResidualsOf (two_c two_i : ℕ) (gsi name : List ℕ) (room answered : ℕ)
-    (shown : List ℕ) : Type 0 where
-  pub limits : FaceLimits
-  pub states : States two_c two_i limits
-  pub answer : Result (List ℕ) CompareFault
-  pub tells : TellsResiduals limits (file_answers (source_of gsi)) name answer
-  pub hands_out : HandsOut (status_of answer) (table_or_refusal answer) room answered shown
+-- It is the table of its least-squares directions, with so many decimals.
+abbrev pub IsDirectionsOf : ℕ → ℕ → List ℕ → List ℕ → ℕ → ℕ → ℕ → List ℕ → Type 0
+IsDirectionsOf two_c two_i gsi name decimals =
+    IsTextOf (λ limits. SaysDirections decimals) two_c two_i gsi name
 
--- The status and the text are those of the report of the station of this name in these bytes, by
--- the largest limit of residuals; it names the field file by these bytes of a path.
-pub record IsReportOf (two_c two_i : ℕ) (gsi path name : List ℕ) (room answered : ℕ)
-    (shown : List ℕ) : Type 0 where
-  pub limits : FaceLimits
-  pub states : States two_c two_i limits
-  pub answer : Result (List ℕ) CompareFault
-  pub tells : TellsReport path (of_faces limits) (file_answers (source_of gsi)) name answer
-  pub hands_out : HandsOut (status_of answer) (table_or_refusal answer) room answered shown
+-- It is its residuals, observation by observation.
+abbrev pub IsResidualsOf : ℕ → ℕ → List ℕ → List ℕ → ℕ → ℕ → List ℕ → Type 0
+IsResidualsOf two_c two_i gsi name = IsTextOf (λ limits. SaysResiduals) two_c two_i gsi name
+
+-- It is its report, which names the field file by these bytes of a path.
+abbrev pub IsReportOf : ℕ → ℕ → List ℕ → List ℕ → List ℕ → ℕ → ℕ → List ℕ → Type 0
+IsReportOf two_c two_i gsi path name = IsTextOf (SaysReport path) two_c two_i gsi name
 
 -- The status and the line are those of the comparison of these bytes of a table with the station of
 -- this name in these bytes of a field file, by the largest limit of residuals, of which the whole

@@ -38,6 +38,7 @@ mod means;
 mod report;
 mod residuals;
 mod statement;
+mod station;
 mod text;
 mod words;
 

@@ -1,20 +1,11 @@
 //! The residuals of a station, observation by observation, for a page.
 
-ghost use Rattle.std.specs.Prelude.{MatchResult};
-ghost use Rattle.gsi_file.specs.FileAnswers.{file_answers};
-ghost use Rattle.station_book.specs.ResultLimits.{of_faces};
-ghost use Rattle.station_check.specs.Came.{source_of};
-ghost use Rattle.station_compare.specs.Directions.{HasNoDirections};
 ghost use Rattle.page_calls.specs.Answers.{IsResidualsOf};
 ghost use Rattle.page_calls.specs.HandedOut.{ShowsInRange};
 ghost use Rattle.page_calls.specs.Limits.{AreFaceLimits};
-ghost use Rattle.station_residuals.specs.Stating.{StatesResiduals};
 
-use crate::hand_out::{OUT_OF_RANGE, hand_out};
-use station_book::Limits;
-use station_check::{ACCEPTED, REFUSED, source_of};
-use station_compare::{CompareFault, refusal_line};
-use station_residuals::residuals_text;
+use crate::station::hand_out_station;
+use station_answers::Residuals;
 use std::alloc::Global;
 
 /// Hands out the residuals of the station of this name, of a whole field file: a row of titles, and
@@ -36,26 +27,5 @@ pub fn page_residuals(
     ensures { ShowsInRange (AreFaceLimits two_c two_i)
         (IsResidualsOf two_c two_i gsi.now name.now) out.old out.new written.new result }
 {
-    *written = 0;
-    let Some(limits) = Limits::new(two_c, two_i) else {
-        return OUT_OF_RANGE;
-    };
-    match residuals_of(alloc, gsi, name, limits) {
-        Ok(text) => hand_out(ACCEPTED, &text, out, written),
-        Err(fault) => hand_out(REFUSED, refusal_line(fault).as_slice(), out, written),
-    }
-}
-
-/// The residuals of the station of this name, where the bytes of the field file are at hand.
-fn residuals_of(
-    alloc: Global,
-    gsi: &[u8],
-    name: &[u8],
-    limits: Limits,
-) -> Result<Vec<u8>, CompareFault>
-    ensures { MatchResult result
-        (λ text. StatesResiduals limits (file_answers (source_of gsi.now)) name.now text.items)
-        (HasNoDirections (of_faces limits) (file_answers (source_of gsi.now)) name.now) }
-{
-    residuals_text(alloc, source_of(gsi), name, limits)
+    hand_out_station(alloc, gsi, name, two_c, two_i, &Residuals, out, written)
 }

@@ -1,7 +1,6 @@
 -- From the parts of a comparison to what it answers.
 use Rattle.std.proofs.Common.{◌≡◌, ℕ, List, Result, Ok, Err, refl, subst, inl, inr, Option}
 use Rattle.std.proofs.Common.{Some}
-use Rattle.std.specs.Prelude.{MatchResult}
 use Rattle.adjust_kernel.specs.Stations.{StationValue}
 use Rattle.byte_ends.specs.Input.{Input, Ended, BrokeOff, RanPast, input_within}
 use Rattle.byte_ends.specs.Came.{IsLeftAs, IsReadOut, IsUnasked, Leaves}
@@ -24,11 +23,10 @@ use Rattle.station_check.specs.declared.fault.Fault.TheVariants as file
 use Rattle.station_compare.specs.Agreeing.{Agrees}
 use Rattle.station_compare.specs.Answers.{Compares, IsComparison, field_file_left, table_left}
 use Rattle.station_compare.specs.Comparing.{ByInput, IsAgreement, IsComparedWith}
-use Rattle.station_compare.specs.Directions.{HasNoTable, IsDirectionsText}
 use Rattle.station_compare.specs.Faults.{of_file}
 use Rattle.station_compare.specs.declared.agreement.Agreement.{Agreement}
 use Rattle.station_compare.specs.declared.fault.CompareFault.{CompareFault}
-use Rattle.station_compare.specs.declared.fault.CompareFault.TheVariants.{File, Adjust, Memory}
+use Rattle.station_compare.specs.declared.fault.CompareFault.TheVariants.{File, Memory}
 use Rattle.direction_table.specs.declared.unit.AngleUnit.{AngleUnit}
 
 -- A table that agrees was read to its end.
@@ -141,17 +139,6 @@ pub left_by_file : {A B : Type 0} (s : Result A Fault) (fault : Fault) (r : Resu
     (gsi : ReaderChange) → s ≡ Err fault → r ≡ Err (of_file fault) → Leaves file_left s gsi
     → Leaves field_file_left r gsi
 left_by_file s fault r gsi e f h = rw f (left_with fault gsi (rw e at h))
-
--- So does a station that has no table.
-pub left_by_no_table : {T : Type 0} (items : T → List ℕ) (its : SurveyedStation)
-    (residual count : ℕ) (r : Result T CompareFault) (gsi : ReaderChange)
-    → MatchResult r (λ t. IsDirectionsText its.station count (items t))
-    (HasNoTable its.station residual)
-    → IsReadOut gsi → Leaves field_file_left r gsi
-left_by_no_table items its residual count (Ok text) gsi h out = out
-left_by_no_table items its residual count (Err (Adjust fault)) gsi h out = out
-left_by_no_table items its residual count (Err Memory) gsi h out = out.unfailed
-left_by_no_table items its residual count (Err fault) gsi h out = absurd h
 
 -- Of two readers that tell, the answer is of what they tell.
 pub comparison_as_told : (unit : AngleUnit) (limits : ResultLimits) (within : Option ℕ)

@@ -39,8 +39,7 @@ use Rattle.station_check.specs.declared.fault.Fault.TheVariants.{NoStation}
 use Rattle.station_compare.proofs.Comparisons.{compares_by_table}
 use Rattle.station_compare.specs.Answers.{Compares}
 use Rattle.station_compare.specs.Comparing.{ByInput}
-use Rattle.station_compare.specs.Directions.{TellsDirections}
-use Rattle.station_compare.specs.OneAnswer.{IsHeldTogether, IsNoMemory, IsUpToAdjustment}
+use Rattle.station_compare.specs.OneAnswer.{IsNoMemory, IsUpToAdjustment}
 use Rattle.station_compare.specs.declared.agreement.Agreement.{Agreement}
 use Rattle.station_compare.specs.declared.fault.CompareFault.{CompareFault}
 use Rattle.station_compare.specs.declared.fault.CompareFault.TheVariants.{File, TableRead, Table}
@@ -52,7 +51,7 @@ at_the_end : (past : History) (o : Option BookKind) → Err NoStation ≡ at_end
 at_the_end past None e = cc
 at_the_end past (Some kind) e = cc
 
-never_no_station : (limits : FaceLimits) (past : History) (xs : List (List ℕ))
+pub never_no_station : (limits : FaceLimits) (past : History) (xs : List (List ℕ))
     (last : Option FileKind) → ComesTo limits past xs last (Err NoStation) → ⊥
 never_no_station limits past [] (Some kind) h = cc
 never_no_station limits past [] None h = at_the_end past (fault_at_end past) h
@@ -88,7 +87,7 @@ divided_too station ks ls e d = record {
     Inside : TurnedObservation → Type 0
     Inside r = d.part_of_set r.set ≡ d.part_of_target r.target
 
-tied_or_not : (station : StationValue) → AreTied station ⊎ (AreTied station → ⊥)
+pub tied_or_not : (station : StationValue) → AreTied station ⊎ (AreTied station → ⊥)
 tied_or_not station =
     let none = map (λ (o : Obs). pos 0) station.obs in
     elim (connected_or_divided (length station.sets) (length station.targets)
@@ -118,7 +117,7 @@ module _ (limits : FaceLimits) (small : AreLimits limits) (file : FileAnswers) (
       by_name survey.0 (record { blocks = blocks; file = h; stations_are = survey.1 })
       (station_named name survey.0) refl
 
-  of_file : Answer
+  pub of_file : Answer
   of_file = let came = some_outcome limits file in by_outcome came.0 came.1
 
 module _ (unit : AngleUnit) (limits : ResultLimits) (small : AreLimits limits.faces) (file : FileAnswers)
@@ -169,28 +168,3 @@ module _ (unit : AngleUnit) (limits : ResultLimits) (small : AreLimits limits.fa
   some_answer = of_file limits.faces small file name AnAnswer by_fault
       (λ h. inl (Err (File NoStation), h, tt))
       (λ its of. by_input its of (input_within LONGEST_TABLE stated) refl)
-
-module _ (limits : ResultLimits) (small : AreLimits limits.faces) (file : FileAnswers) (name : List ℕ)
-    (count : ℕ) where
-  abbrev AText : Type 0
-  AText =
-      ((r : Result (List ℕ) CompareFault) × TellsDirections limits file name count r × IsNoMemory r)
-      ⊎ IsHeldTogether limits file name
-
-  no_text : (fault : Fault) → FileComesTo limits.faces file (Err fault) → AText
-  no_text NoStation h = absurd (never_no_station limits.faces [] file.lines file.last h)
-  no_text fault h = inl (Err (File fault), h, tt)
-
-  by_station : (its : SurveyedStation) → IsStationOfFile limits.faces file name its → AText
-  by_station its of = elim (tied_or_not its.station) [
-    | inl tied ↦ inr (record { its = its; station = of; tied = tied })
-    | inr loose ↦ inl (
-      Err (Adjust adjust.NotConnected),
-      record { its = its; station = of; none = loose },
-      tt,
-    )
-  ]
-
-  pub some_directions : AText
-  some_directions = of_file limits.faces small file name AText no_text
-      (λ h. inl (Err (File NoStation), h, tt)) by_station

@@ -4,8 +4,6 @@ pub mod LimitInForce
 pub mod Agreeing
 pub mod Comparing
 pub mod Answers
-pub mod Directions
-pub mod OwnDirections
 pub mod OneAnswer
 pub mod Faults
 pub mod FaultNames

@@ -26,12 +26,6 @@ abbrev pub IsNoMemory : {A : Type 0} → Result A CompareFault → Type 0
 IsNoMemory (Err Memory) = ⊥
 IsNoMemory result = ⊤
 
--- The file has a station of this name, whose observations hold all sets and targets together.
-pub record IsHeldTogether (limits : ResultLimits) (file : FileAnswers) (name : List ℕ) : Type 0 where
-  pub its : SurveyedStation
-  pub station : IsStationOfFile limits.faces file name its
-  pub tied : AreTied its.station
-
 -- All before the adjustment is without fault: the file has a station of this name, whose
 -- observations hold all sets and targets together, and the bytes are a table of its directions.
 pub record IsUpToAdjustment (unit : AngleUnit) (limits : ResultLimits) (file : FileAnswers)

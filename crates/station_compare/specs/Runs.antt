@@ -9,7 +9,6 @@ use Rattle.station_check.specs.Came.{LinesCame}
 use Rattle.station_check.specs.RunEndings.{PrintsAnswer}
 use Rattle.station_compare.specs.AgreementTexts.{agreement_line}
 use Rattle.station_compare.specs.Answers.{IsComparison, field_file_left}
-use Rattle.station_compare.specs.Directions.{TellsDirections}
 use Rattle.station_compare.specs.declared.agreement.Agreement.{Agreement}
 use Rattle.station_compare.specs.declared.fault.CompareFault.{CompareFault}
 use Rattle.station_compare.specs.declared.fault.CompareFault.TheVariants.{Write}
@@ -29,10 +28,3 @@ pub record IsCompareRun {A : Type 0} (unit : AngleUnit) (limits : ResultLimits) 
   pub verdict : Result Agreement CompareFault
   pub compares : IsComparison unit limits within gsi table name verdict
   pub printed : PrintsAnswer agreement_line Write verdict r out
-
--- A run of the directions: all that it promises of its answer, and how the text was written.
-pub record IsDirectionsRun {A : Type 0} (limits : ResultLimits) (gsi : ReaderChange) (name : List ℕ)
-    (count : ℕ) (r : Result A CompareFault) (out : WriterChange) : Type 0 where
-  pub answer : Result (List ℕ) CompareFault
-  pub tells : ReadsFieldFile gsi answer (λ file. TellsDirections limits file name count answer)
-  pub printed : PrintsAnswer (λ text. text) Write answer r out

@@ -2,14 +2,12 @@
 //!
 //! `compare_bytes` reads a field file and a table of directions, and tells whether the stated
 //! directions agree with the least-squares directions of the station: least over all directions,
-//! orientations and full turns. `write_directions` writes such a table. `run_compare` and
-//! `run_directions` do the same as commands: the line of an agreement or the table, the line of a
-//! refusal, and the exit status.
+//! orientations and full turns. `run_compare` does the same as a command: the line of an agreement,
+//! the line of a refusal, and the exit status.
 #![tactic(auto)]
 
 mod agreement;
 mod compare;
-mod directions;
 mod fault;
 mod how_far;
 pub mod laws;
@@ -18,8 +16,7 @@ mod runs;
 
 pub use agreement::{Agreement, agreement_line};
 pub use compare::{compare_bytes, compare_sources};
-pub use directions::{directions_text, write_directions};
 pub use fault::CompareFault;
 pub use how_far::HowFar;
 pub use refused::refusal_line;
-pub use runs::{refuse, run_compare, run_directions};
+pub use runs::{refuse, run_compare};

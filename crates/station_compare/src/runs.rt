@@ -1,5 +1,5 @@
-//! The commands `compare` and `directions`, over sources of bytes and sinks: each makes its call,
-//! and answers the exit status.
+//! The command `compare`, over sources of bytes and sinks: it makes its call, and answers the exit
+//! status.
 
 ghost use Rattle.std.specs.Prelude.{◌≡◌, ⊤};
 ghost use Rattle.byte_ends.specs.Writers.{writer_change};
@@ -7,16 +7,15 @@ ghost use Rattle.byte_ends.specs.Source.{reader_change, UntilDropped};
 ghost use Rattle.station_check.specs.RunEndings.{Run, PrintsAnswer, WritesOrFails};
 ghost use Rattle.station_compare.specs.AgreementTexts as spec;
 ghost use Rattle.station_compare.specs.FaultTexts.{refusal_line};
-ghost use Rattle.station_compare.specs.Runs.{IsCompareRun, IsDirectionsRun};
+ghost use Rattle.station_compare.specs.Runs.{IsCompareRun};
 ghost use Rattle.station_compare.specs.declared.fault.CompareFault.TheVariants.{Write};
 
 use crate::agreement::{Agreement, agreement_line};
 use crate::compare::compare_bytes;
-use crate::directions::write_directions;
 use crate::fault::CompareFault;
 use crate::refused::refusal_line;
 use byte_ends::{Sink, Source};
-use direction_table::{AngleUnit, Decimals};
+use direction_table::AngleUnit;
 use station_book::ResultLimits;
 use station_check::{ACCEPTED, refuse_by, write_whole};
 use std::alloc::Global;
@@ -44,29 +43,6 @@ pub fn run_compare<R: Source, Q: Source, W: Sink, E: Sink>(
 {
     let verdict = compare_bytes(alloc, gsi, table, unit, name, limits, within);
     match print_verdict(verdict, out) {
-        Ok(()) => ACCEPTED,
-        Err(fault) => refuse(fault, err),
-    }
-}
-
-/// Writes the table of the least-squares directions of the station of this name to `out`, each
-/// rounded to so many decimals of a gon, and answers the exit status: 0 where all was written, else
-/// 1, with the line of a refusal on `err`.
-pub fn run_directions<R: Source, W: Sink, E: Sink>(
-    alloc: Global,
-    gsi: R,
-    name: &[u8],
-    limits: ResultLimits,
-    decimals: Decimals,
-    out: &mut W,
-    err: &mut E,
-) -> u8
-    ensures { UntilDropped R.told R.failed R.gave gsi (λ gsi. Run {A = ⊤} refusal_line
-        (IsDirectionsRun limits gsi name.now decimals)
-        result (writer_change W.Sink out.old out.new)
-        (writer_change E.Sink err.old err.new)) }
-{
-    match write_directions(alloc, gsi, name, limits, decimals, out) {
         Ok(()) => ACCEPTED,
         Err(fault) => refuse(fault, err),
     }

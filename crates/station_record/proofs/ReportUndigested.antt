@@ -9,10 +9,11 @@ use Rattle.byte_ends.specs.Source.{Told, ReaderChange, reader_change}
 use Rattle.gsi_file.specs.FileAnswers.{FileAnswers}
 use Rattle.sha2.specs.Hashers.{Holds256}
 use Rattle.sha2.specs.Sha256.{sha256}
+use Rattle.station_answers.specs.Answers.{HasNone, StatesOf}
+use Rattle.station_answers.specs.Saying.{SaysReport}
 use Rattle.station_book.specs.declared.result_limits.ResultLimits.{ResultLimits}
 use Rattle.station_check.specs.RunEndings.{PrintsAnswer}
 use Rattle.station_compare.specs.Answers.{field_file_left, table_left}
-use Rattle.station_compare.specs.Directions.{HasNoDirections}
 use Rattle.station_compare.specs.Runs.{ReadsFieldFile}
 use Rattle.station_compare.specs.declared.fault.CompareFault.{CompareFault}
 use Rattle.station_compare.specs.declared.fault.CompareFault.TheVariants.{Write}
@@ -20,7 +21,6 @@ use Rattle.station_differences.specs.Answers.{HasNoDifferences, ReadsBoth}
 use Rattle.station_record.proofs.Alike.{leaves_too}
 use Rattle.station_record.specs.Recorded.{IsRecordedReport, IsRecordedTableReport}
 use Rattle.station_record.specs.Recorded.{recorded_both_text, recorded_report_text}
-use Rattle.station_report.specs.Stating.{StatesReport}
 use Rattle.table_report.specs.Runs.{PrintsReport}
 use Rattle.table_report.specs.Stating.{ReportAsked, ReportValue, StatesTableReport}
 
@@ -90,8 +90,8 @@ printed_too items print text (Err fault) out p = p
 pub recorded_report : {T A : Type 0} (items : T → List ℕ) (path : List ℕ) (limits : ResultLimits)
     (gsi : ReaderChange) (station : List ℕ) (answer : Result T CompareFault)
     (a : ReadsFieldFile gsi answer (λ file. MatchResult answer
-    (λ text. StatesReport path limits file station (items text))
-    (HasNoDirections limits file station))) (d : List ℕ) → d ≡ sha256 a.came.given
+    (λ text. StatesOf (SaysReport path limits) limits file station (items text))
+    (HasNone limits file station))) (d : List ℕ) → d ≡ sha256 a.came.given
     → (r : Result A CompareFault) (out : WriterChange)
     → PrintsAnswer (λ text. recorded_report_text (items text) d path) Write answer r out
     → IsRecordedReport path limits gsi station r out

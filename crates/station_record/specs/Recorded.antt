@@ -6,6 +6,8 @@ use Rattle.byte_ends.specs.Sink.{WriterChange}
 use Rattle.byte_ends.specs.Source.{ReaderChange}
 use Rattle.direction_table.specs.declared.unit.AngleUnit.{AngleUnit}
 use Rattle.sha2.specs.Sha256.{sha256}
+use Rattle.station_answers.specs.Answers.{TellsOf}
+use Rattle.station_answers.specs.Saying.{SaysReport}
 use Rattle.station_book.specs.Limits.{FaceLimits}
 use Rattle.station_book.specs.declared.result_limits.ResultLimits.{ResultLimits}
 use Rattle.station_check.specs.Promise.{IsAnswer}
@@ -20,7 +22,6 @@ use Rattle.station_compare.specs.declared.agreement.Agreement.{Agreement}
 use Rattle.station_compare.specs.declared.fault.CompareFault.{CompareFault}
 use Rattle.station_compare.specs.declared.fault.CompareFault.TheVariants as compare
 use Rattle.station_differences.specs.Answers.{ReadsBoth}
-use Rattle.station_report.specs.Answers.{TellsReport}
 use Rattle.table_report.specs.Answers.{TellsTableReport}
 use Rattle.table_report.specs.Runs.{PrintsReport}
 use Rattle.table_report.specs.Stating.{ReportAsked, ReportValue}
@@ -73,7 +74,8 @@ pub record IsRecordedReport {A : Type 0} (path : List ℕ) (limits : ResultLimit
     (gsi : ReaderChange) (station : List ℕ) (r : Result A CompareFault) (out : WriterChange)
     : Type 0 where
   pub answer : Result (List ℕ) CompareFault
-  pub tells : ReadsFieldFile gsi answer (λ file. TellsReport path limits file station answer)
+  pub tells : ReadsFieldFile gsi answer
+      (λ file. TellsOf (SaysReport path limits) limits file station answer)
   pub printed : PrintsAnswer (λ text. recorded_report_text text (sha256 tells.came.given) path)
       compare.Write answer r out
 

@@ -13,12 +13,12 @@ use crate::lines::write_recorded_report;
 use crate::named::NamedReader;
 use byte_digests::Digesting;
 use byte_ends::{Sink, Source};
+use station_answers::{Report, answer_of};
 use station_book::ResultLimits;
 use station_compare::CompareFault;
-use station_report::report_of_source;
 use std::alloc::Global;
 
-/// Writes the report of a station as `run_report` does, and answers its exit status. After the text
+/// Writes the report of a station as `run_answer` does, and answers its exit status. After the text
 /// it writes a line for the field file, as `sha256sum` prints it: the digest of the bytes that were
 /// read, and the name.
 // Out of line, so that runs without it need no room for it on the stack.
@@ -38,7 +38,8 @@ pub fn run_report_recorded<R: Source, W: Sink, E: Sink>(
         (writer_change E.Sink err.old err.new)) }
 {
     let digested = Digesting::new(gsi.reader);
-    let (answer, digested) = report_of_source(alloc, digested, gsi.name, station, limits);
+    let asked = Report { path: gsi.name };
+    let (answer, digested) = answer_of(alloc, digested, station, limits, &asked);
     let digest = digested.digest();
     let printed = print_report(answer, digest, gsi.name, out);
     report(printed, err)

@@ -1,9 +1,12 @@
--- What is computed of a station is one.
-use Rattle.std.proofs.Common.{◌≡◌, ℕ, List, Option, length, arith, refl, subst}
+-- What is computed of a station is one, and so is the text of its report.
+use Rattle.std.proofs.Common.{◌≡◌, ℕ, List, Option, length, arith, refl, subst, sym, ◌∙◌}
 use Rattle.adjust_kernel.specs.Stations.{StationValue}
 use Rattle.least_directions.proofs.LeastLaws as directions
+use Rattle.station_book.specs.Stations.{SurveyedStation}
+use Rattle.station_book.specs.declared.result_limits.ResultLimits.{ResultLimits}
 use Rattle.station_report.proofs.DeviationLaws.{one_deviation}
-use Rattle.station_report.specs.Stating.{IsComputed}
+use Rattle.station_report.specs.ReportTexts.{report_text}
+use Rattle.station_report.specs.Stating.{IsComputed, IsReportText}
 use Rattle.station_results.proofs.GreatestLaws.{one_greatest}
 use Rattle.station_results.proofs.LeastLaws as results
 use Rattle.station_results.specs.Greatest.{IsGreatest}
@@ -22,3 +25,14 @@ one_computed station ds es rs ss m n d e p q =
       one_greatest ss (length ss) m n greatest q.is_greatest,
       one_deviation station d e p.adjusted.adjustable p.is_deviation q.is_deviation,
     )
+
+-- A station has one text, with one section.
+pub one_text : (path : List ℕ) (limits : ResultLimits) (its : SurveyedStation)
+    (section a b : List ℕ) → IsReportText path limits its section a
+    → IsReportText path limits its section b → a ≡ b
+one_text path limits its section a b p q =
+    let one = one_computed its.station p.directions q.directions p.rows q.rows p.greatest q.greatest
+    p.deviation q.deviation p.computed q.computed in
+    p.text_is
+    ∙ (λ i. report_text path limits its (one.0 i) section (one.1 i) (one.2 i) (one.3 i))
+    ∙ sym q.text_is

@@ -4,4 +4,3 @@ pub mod PlaceLaws
 pub mod FaceLaws
 pub mod FrontLaws
 pub mod ComputedLaws
-pub mod AnswerLaws

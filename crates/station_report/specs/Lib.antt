@@ -5,8 +5,6 @@ pub mod Deviations
 pub mod Columns
 pub mod ReportTexts
 pub mod Stating
-pub mod Answers
-pub mod Runs
 -- The inside.
 pub mod Factors
 pub mod Fronts

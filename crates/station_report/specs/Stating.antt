@@ -1,17 +1,13 @@
--- What a printed report says, in the order of the sentence: of the station of this name in the
--- field file, whose observations are its two-face directions within the limits, and whose residuals
--- keep theirs, the text has the readings and the face differences, the adjusted directions, the
--- residuals, the greatest residual, and the standard deviation of one two-face direction: least over
--- all directions, orientations and full turns, each number rounded once.
-use Rattle.std.specs.Prelude.{◌≡◌, ℕ, List, [], Option}
+-- What a printed report says of a station, in the order of the sentence: the text has the readings
+-- and the face differences, the adjusted directions, the residuals, the greatest residual, and the
+-- standard deviation of one two-face direction: least over all directions, orientations and full
+-- turns, each number rounded once.
+use Rattle.std.specs.Prelude.{◌≡◌, ℕ, List, Option}
 use Rattle.adjust_kernel.specs.Stations.{StationValue}
 use Rattle.adjust_kernel.specs.declared.units.TheConstants.{UNIT}
-use Rattle.exact_adjustment.specs.LeastOf.{HasResidualsWithin}
-use Rattle.gsi_file.specs.FileAnswers.{FileAnswers}
 use Rattle.least_directions.specs.LeastDirections.{AreRounded}
 use Rattle.station_book.specs.declared.result_limits.ResultLimits.{ResultLimits}
 use Rattle.station_book.specs.Stations.{SurveyedStation}
-use Rattle.station_check.specs.StationOfFile.{IsStationOfFile}
 use Rattle.station_report.specs.Deviations.{IsDeviation}
 use Rattle.station_report.specs.ReportTexts.{report_text}
 use Rattle.station_results.specs.Greatest.{IsGreatest}
@@ -39,15 +35,3 @@ pub record IsReportText (path : List ℕ) (limits : ResultLimits) (its : Surveye
   pub deviation : Option ℕ
   pub computed : IsComputed its.station directions rows greatest deviation
   pub text_is : text ≡ report_text path limits its directions section rows greatest deviation
-
--- Of these lines of a field file, this is the text of the report of the station of this name.
-pub record StatesReport (path : List ℕ) (limits : ResultLimits) (file : FileAnswers)
-    (name : List ℕ) (text : List ℕ) : Type 0 where
-  -- The station of this name: its observations are exactly its two-face directions, and every face
-  -- difference is within the limits.
-  pub its : SurveyedStation
-  pub station : IsStationOfFile limits.faces file name its
-  -- No residual is above the limit of residuals, whichever choice is least.
-  pub held : HasResidualsWithin its.station limits.residual
-  -- The text of its report.
-  pub report : IsReportText path limits its [] text

@@ -1,10 +1,9 @@
 //! The report of a station: what a survey office prints and files of its sets.
 //!
-//! `report_text` reads a field file and answers, for a station, a text of fixed columns: by set and
-//! target the readings of both faces, their mean, 2c and 2i; the adjusted directions; the
-//! residuals; the greatest of them; and the standard deviation of one two-face direction.
-//! `run_report` writes it as a command: the text, the line of a refusal, and the exit status. The
-//! faults are those of the directions.
+//! `computed_of` answers what is computed of a station, and `text_by` by that a text of fixed
+//! columns: by set and target the readings of both faces, their mean, 2c and 2i; the adjusted
+//! directions; the residuals; the greatest of them; and the standard deviation of one two-face
+//! direction.
 #![tactic(auto)]
 
 mod columns;
@@ -21,7 +20,6 @@ mod readings;
 mod report;
 mod residual_columns;
 mod root;
-mod runs;
 mod squares;
 mod text;
 
@@ -31,5 +29,4 @@ pub use computing::{computed_by, computed_of};
 pub use deviation::{degrees_of, deviation_by};
 pub use head::{ENTRY_NAMES, push_file};
 pub use readings::{READ_UNIT, reading_one, reading_two};
-pub use report::{report_of_source, report_text, text_by, write_report};
-pub use runs::run_report;
+pub use report::text_by;

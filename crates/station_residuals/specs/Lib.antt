@@ -1,6 +1,3 @@
--- The public definitions, which public contracts and laws cite, in the order in which a reader
--- needs them.
+-- The public definitions, which public contracts cite, in the order in which a reader needs them.
 pub mod ResidualTexts
 pub mod Stating
-pub mod Answers
-pub mod Runs

@@ -25,7 +25,7 @@ use Rattle.station_differences.specs.Answers.{HasNoDifferences}
 use Rattle.station_differences.specs.DifferenceTexts.{differences_text}
 use Rattle.station_differences.specs.OfInput.{HasNoneOfInput}
 use Rattle.station_differences.specs.Stating.{StatesDifferences}
-use Rattle.station_report.proofs.AnswerLaws.{one_text}
+use Rattle.station_report.proofs.ComputedLaws.{one_text}
 use Rattle.station_report.specs.Stating.{IsReportText}
 use Rattle.station_results.proofs.LeastLaws.{one_size}
 use Rattle.table_report.specs.Answers.{TellsTableReport}

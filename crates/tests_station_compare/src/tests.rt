@@ -6,11 +6,11 @@ use adjust_kernel::{Name, ResidualLimit};
 use byte_ends::{Held, Script};
 use direction_table::{AngleUnit, Decimals, RowKind, TableFault};
 use exact_adjustment::AdjustFault;
+use station_answers::{Directions, answer_of};
 use station_book::{Limits, ResultLimits};
 use station_check::Fault;
 use station_compare::{
-    Agreement, CompareFault, HowFar, agreement_line, compare_bytes, directions_text, refusal_line,
-    run_compare,
+    Agreement, CompareFault, HowFar, agreement_line, compare_bytes, refusal_line, run_compare,
 };
 use std::alloc::Global;
 use std::process::Abort;
@@ -221,12 +221,14 @@ fn a_residual_at_the_limit_is_kept_and_a_half_unit_below_it_refused(
         let answer = compare_bytes(rt.alloc(), gsi, &mut table, unit, b"S1", limits, None);
         assert_eq!(rt; answer.map(|agreement| agreement.how_far), want);
     }
-    let decimals = Decimals::new(6).expect(&rt, "decimals");
+    let asked = Directions {
+        decimals: Decimals::new(6).expect(&rt, "decimals"),
+    };
     let refused = Some(CompareFault::Adjust(AdjustFault::Residual(1)));
     for (residual, want) in [(1, None), (0, refused)] {
         let gsi = Script::new(S1, usize::MAX, false);
         let limits = held_to(&rt, residual);
-        let answer = directions_text(rt.alloc(), gsi, b"S1", limits, decimals);
+        let (answer, _gsi) = answer_of(rt.alloc(), gsi, b"S1", limits, &asked);
         assert_eq!(rt; answer.err(), want);
     }
     Ok(())

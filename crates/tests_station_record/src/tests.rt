@@ -5,12 +5,12 @@
 use adjust_kernel::{LARGEST_RESIDUAL_LIMIT, ResidualLimit};
 use byte_ends::{Held, Script};
 use direction_table::AngleUnit;
+use station_answers::run_answer;
 use station_book::{Limits, ResultLimits};
 use station_record::{
     NamedReader, run_check_recorded, run_compare_recorded, run_report_recorded,
     run_table_report_recorded,
 };
-use station_report::run_report;
 use std::alloc::Global;
 use std::process::Abort;
 use std::test::Fail;
@@ -257,7 +257,8 @@ impl Report {
             None => {
                 let (path, gsi) = (gsi.name, gsi.bytes());
                 let limits = ResultLimits::of_faces(limits(rt));
-                run_report(alloc, gsi, path, b"S1", limits, &mut out, &mut err)
+                let asked = station_answers::Report { path };
+                run_answer(alloc, gsi, b"S1", limits, &asked, &mut out, &mut err)
             }
             Some(asked) => {
                 let (gsi, mut table) = (gsi.bytes(), table.bytes());

@@ -3,10 +3,11 @@
 use adjust_kernel::{ResidualLimit, Station};
 use byte_ends::{Held, Script};
 use exact_adjustment::{AdjustError, AdjustFault};
-use station_book::Limits;
+use station_answers::{Residuals, answer_of, run_answer, write_answer};
+use station_book::{Limits, ResultLimits};
 use station_check::Fault;
 use station_compare::CompareFault;
-use station_residuals::{residuals_text, run_residuals, text_of, write_residuals};
+use station_residuals::text_of;
 use station_results::adjusted_observations;
 use std::alloc::Global;
 use std::process::Abort;
@@ -20,8 +21,8 @@ const RESIDUALS: &[u8] = b"set,target,direction,adjusted,residual\n\
 2,A,100.000020,100.000025,0.005\n\
 2,B,150.000060,150.000055,-0.005\n";
 
-fn limits(rt: &impl Abort) -> Limits {
-    Limits::new(100, 100).expect(rt, "limits")
+fn limits(rt: &impl Abort) -> ResultLimits {
+    ResultLimits::of_faces(Limits::new(100, 100).expect(rt, "limits"))
 }
 
 /// A limit of residuals, in half units.
@@ -185,7 +186,8 @@ fn a_field_file_has_residuals_or_its_first_fault(rt: HostRuntime) -> Result<(), 
     ];
     for (gsi, name, want) in cases {
         let gsi = Script::new(gsi, usize::MAX, false);
-        match (residuals_text(rt.alloc(), gsi, name, limits(&rt)), want) {
+        let (answer, _gsi) = answer_of(rt.alloc(), gsi, name, limits(&rt), &Residuals);
+        match (answer, want) {
             (Ok(text), Ok(want)) => assert_eq!(rt; text.as_slice(), want),
             (Err(fault), Err(want)) => assert_eq!(rt; fault, want),
             _ => assert!(rt; false),
@@ -205,7 +207,8 @@ fn a_run_prints_its_text_and_answers_its_status(rt: HostRuntime) -> Result<(), F
         let gsi = Script::new(S1, 7, fails);
         let mut out = Held::new(rt.alloc(), 400, 400, false).map_err(|_| "no memory")?;
         let mut err = Held::new(rt.alloc(), 100, 100, false).map_err(|_| "no memory")?;
-        let answer = run_residuals(rt.alloc(), gsi, name, limits(&rt), &mut out, &mut err);
+        let (limits, asked) = (limits(&rt), Residuals);
+        let answer = run_answer(rt.alloc(), gsi, name, limits, &asked, &mut out, &mut err);
         assert_eq!(rt; answer, status);
         assert_eq!(rt; out.bytes(), printed);
         assert_eq!(rt; err.bytes(), refused);
@@ -218,7 +221,8 @@ fn a_writer_without_room_or_whose_flush_fails_is_told(rt: HostRuntime) -> Result
     for (room, flush_fails) in [(0, false), (50, false), (400, true)] {
         let gsi = Script::new(S1, usize::MAX, false);
         let mut out = Held::new(rt.alloc(), room, 7, flush_fails).map_err(|_| "no memory")?;
-        let answer = write_residuals(rt.alloc(), gsi, b"S1", limits(&rt), &mut out);
+        let limits = limits(&rt);
+        let answer = write_answer(rt.alloc(), gsi, b"S1", limits, &Residuals, &mut out);
         assert_eq!(rt; answer, Err(CompareFault::Write));
         let written = room.min(RESIDUALS.len());
         assert_eq!(rt; out.bytes(), &RESIDUALS[..written]);

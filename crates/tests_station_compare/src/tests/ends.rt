@@ -3,7 +3,8 @@
 use super::{S1, limits};
 use byte_ends::{Held, OfRead, OfWrite, Script, Sink, Source};
 use direction_table::{AngleUnit, Decimals};
-use station_compare::{run_compare, run_directions};
+use station_answers::{Directions, run_answer};
+use station_compare::run_compare;
 use std::alloc::Global;
 use std::process::Abort;
 use std::test::Fail;
@@ -57,8 +58,10 @@ impl Command {
                 err,
             ),
             Command::Directions => {
-                let decimals = Decimals::new(6).expect(rt, "decimals");
-                run_directions(alloc, gsi, b"S1", limits, decimals, out, err)
+                let asked = Directions {
+                    decimals: Decimals::new(6).expect(rt, "decimals"),
+                };
+                run_answer(alloc, gsi, b"S1", limits, &asked, out, err)
             }
         }
     }

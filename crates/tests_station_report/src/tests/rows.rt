@@ -2,7 +2,7 @@
 
 use super::worked::{AMPLE, STEPS, given, held, limits, limits_with, refused, room_for, s1, s4};
 use byte_ends::{OfRead, OfWrite};
-use report_rows::{report_rows_text, run_report_rows, write_report_rows};
+use station_answers::{ReportRows, answer_of, run_answer, write_answer};
 use station_compare::CompareFault;
 use std::test::Fail;
 use test_support::{Recovers, Resumes};
@@ -13,7 +13,8 @@ fn rows_are_printed_of_a_file_in_pieces(rt: HostRuntime) -> Result<(), Fail> {
         let name = worked.name;
         for step in STEPS {
             let gsi = given(worked.gsi, step, false);
-            match report_rows_text(rt.alloc(), gsi, name, limits(&rt)) {
+            let (answer, _gsi) = answer_of(rt.alloc(), gsi, name, limits(&rt), &ReportRows);
+            match answer {
                 Ok(text) => assert_eq!(rt; text.as_slice(), worked.rows),
                 Err(fault) => assert!(rt; false, "{fault:?}"),
             }
@@ -21,7 +22,8 @@ fn rows_are_printed_of_a_file_in_pieces(rt: HostRuntime) -> Result<(), Fail> {
             let mut out = room_for(rt.alloc(), AMPLE, false)?;
             let mut err = room_for(rt.alloc(), AMPLE, false)?;
             let limits = limits(&rt);
-            let status = run_report_rows(rt.alloc(), gsi, name, limits, &mut out, &mut err);
+            let asked = ReportRows;
+            let status = run_answer(rt.alloc(), gsi, name, limits, &asked, &mut out, &mut err);
             assert_eq!(rt; err.bytes(), b"".as_slice());
             assert_eq!(rt; out.bytes(), worked.rows);
             assert_eq!(rt; status, 0);
@@ -36,7 +38,9 @@ fn a_station_without_rows_is_refused(rt: HostRuntime) -> Result<(), Fail> {
         let gsi = given(gsi, 7, fails);
         let mut out = room_for(rt.alloc(), AMPLE, false)?;
         let mut err = room_for(rt.alloc(), AMPLE, false)?;
-        let status = run_report_rows(rt.alloc(), gsi, name, limits(&rt), &mut out, &mut err);
+        let limits = limits(&rt);
+        let asked = ReportRows;
+        let status = run_answer(rt.alloc(), gsi, name, limits, &asked, &mut out, &mut err);
         assert_eq!(rt; err.bytes(), line);
         assert_eq!(rt; out.bytes(), b"".as_slice());
         assert_eq!(rt; status, 1);
@@ -52,7 +56,8 @@ fn rows_are_refused_above_their_limit_of_residuals(rt: HostRuntime) -> Result<()
         let mut out = room_for(rt.alloc(), AMPLE, false)?;
         let mut err = room_for(rt.alloc(), AMPLE, false)?;
         let name = worked.name;
-        let status = run_report_rows(rt.alloc(), gsi, name, limits, &mut out, &mut err);
+        let asked = ReportRows;
+        let status = run_answer(rt.alloc(), gsi, name, limits, &asked, &mut out, &mut err);
         let (rows, line, wanted) = match want {
             Ok(_) => (worked.rows, b"".as_slice(), 0),
             Err(line) => (b"".as_slice(), line, 1),
@@ -68,7 +73,8 @@ fn a_writer_of_rows_without_room_or_whose_flush_fails_is_told(rt: HostRuntime) -
     for room in 0..=worked.rows.len() {
         let gsi = given(worked.gsi, usize::MAX, false);
         let mut out = room_for(rt.alloc(), room, room == worked.rows.len())?;
-        let answer = write_report_rows(rt.alloc(), gsi, worked.name, limits(&rt), &mut out);
+        let (name, limits) = (worked.name, limits(&rt));
+        let answer = write_answer(rt.alloc(), gsi, name, limits, &ReportRows, &mut out);
         assert_eq!(rt; answer, Err(CompareFault::Write));
         assert_eq!(rt; out.bytes(), &worked.rows[..room]);
     }
@@ -80,7 +86,10 @@ fn ends_of_rows_that_fail_once_are_not_asked_again(rt: HostRuntime) -> Result<()
     let worked = s1();
     for fails in [false, true] {
         let mut gsi = Recovers::new(worked.gsi, fails);
-        let answer = report_rows_text(rt.alloc(), OfRead::new(&mut gsi), worked.name, limits(&rt));
+        let reader = OfRead::new(&mut gsi);
+        let (name, limits) = (worked.name, limits(&rt));
+        let (answer, reader) = answer_of(rt.alloc(), reader, name, limits, &ReportRows);
+        drop(reader);
         assert_eq!(rt; answer.is_err(), fails);
         assert_eq!(rt; gsi.asked_on, 0);
     }
@@ -89,7 +98,8 @@ fn ends_of_rows_that_fail_once_are_not_asked_again(rt: HostRuntime) -> Result<()
         let gsi = given(worked.gsi, usize::MAX, false);
         let mut writer = Resumes::new(calls, 50);
         let mut out = OfWrite::new(&mut writer);
-        let answer = write_report_rows(rt.alloc(), gsi, worked.name, limits(&rt), &mut out);
+        let (name, limits) = (worked.name, limits(&rt));
+        let answer = write_answer(rt.alloc(), gsi, name, limits, &ReportRows, &mut out);
         drop(out);
         assert_eq!(rt; answer, Err(CompareFault::Write));
         assert_eq!(rt;

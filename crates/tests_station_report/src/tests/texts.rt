@@ -6,11 +6,15 @@ use super::worked::{
 };
 use adjust_kernel::ResidualLimit;
 use exact_adjustment::{AdjustError, AdjustFault};
+use station_answers::{Report, answer_of, run_answer, write_answer};
 use station_check::Fault;
 use station_compare::CompareFault;
-use station_report::{computed_of, degrees_of, report_text, run_report, write_report};
+use station_report::{computed_of, degrees_of};
 use std::test::Fail;
 use test_support::{Observed, TIE, TWO_PARTS, station_of};
+
+/// The report of a file of this path.
+const REPORT: Report<'static> = Report { path: PATH };
 
 /// The last reading is 30 mgon off: two residuals are 10 mgon, no more than there may be.
 const LARGEST: [Observed; 6] = [
@@ -99,7 +103,7 @@ fn a_report_says_the_limit_that_its_residuals_keep(rt: HostRuntime) -> Result<()
         let mut out = room_for(rt.alloc(), AMPLE, false)?;
         let mut err = room_for(rt.alloc(), AMPLE, false)?;
         let name = worked.name;
-        let status = run_report(rt.alloc(), gsi, PATH, name, limits, &mut out, &mut err);
+        let status = run_answer(rt.alloc(), gsi, name, limits, &REPORT, &mut out, &mut err);
         match want {
             Ok(line) => {
                 let report = report_of(rt.alloc(), worked)?;
@@ -138,7 +142,9 @@ fn a_path_with_control_bytes_is_shown_by_codes(rt: HostRuntime) -> Result<(), Fa
     let report = report_of(rt.alloc(), s1())?;
     for (path, line) in paths {
         let gsi = given(s1().gsi, usize::MAX, false);
-        match report_text(rt.alloc(), gsi, path, s1().name, limits(&rt)) {
+        let asked = Report { path };
+        let (answer, _gsi) = answer_of(rt.alloc(), gsi, s1().name, limits(&rt), &asked);
+        match answer {
             Ok(text) => {
                 let want = with_line(rt.alloc(), &report, b"Field file", line)?;
                 assert_eq!(rt; text.as_slice(), want.as_slice());
@@ -159,7 +165,7 @@ fn a_report_is_printed_of_a_file_in_pieces(rt: HostRuntime) -> Result<(), Fail> 
             let mut err = room_for(rt.alloc(), AMPLE, false)?;
             let limits = limits(&rt);
             let name = worked.name;
-            let status = run_report(rt.alloc(), gsi, PATH, name, limits, &mut out, &mut err);
+            let status = run_answer(rt.alloc(), gsi, name, limits, &REPORT, &mut out, &mut err);
             assert_eq!(rt; err.bytes(), b"".as_slice());
             assert_eq!(rt; out.bytes(), report.as_slice());
             assert_eq!(rt; status, 0);
@@ -181,14 +187,15 @@ fn a_field_file_without_a_report_has_its_first_fault(rt: HostRuntime) -> Result<
     ];
     for (gsi, name, fault) in faults {
         let gsi = given(gsi, usize::MAX, false);
-        let answer = report_text(rt.alloc(), gsi, PATH, name, limits(&rt));
+        let (answer, _gsi) = answer_of(rt.alloc(), gsi, name, limits(&rt), &REPORT);
         assert_eq!(rt; answer.err(), Some(fault));
     }
     for (gsi, fails, name, line) in refused() {
         let gsi = given(gsi, 7, fails);
         let mut out = room_for(rt.alloc(), AMPLE, false)?;
         let mut err = room_for(rt.alloc(), AMPLE, false)?;
-        let status = run_report(rt.alloc(), gsi, PATH, name, limits(&rt), &mut out, &mut err);
+        let limits = limits(&rt);
+        let status = run_answer(rt.alloc(), gsi, name, limits, &REPORT, &mut out, &mut err);
         assert_eq!(rt; err.bytes(), line);
         assert_eq!(rt; out.bytes(), b"".as_slice());
         assert_eq!(rt; status, 1);
@@ -203,7 +210,8 @@ fn a_writer_without_room_or_whose_flush_fails_is_told(rt: HostRuntime) -> Result
     for room in 0..=report.len() {
         let gsi = given(worked.gsi, usize::MAX, false);
         let mut out = room_for(rt.alloc(), room, room == report.len())?;
-        let answer = write_report(rt.alloc(), gsi, PATH, worked.name, limits(&rt), &mut out);
+        let (name, limits) = (worked.name, limits(&rt));
+        let answer = write_answer(rt.alloc(), gsi, name, limits, &REPORT, &mut out);
         assert_eq!(rt; answer, Err(CompareFault::Write));
         assert_eq!(rt; out.bytes(), &report[..room]);
     }

@@ -1,9 +1,0 @@
-use Rattle.std.proofs.Common.{Some, ap}
-use Rattle.byte_ends.proofs.Coming.{came_as_told}
-use Rattle.station_check.specs.Came.{source_of}
-use Rattle.page_calls.proofs.directions.table_of.Goals as goal
-
-pub returns : goal.returns
-returns c =
-    let told = came_as_told _ _ c.directions_text.ensures.1.came (source_of c.args.gsi.now)
-    (ap Some c.source_of.ensures) in rw c.of_faces-limits.ensures at told

@@ -1,0 +1,36 @@
+//! The report of a station as rows for other programs, as an answer.
+ghost use Rattle.report_rows.specs.Stating.{AreReportRows};
+ghost use Rattle.station_answers.specs.OneTexts.{one_rows};
+
+use crate::answer::StationAnswer;
+use report_rows::text_of;
+use station_book::{ResultLimits, Surveyed};
+use station_compare::CompareFault;
+use station_results::adjusted_observations;
+use std::alloc::Global;
+
+/// The rows of the report of a station: titles, and a row for each of its two-face directions, with
+/// what was read in both faces, the face differences, the adjusted direction and the residual.
+///
+/// The last two are exactly rounded, the middle of two upwards, and those of the least-squares
+/// directions: least over all directions, orientations and full turns.
+#[derive(Clone, Copy, Debug, PartialEq, Eq, Drop)]
+pub struct ReportRows;
+
+impl StationAnswer for ReportRows {
+    ghost says = { λ _ _. AreReportRows };
+
+    fn text_of(
+        &self,
+        alloc: Global,
+        limits: ResultLimits,
+        surveyed: &Surveyed,
+    ) -> Result<Vec<u8>, CompareFault> {
+        let rows = adjusted_observations(alloc, surveyed.station(), limits.residual)?;
+        Ok(text_of(alloc, surveyed, &rows)?)
+    }
+
+    ghost one = { λ _ _ its a b p q. one_rows its a b p q };
+
+    ghost adjusts = { λ _ _ its text p. p.adjusted.adjustable };
+}
