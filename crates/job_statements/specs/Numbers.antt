@@ -54,9 +54,9 @@ numbers_of stated name =
     record { sets = number_of stated.sets name; targets = number_of stated.targets name }
 
 -- a number is stated, and it is not this one
-abbrev pub is_other : Option ℕ → ℕ → Bool
-is_other None n = false
-is_other (Some m) n = not (m == n)
+abbrev pub is_another : Option ℕ → ℕ → Bool
+is_another None n = false
+is_another (Some m) n = not (m == n)
 
 -- a number is needed, and it is not stated
 abbrev pub is_asked : Bool → Option ℕ → Bool

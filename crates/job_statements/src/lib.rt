@@ -10,6 +10,6 @@ mod zeros;
 
 pub use beginnings::Beginnings;
 pub use numbers::{CountFault, Unstated, numbers_of};
-pub use stated::{NamedNumber, Numbers, Stated, StatedNumber, is_asked, is_other};
+pub use stated::{NamedNumber, Numbers, Stated, StatedNumber, is_another, is_asked};
 pub use stated_code::station_code;
 pub use zeros::bare_name;

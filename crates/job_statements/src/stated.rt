@@ -1,7 +1,7 @@
 //! What is stated of a field file.
 
 ghost use Rattle.std.specs.Prelude.{◌≡◌, []};
-ghost use Rattle.job_statements.specs.Numbers.{is_asked, is_other, number_of, numbers_of};
+ghost use Rattle.job_statements.specs.Numbers.{is_asked, is_another, number_of, numbers_of};
 ghost use Rattle.job_statements.specs.Numbers.{number_said, own_number, said_in};
 
 use adjust_kernel::Name;
@@ -98,8 +98,8 @@ impl Stated {
 }
 
 /// Whether a number is stated, and is not this one.
-pub fn is_other(stated: Option<u32>, found: usize) -> bool
-    ensures { result ≡ is_other stated found }
+pub fn is_another(stated: Option<u32>, found: usize) -> bool
+    ensures { result ≡ is_another stated found }
 {
     match stated {
         Some(number) => number as usize != found,

@@ -18,7 +18,7 @@ use Rattle.set_marks.specs.declared.recognized.Recognized.{Recognized}
 use Rattle.set_marks.specs.declared.marked.Marked.{Marked}
 use Rattle.set_marks.specs.declared.sight.Sight.{Sight}
 use Rattle.set_marks.specs.declared.span.Span.{Span}
-use Rattle.job_statements.specs.Numbers.{Said, is_asked, is_other, number_of, numbers_of}
+use Rattle.job_statements.specs.Numbers.{Said, is_asked, is_another, number_of, numbers_of}
 use Rattle.set_marks.specs.Stations.{Occupation, stations_of}
 use Rattle.set_marks.specs.WrittenAgain.{written_again_of}
 use Rattle.set_marks.specs.Divisions.{sets_of, starts_of, in_span, first_set, parts_at, targets_of}
@@ -42,7 +42,7 @@ use Rattle.set_marks.proofs.SetsInWords.{sets_in_words}
 use Rattle.set_marks.proofs.Spans.{are_taken}
 
 -- A number that is not another one is this.
-is_this : (o : Option ℕ) (n : ℕ) → is_other o n ≡ false → IfSome o (λ m. n ≡ m)
+is_this : (o : Option ℕ) (n : ℕ) → is_another o n ≡ false → IfSome o (λ m. n ≡ m)
 is_this None n e = tt
 is_this (Some m) n e = sym (eqb-true m n (not-false (m == n) e))
 

@@ -34,7 +34,7 @@ use Rattle.set_marks.specs.Ways.{is_division, most_leading, leading_of, is_given
 use Rattle.set_marks.specs.Ways.{given_up, with_way}
 use Rattle.set_marks.specs.Ways.{gives, ways_of, latest_flaw, no_way_flaw, after_leading, sets_by}
 use Rattle.set_marks.specs.Ways.{doubt_by, span_by, divided_by, divided}
-use Rattle.job_statements.specs.Numbers.{is_asked, is_other}
+use Rattle.job_statements.specs.Numbers.{is_asked, is_another}
 use Rattle.set_marks.specs.BeginsAndEnds.{are_checks, was_read, without_details, AreEven}
 use Rattle.set_marks.specs.BeginsAndEnds.{EndsLastSet}
 use Rattle.set_marks.proofs.EachTargetOnce.{none_found, no_flaw}
@@ -56,8 +56,8 @@ pub record AreTaken (stated : Numbers) (span : Span) (rs inner : List Sight) : T
   pub within : span.to ≤ length rs
   pub wrong : sets_flaw (first_set inner) 0 (length inner) (starts_of inner) inner ≡ None
   pub known : stranger_among (first_set inner) (sets_of inner) ≡ None
-  pub sets : is_other stated.sets (length (starts_of inner)) ≡ false
-  pub targets : is_other stated.targets (length (targets_of inner)) ≡ false
+  pub sets : is_another stated.sets (length (starts_of inner)) ≡ false
+  pub targets : is_another stated.targets (length (targets_of inner)) ≡ false
   pub by_faces : is_asked (are_by_targets inner) stated.sets ≡ false
   pub single : is_asked (are_by_targets inner && (length (starts_of inner) == 1)) stated.targets
       ≡ false
@@ -488,9 +488,9 @@ taken_after stated rs way e sure =
     let targets = length (targets_of (part 0 end rest)) in
     let none = all_none (doubts stated (take way.leading (rest_of rs)) rest (after_leading rs way))
     sure in
-    let numbers = all_none (flaw_when (is_other stated.sets (length starts)) kinds.SetCount first
+    let numbers = all_none (flaw_when (is_another stated.sets (length starts)) kinds.SetCount first
     ∷ flaw_when (is_asked (by && (length starts == 1)) stated.targets) kinds.ByTargets first
-    ∷ flaw_when (is_other stated.targets targets) kinds.TargetCount first ∷ [])
+    ∷ flaw_when (is_another stated.targets targets) kinds.TargetCount first ∷ [])
     none.1.1.1.0 in
     let many = has.many in
     let long = has.long in
@@ -508,10 +508,10 @@ taken_after stated rs way e sure =
       known = (λ i. stranger_among (has.first i) (has.sets i))
           ∙ none_found kinds.OtherTargets
           (stranger_among (first_cut starts rest) (cut_of rest)) none.1.1.1.1.0;
-      sets = ap (λ (ps : List ℕ). is_other stated.sets (length ps)) has.starts
-          ∙ no_flaw (is_other stated.sets (length starts)) kinds.SetCount first numbers.0;
-      targets = ap (λ (names : List (List ℕ)). is_other stated.targets (length names)) same_targets
-          ∙ no_flaw (is_other stated.targets targets) kinds.TargetCount first numbers.1.1.0;
+      sets = ap (λ (ps : List ℕ). is_another stated.sets (length ps)) has.starts
+          ∙ no_flaw (is_another stated.sets (length starts)) kinds.SetCount first numbers.0;
+      targets = ap (λ (names : List (List ℕ)). is_another stated.targets (length names)) same_targets
+          ∙ no_flaw (is_another stated.targets targets) kinds.TargetCount first numbers.1.1.0;
       by_faces = ap (λ (b : Bool). is_asked b stated.sets) read
           ∙ no_flaw (is_asked by stated.sets) kinds.ByTargets first none.1.0;
       single = (λ i. is_asked (read i && (length (has.starts i) == 1)) stated.targets)

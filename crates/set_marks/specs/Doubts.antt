@@ -11,7 +11,7 @@ use Rattle.set_marks.specs.declared.fault.MarkKind.TheVariants as kinds
 use Rattle.set_marks.specs.declared.flaw.Flaw.{Flaw}
 use Rattle.set_marks.specs.declared.sight.Sight.{Sight}
 use Rattle.job_statements.specs.declared.stated.Numbers.{Numbers}
-use Rattle.job_statements.specs.Numbers.{is_other, is_asked}
+use Rattle.job_statements.specs.Numbers.{is_another, is_asked}
 use Rattle.set_marks.specs.Divisions.{is_of, is_pair, first_target, last_target, is_by_targets}
 use Rattle.set_marks.specs.Divisions.{flaw_when, flaw_found, starts_of, cut_end, cut_of, first_cut}
 use Rattle.set_marks.specs.Divisions.{part, targets_of, begins_with_pair, are_by_targets}
@@ -67,10 +67,10 @@ may_go_on sets rs =
 -- number of targets is stated; another number of targets is stated.
 abbrev pub numbers_flaw : Numbers → List Sight → Option Flaw
 numbers_flaw stated rs = first_of (
-    flaw_when (is_other stated.sets (length (starts_of rs))) kinds.SetCount (slice_get rs 0)
+    flaw_when (is_another stated.sets (length (starts_of rs))) kinds.SetCount (slice_get rs 0)
     ∷ flaw_when (is_asked (are_by_targets rs && (length (starts_of rs) == 1)) stated.targets)
     kinds.ByTargets (slice_get rs 0)
-    ∷ flaw_when (is_other stated.targets
+    ∷ flaw_when (is_another stated.targets
     (length (targets_of (part 0 (cut_end (starts_of rs) rs) rs)))) kinds.TargetCount
     (slice_get rs 0)
     ∷ [])

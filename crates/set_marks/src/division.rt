@@ -16,7 +16,7 @@ ghost use Rattle.set_marks.specs.Divisions.{is_mostly_known, divided_unless, spa
 ghost use Rattle.set_marks.specs.Doubts.{may_be_shifted, reads_end, leads_to_end, leads_within, may_go_on};
 ghost use Rattle.set_marks.specs.Doubts.{stranger_among, numbers_flaw, doubt_after};
 ghost use Rattle.set_marks.specs.Ways.{divided, divided_by, ways_of};
-ghost use Rattle.job_statements.specs.Numbers.{is_other};
+ghost use Rattle.job_statements.specs.Numbers.{is_another};
 
 use crate::bounds::{MOST_READINGS, READINGS_OF_TWO};
 use crate::details::{has_no_sets, known_in, seconds_of};
@@ -33,7 +33,7 @@ use crate::span::Span;
 use crate::starts::{starts, starts_of};
 use crate::ways::{divide_rest, is_open_somewhere};
 use adjust_kernel::MOST_SETS;
-use job_statements::{Numbers, is_asked, is_other};
+use job_statements::{Numbers, is_another, is_asked};
 use std::alloc::{AllocError, Global};
 
 /// What a station's readings are.
@@ -371,12 +371,12 @@ fn has_other_targets(
     stated: Option<u32>,
     sights: &[Sight],
 ) -> Result<bool, AllocError>
-    ensures { IfOk result (λ b. b ≡ is_other stated (length (targets_of sights.now))) }
+    ensures { IfOk result (λ b. b ≡ is_another stated (length (targets_of sights.now))) }
 {
     if stated.is_none() {
         return Ok(false);
     }
-    Ok(is_other(stated, count_targets(alloc, sights)?))
+    Ok(is_another(stated, count_targets(alloc, sights)?))
 }
 
 /// What keeps sets that begin at these places, of which the last ends at this one, from being those
@@ -393,7 +393,7 @@ fn numbers_flaw(
     ensures { IfOk result (λ o. o ≡ numbers_flaw stated sights.now) }
 {
     let first = sight_at(sights, 0);
-    if is_other(stated.sets, starts.len()) {
+    if is_another(stated.sets, starts.len()) {
         return Ok(Some(flaw_at(MarkKind::SetCount, first)));
     }
     if is_asked(is_one_by_targets(starts, sights), stated.targets) {
