@@ -111,7 +111,8 @@ try:
 # itself, leaves nothing to prove again.
 page: $(PAGE)
 
-$(PAGE): $(SOURCES) $(wildcard page/*.py page/*.js page/*.css) page/heap.c page/station_check.html
+$(PAGE): $(SOURCES) $(wildcard page/*.py page/*.js page/*.css page/refusals/*.json) page/heap.c \
+  page/station_check.html $(wildcard examples/job.gsi examples/station_p7_directions.csv)
 	@$(NEED_TOOLCHAIN)
 	@$(MAKE) --no-print-directory --silent IS_WITHIN=page $(PAGE_CRATES:%=$(PROVED)/%)
 	@RT='$(RT)' $(PYTHON) page/build.py $@

@@ -1,6 +1,7 @@
 // Which call is asked for which files, and what it answered: a card for each station, and for each
 // file that belongs to none. Nothing here decides a verdict.
 import { ask, digestOf } from './work.js';
+import { readFaults } from './faults.js';
 import { fieldOfSheet, stationOfSheet, stationOfTable, stemOf, tellApart } from './files.js';
 import { commandOf, isWithin } from './limits.js';
 import { each, greatestOf, recognizedIn, residualsIn, stationsOf } from './records.js';
@@ -50,9 +51,9 @@ const MOST_READ = 200_000_000;
 /** The name by which it is tried whether a job lacks nothing else: no station has it. */
 const NAME_TO_TRY = '?';
 
-/** What the fault of a refusal means, in the words of the program. */
+/** What a refusal means, in the words of the program; then those of the page are at hand too. */
 async function explanationOf(/** @type {string} */ line) {
-  const { status, text } = await ask('explain', line);
+  const [{ status, text }] = await Promise.all([ask('explain', line), readFaults()]);
   return status === ACCEPTED ? text : '';
 }
 
@@ -185,6 +186,7 @@ function forgets({ numbers }, told) {
  * The answer of putting codes into a copy of a field file: the copy is its other file.
  * @param {Input} field
  * @param {string} [station] the name that is stated
+ * @returns {Promise<Answer>}
  */
 async function answerOfMark(field, station = '') {
   const copy = `${stemOf(field)}_marked.gsi`, { code = '', again, others = false } = field;

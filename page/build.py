@@ -14,6 +14,7 @@ import argparse
 import base64
 import gzip
 import hashlib
+import json
 import re
 import shutil
 import subprocess
@@ -33,6 +34,12 @@ CRATE = ROOT / "crates" / "station_page"
 
 # Where what is made on the way stays: the tests link it again with another heap.
 ROOM = ROOT / "build" / "page"
+
+# The files of the example that the page shows: a job without codes, and a table of directions.
+EXAMPLE = [ROOT / "examples" / name for name in ("job.gsi", "station_p7_directions.csv")]
+
+# The texts of faults, in a file for each language.
+REFUSALS = sorted((HERE / "refusals").glob("*.json"))
 
 # How rattle has clang compile a module for wasm64.
 TARGET = [f"--target={retarget.TRIPLE}", "-mcpu=lime1"]
@@ -157,13 +164,28 @@ def digest_of_script(page: str) -> str:
     return base64.b64encode(hashlib.sha256(script.encode()).digest()).decode()
 
 
+def packed(data: bytes) -> str:
+    """Bytes as the page has them: as gzip packs them, in base64."""
+    return base64.b64encode(gzip.compress(data, mtime=0)).decode()
+
+
+def stored(texts: dict[str, dict[str, str]]) -> dict[str, Any]:
+    """What the page has beside the module: these texts of other languages, the texts of faults by
+    their languages, and the files of its example."""
+    refusals = {path.stem: json.loads(path.read_text()) for path in REFUSALS}
+    example = {path.name: path.read_bytes().decode() for path in EXAMPLE}
+    return {"texts": texts, "refusals": refusals, "example": example}
+
+
 def page(module: bytes) -> str:
     """The text of the page around a module, with its style and its scripts in it."""
+    script, texts = scripts.apart(scripts.joined(scripts.SCRIPTS["page"]))
     whole = scripts.filled((HERE / "station_check.html").read_text(), {
-        "calls": scripts.joined(scripts.SCRIPTS["calls"]),
-        "page": scripts.joined(scripts.SCRIPTS["page"]),
+        "calls": scripts.dense(scripts.joined(scripts.SCRIPTS["calls"])),
+        "page": scripts.dense(script),
         "style": scripts.styled("page"),
-        "MODULE": base64.b64encode(gzip.compress(module, mtime=0)).decode(),
+        "MODULE": packed(module),
+        "STORED": packed(json.dumps(stored(texts), ensure_ascii=False).encode()),
         "SHA256": hashlib.sha256(module).hexdigest(),
         "COMMIT": version(),
     })

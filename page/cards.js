@@ -6,16 +6,16 @@ import {
 import { button, element, menuOf, ofProgram, save } from './elements.js';
 import { originalOf, stemOf } from './files.js';
 import {
-  furthestOf, headlineOf, headlineOfCard, isApart, judgedText, meaningOf, recognizedTexts, titleOf,
+  furthestOf, headlineOf, headlineOfCard, isApart, judgedText, recognizedTexts, titleOf,
   waitingText,
 } from './headlines.js';
 import { LIMITS, commandOf } from './limits.js';
 import { mgonOf } from './numbers.js';
 import { pictureFile } from './picture.js';
 import { placeOf } from './place.js';
-import { protocolFile } from './protocol.js';
+import { nameOfProtocol, protocolFile } from './protocol.js';
 import { isComplete, residualsIn } from './records.js';
-import { showExplanation, showFault, showPlace } from './refusals.js';
+import { showExplanation, showFault, showMeaning, showPlace } from './refusals.js';
 import { showResultsInTurn } from './results.js';
 import { facesFile } from './tables.js';
 import { text } from './texts.js';
@@ -68,10 +68,10 @@ function showAnswer(answer, card, parent) {
   const { status, line, other, explanation } = answer;
   const part = element('div', '', parent, { className: `answer ${moodOfAnswer(answer, card)}` });
   if (other) element('p', other.shown, part, { className: 'label name' });
-  const headline = element('p', headlineOf(answer), part, { className: 'headline' });
+  const headline = element('h3', headlineOf(answer), part, { className: 'headline' });
   if (status === REFUSED && !isApart(line) && explanation) {
     headline.append(' ');
-    ofProgram('span', meaningOf(answer), headline);
+    showMeaning('span', answer, headline);
   }
   if (isApart(line) && answer.differences)
     element('p', furthestOf(answer.differences), part, { className: 'reason' });
@@ -93,7 +93,7 @@ function showJudged(card, desk, parent) {
     return;
   }
   const part = element('div', '', parent, { className: 'answer bad' });
-  element('p', said, part, { className: 'headline' });
+  element('h3', said, part, { className: 'headline' });
   showFault({ ...judged.residuals, station }, part);
   showCommand(judged.greatest ? { command: judged.command } : judged.residuals, part);
 }
@@ -137,7 +137,7 @@ function showButtons(card, desk, parent) {
       save(file, whole, type);
       said.textContent = `${text('saved', { name: file })} ${more}`.trimEnd();
     });
-  const protocol = `${stemOf(field)}_${name}.html`;
+  const protocol = `${nameOfProtocol(card)}.html`;
   offer('saveProtocol', protocol, () => protocolFile(card, desk.limits, desk.beside(card)),
     'text/html');
   if (results.directions.status === ACCEPTED)
@@ -368,7 +368,7 @@ function showUnmarked(card, desk, parent) {
   const isAsked = isWrong || isWithoutName(marked);
   if (isAsked) element('p', text(isWrong ? 'wrongName' : 'needName'), parent);
   else {
-    if (marked.explanation) ofProgram('p', meaningOf(marked), parent, 'reason');
+    if (marked.explanation) showMeaning('p', marked, parent, 'reason');
     const place = placeOf(marked.line, marked.field);
     if (place) showPlace(place, parent);
     if (marked.explanation) showExplanation(marked.explanation, parent);
@@ -443,7 +443,7 @@ export function showCard(card, desk, isFew, parent) {
   if (card.marked?.other) showMarked(card, desk, part);
   for (const answer of card.answers) showAnswer(answer, card, part);
   if (card.answers.length === 0)
-    element('p', headlineOfCard(card), part, { className: 'headline' });
+    element('h3', headlineOfCard(card), part, { className: 'headline' });
   showJudged(card, desk, part);
   if (card.station && card.answers.length === 0) element('p', text('nothingCompared'), part);
   if (card.readings !== undefined) showTodo(card, desk, part);

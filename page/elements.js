@@ -79,11 +79,9 @@ function cellOf(/** @type {Cell} */ { text: content, mark = '', bar }, /** @type
  * @param {Element} parent
  */
 export function tableOf(caption, headings, rows, parent, className = '') {
-  element('p', caption, parent, { className: 'caption' });
   const around = element('div', '', parent, { className: 'wide' });
   const table = element('table', '', around, { className });
-  around.setAttribute('role', 'group');
-  for (const named of [around, table]) named.setAttribute('aria-label', caption);
+  element('span', caption, element('caption', '', table, { className: 'caption' }));
   const head = element('tr', '', element('thead', '', table)), body = element('tbody', '', table);
   for (const heading of headings) element('th', heading, head, { scope: 'col' });
   for (const [first, ...cells] of rows) {

@@ -171,6 +171,20 @@ const hasPart = (/** @type {string} */ stem, /** @type {string} */ name) =>
 const namesIn = (/** @type {Input} */ table) => new Set(SEPARATORS.flatMap(separator =>
   recordsOf(textOf(table.bytes), separator).map(({ fields }) => fields[0])));
 
+/** How many decimals a table states of each name. */
+export function decimalsIn(/** @type {Input} */ table) {
+  /** @type {Map<string, number>} */
+  const decimals = new Map();
+  for (const separator of SEPARATORS) {
+    for (const { fields: [name, ...rest] } of recordsOf(textOf(table.bytes), separator)) {
+      const direction = rest.find(one => one.trim() !== '')?.match(/\d(?:[.,](\d*))?\D*$/);
+      if (direction && !decimals.has(name.trim()))
+        decimals.set(name.trim(), direction[1]?.length ?? 0);
+    }
+  }
+  return decimals;
+}
+
 /** How many of these names a station has as targets. */
 function shared(/** @type {Station} */ station, /** @type {Set<string>} */ names) {
   const rows = station.listed.list.matchAll(/^set \d+, target (.*): p \d+, 2c -?\d+, 2i -?\d+$/gm);

@@ -2,10 +2,11 @@
 import {
   ACCEPTED, OUT_OF_RANGE, TOO_LITTLE_ROOM, isCountedOtherwise, isTwice, isUncounted, isWithoutName,
 } from './answers.js';
+import { nameOrWhat, toldOf } from './faults.js';
 import { isUsed, originalOf, stationOfSheet } from './files.js';
-import { HALF, mgonOf, plain, signed } from './numbers.js';
+import { HALF, mgonOf, plain } from './numbers.js';
 import { differencesIn, sizeOf } from './records.js';
-import { text } from './texts.js';
+import { signedNumeral, text } from './texts.js';
 
 /**
  * @typedef {import('./answers.js').Answer} Answer
@@ -14,14 +15,8 @@ import { text } from './texts.js';
  * @typedef {import('./limits.js').Limits} Limits
  */
 
-/**
- * What the fault of a refusal is, as a sentence: the first line of its explanation, without its
- * name.
- */
-export function meaningOf(/** @type {Answer} */ { explanation }) {
-  const meaning = explanation.split('\n')[0].replace(/^[\w ,]+: /, '');
-  return `${meaning.charAt(0).toUpperCase()}${meaning.slice(1)}.`;
-}
+/** What the fault of a refusal is, as a sentence. */
+export const meaningOf = (/** @type {Answer} */ { explanation }) => toldOf(explanation).what;
 
 /** Whether a line refuses a table for being apart. */
 export const isApart = (/** @type {string} */ line) => line.startsWith('refused: compare: Apart ');
@@ -67,7 +62,7 @@ export function furthestOf(/** @type {string} */ differences) {
   const all = differencesIn(differences);
   const greatest = Math.max(...all.map(one => sizeOf(one.fromMedian)));
   const furthest = all.filter(one => sizeOf(one.fromMedian) === greatest)
-    .map(({ target, fromMedian }) => `${target} ${signed(fromMedian)}\u00a0mgon`);
+    .map(({ target, fromMedian }) => `${target} ${signedNumeral(fromMedian)}\u00a0mgon`);
   const more = furthest.length > MOST_NAMED ? ['…'] : [];
   return text('furthest', { targets: [...furthest.slice(0, MOST_NAMED), ...more].join(', ') });
 }
@@ -90,7 +85,8 @@ export const countsOf = ({ sets, targets, directions }) => ({
 /** What was recognized of the sets of a station, in words. */
 function setsText(/** @type {import('./records.js').Recognized} */ one) {
   const { station, sets, targets, opening, turning, before, after, fault, block } = one;
-  if (fault) return text('recognizedNot', { station, block, fault, n: after });
+  if (fault)
+    return text('recognizedNot', { station, block, fault: nameOrWhat(fault), n: after });
   if (sets + after === 0) return text('recognizedUnread', { station });
   if (sets === 0) return text('recognizedNone', { station, n: after });
   const about = { station, opening, turning, ...countsOf({ sets, targets, directions: 0 }) };

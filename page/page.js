@@ -5,7 +5,9 @@ import { button, element } from './elements.js';
 import { isChosen, isUsed, kindOf, originalOf, placeName, tellApart } from './files.js';
 import { kindText, saidOfCard, titleOf } from './headlines.js';
 import { limitsLine, limitsNow, LIMITS, showLimit, wrongLimit } from './limits.js';
-import { besideOf, showProtocol, showProtocols } from './protocol.js';
+import { recallNotes } from './notes.js';
+import { besideOf, nameOfProtocol, showProtocol, showProtocols } from './protocol.js';
+import { exampleFiles, readTexts } from './stored.js';
 import { LANGUAGES, languageOf, speak, spoken, text } from './texts.js';
 import { Stopped, start, stop } from './work.js';
 
@@ -223,9 +225,10 @@ function told(/** @type {number} */ done, /** @type {number} */ all, /** @type {
 
 /** Says why the work did not come to its end. */
 function sayWhy(/** @type {unknown} */ error) {
-  const why = String(error);
+  const why = String(error), isUnable = /CompileError|DecompressionStream/.test(why);
   tell(() => say('bad', error instanceof Stopped ? text('stopped')
-    : /CompileError|DecompressionStream/.test(why) ? text('cannotRun') : text('cannotFinish', { why })));
+    : isUnable ? text('cannotRun') : text('cannotFinish', { why })));
+  document.body.classList.toggle('unable', isUnable);
   $('again').hidden = !(error instanceof Stopped);
 }
 
@@ -335,12 +338,20 @@ const desk = {
  */
 let only = null;
 
+/** What the page is called while it isn't printed. */
+const UNPRINTED = document.title;
+
 onbeforeprint = () => {
+  const [alone] = only ? [only] : cards.length === 1 ? cards : [];
+  // (by its title the file is called that a browser prints to)
+  if (inputs.length > 0)
+    document.title = alone ? nameOfProtocol(alone) : text('contents', { n: inputs.length });
   $('protocol').textContent = '';
   if (only) showProtocol(only, limits, $('protocol'), '', desk.beside(only));
   else if (inputs.length > 0)
     showProtocols(inputs, cards, limits, $('verdict').textContent, $('protocol'));
 };
+onafterprint = () => { document.title = UNPRINTED; };
 
 // ---------------------------------------------------------------- files
 
@@ -405,6 +416,7 @@ const choose = /** @type {HTMLInputElement} */ ($('choose'));
 // A file that has changed meanwhile may be chosen again. Where none is chosen, nothing is changed.
 choose.onclick = () => { choose.value = ''; };
 choose.onchange = () => add(choose.files);
+$('try').onclick = async () => add(await exampleFiles());
 $('remove-all').onclick = () => {
   [inputs, replaced] = [[], []];
   checkAll();
@@ -428,7 +440,9 @@ languages.onchange = () => {
 
 speak(languageOf(navigator.languages));
 languages.value = spoken();
+recallNotes();
 limits = limitsNow();
 show();
 tell(() => say('quiet', text('gettingReady')));
-worked(start).then(isReady => isReady && checkAll());
+worked(async () => { await Promise.all([start(), readTexts().then(show)]); })
+  .then(isReady => isReady && checkAll());

@@ -5,9 +5,9 @@
 // drawn for the room that there is and never scaled, so that its letters are as large on a phone as
 // on a screen. Its colours are the tokens of the style; in a file of its own they are of light.
 import { element } from './elements.js';
-import { APART, mgonOf, signed } from './numbers.js';
+import { APART, mgonOf } from './numbers.js';
 import { greatestOf, sizeOf } from './records.js';
-import { text } from './texts.js';
+import { signedNumeral, text } from './texts.js';
 
 /**
  * @typedef {import('./records.js').Residual} Residual
@@ -127,7 +127,7 @@ const greatestUnits = (/** @type {Residuals} */ residuals) =>
 
 /** What the picture shows, in two sentences. */
 function pictureTexts(/** @type {Residuals} */ residuals) {
-  const { set, target, residual } = greatestOf(residuals), size = signed(residual);
+  const { set, target, residual } = greatestOf(residuals), size = signedNumeral(residual);
   const greatest = sizeOf(residual) === 0
     ? text('pictureZero', { size }) : text('pictureGreatest', { size, set, target });
   return [text('pictureHow'), greatest];
@@ -186,7 +186,8 @@ function drawAxis({ width, step, end, x }, heading, bottom, parent) {
   for (let units = -end; units <= end; units += step) {
     const at = x(units), stroke = units === 0 ? QUIET : LINE;
     shape('line', { x1: at, x2: at, y1: ABOVE - GAP, y2: bottom, stroke }, parent);
-    const size = mgonOf(Math.abs(units), APART), number = signed(units < 0 ? `-${size}` : size);
+    const size = mgonOf(Math.abs(units), APART);
+    const number = signedNumeral(units < 0 ? `-${size}` : size);
     shape('text', { x: at, 'text-anchor': 'middle', ...letters }, parent, number);
   }
 }
@@ -229,7 +230,7 @@ function drawPanel({ heading, strips, levelOf }, axis, parent) {
       [axis.x(unitsOf(row)), middle + levelOf(row) * SPREAD];
     const others = rows.filter(row => !isGreatest(row)), isSparse = rows.length <= SPARSE;
     const look = isGreatest(most) ? { fill: GREATEST, 'font-weight': 700 } : { fill: INK };
-    const letters = { y: middle + BELOW, ...look }, number = signed(most.residual);
+    const letters = { y: middle + BELOW, ...look }, number = signedNumeral(most.residual);
     shape('text', { x: GAP, 'font-family': ONE_WIDTH, class: 'name', ...letters }, parent, name);
     shape('text', { x: width - GAP, 'text-anchor': 'end', ...letters }, parent, number);
     drawDots(others.map(placeOf), isSparse ? LARGE_DOT : SMALL_DOT, parent);

@@ -7,7 +7,8 @@ import {
   titleOf, waitingText,
 } from './headlines.js';
 import { limitsLine } from './limits.js';
-import { showFault } from './refusals.js';
+import { notes } from './notes.js';
+import { showFault, showMeaning } from './refusals.js';
 import { showResults } from './results.js';
 import { spoken, text } from './texts.js';
 
@@ -39,8 +40,25 @@ const allFilesOf = (/** @type {Card} */ card) => {
 
 /** A file with its digest, where it was judged. */
 function showFile(/** @type {Input} */ { shown, digest }, /** @type {Element} */ parent) {
-  const line = element('div', shown, parent);
-  if (digest) ofProgram('code', ` ${text('digest', { digest })}`, line);
+  const line = element('div', `${shown} `, parent);
+  if (digest) ofProgram('code', text('digest', { digest }), line);
+}
+
+/** What the user said of the job: the observer and the instrument in one row. */
+function showNotes(/** @type {Element} */ parent) {
+  const { project, instrument, observer } = notes();
+  if (project) row('project', parent).textContent = project;
+  const label = instrument && observer ? 'byHand' : observer ? 'observer' : 'instrument';
+  const said = [observer, instrument].filter(one => one).join(', ');
+  if (said) row(label, parent).textContent = said;
+}
+
+/** The lines to sign: the first is left out where the user said what stands there. */
+function showSigns(/** @type {Element} */ parent) {
+  const { instrument, observer } = notes();
+  const part = element('div', '', parent, { className: 'signs' });
+  for (const label of [...instrument && observer ? [] : ['byHand'], 'sign'])
+    element('p', text(label), part);
 }
 
 /** The row that says when the files were checked. */
@@ -59,7 +77,7 @@ function showDate(/** @type {Element} */ parent) {
  */
 function showAnswers(card, limits, parent) {
   const say = (/** @type {string} */ said, /** @type {string} */ mood) =>
-    element('div', said, parent, { className: `said ${mood}` });
+    element('h2', said, parent, { className: `said ${mood}` });
   if (card.answers.length === 0) {
     const more = card.station ? ` ${text('notCompared')}` : '';
     say(`${headlineOfCard(card)}${more}`, card.station ? 'read' : card.mood);
@@ -82,7 +100,11 @@ function showFaults(/** @type {Card} */ card, /** @type {Element} */ parent) {
   const residuals = judged?.isKept === false ? judged.residuals : undefined;
   const refused = [...answers, ...marked ? [marked] : [], ...residuals ? [residuals] : []]
     .filter(one => one.status === REFUSED);
-  for (const answer of refused) showFault({ ...answer, station }, parent);
+  for (const answer of refused) {
+    // (of a job whose sets aren't recognized the headline doesn't say why)
+    if (answer === marked) showMeaning('p', answer, parent, 'reason');
+    showFault({ ...answer, station }, parent, true);
+  }
 }
 
 /**
@@ -106,14 +128,19 @@ function inStyle(/** @type {string} */ said) {
 }
 
 /**
- * Has each page of a protocol say what it is of, at its foot, in browsers that write there: others
- * would add a page after the last one.
+ * Has each page of a protocol say what it is of, at its foot. Browsers that write nothing there
+ * have a line that stands on all pages that are printed: so it is that of what comes first.
  * @param {HTMLElement} part
  * @param {string} said
  * @param {string} page its name, where others are printed too
  */
 function nameItsPages(part, said, page) {
-  if (!('CSSMarginRule' in window)) return;
+  if (!('CSSMarginRule' in window)) {
+    if (page !== '') return;
+    element('style', '@page { margin-bottom: 6mm }', part);
+    element('p', said, part, { className: 'each' });
+    return;
+  }
   element('style', `@page ${page} { @bottom-left { content: ${inStyle(said)} } }`, part);
   if (page) part.style.setProperty('page', page);
 }
@@ -153,6 +180,7 @@ export function showProtocol(card, limits, parent, page = '', beside = []) {
   if (!isBrief) nameItsPages(part, station ? `${title}, ${card.field.shown}` : title, page);
   element('h1', title, part);
   const facts = element('dl', '', part, { className: 'facts' });
+  showNotes(facts);
   const files = row('files', facts);
   for (const file of allFilesOf(card)) showFile(file, files);
   showDate(facts);
@@ -169,8 +197,7 @@ export function showProtocol(card, limits, parent, page = '', beside = []) {
   if (card.results) showResults(card, part);
   else if (station) element('p', text('notOpened'), part);
   if (isBrief) return;
-  const signs = element('div', '', part, { className: 'signs' });
-  for (const label of ['observer', 'sign']) element('p', text(label), signs);
+  showSigns(part);
   element('p', text('madeBy', { ...made() }), part, { className: 'quiet foot' });
 }
 
@@ -191,8 +218,11 @@ export function showProtocols(inputs, cards, limits, verdict, parent) {
   if (cards.length === 1 && inputs.every(file => speaksOf(cards[0], file)))
     return showProtocol(cards[0], limits, parent);
   const part = element('article', '', parent, { className: 'protocol' });
-  element('h1', text('contents', { n: inputs.length }), part);
+  const title = text('contents', { n: inputs.length });
+  nameItsPages(part, title, '');
+  element('h1', title, part);
   const facts = element('dl', '', part, { className: 'facts' });
+  showNotes(facts);
   showDate(facts);
   row('answer', facts).textContent = verdict;
   const list = element('ul', '', part, { className: 'contents' });
@@ -206,6 +236,10 @@ export function showProtocols(inputs, cards, limits, verdict, parent) {
   cards.forEach((card, nth) => showProtocol(card, limits, parent, `protocol${nth}`));
 }
 
+/** What a protocol is called as a file: by its field file and its station. */
+export const nameOfProtocol = (/** @type {Card} */ { field, station, title }) =>
+  station ? `${stemOf(originalOf(field))}_${title}` : title;
+
 /**
  * The protocol as a file of its own, with the style of the page.
  * @param {Card} card
@@ -213,7 +247,7 @@ export function showProtocols(inputs, cards, limits, verdict, parent) {
  * @param {string[]} [beside]
  */
 export function protocolFile(card, limits, beside) {
-  const whole = document.implementation.createHTMLDocument(`${stemOf(card.field)} ${card.title}`);
+  const whole = document.implementation.createHTMLDocument(nameOfProtocol(card));
   whole.documentElement.lang = spoken();
   element('meta', '', whole.head).setAttribute('charset', 'utf-8');
   element('style', document.querySelector('style').textContent, whole.head);

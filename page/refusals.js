@@ -1,6 +1,7 @@
 // A refusal: where the fault stands, what it means and what to do, on a card and on paper.
 import { REFUSED } from './answers.js';
 import { element, ofProgram } from './elements.js';
+import { toldOf } from './faults.js';
 import { placeOf } from './place.js';
 import { text } from './texts.js';
 
@@ -47,31 +48,26 @@ export const paragraphsOf = (/** @type {string} */ explanation) => explanation.t
   .map(paragraph => paragraph.split('\n').map(line => line.trim()).join(' '));
 
 /**
- * What the page has in the place of what an explanation names.
- * @type {[RegExp, string][]}
+ * What a fault is, as a sentence. What is said in the words of the program is English.
+ * @param {string} tag
+ * @param {import('./answers.js').Answer} answer
+ * @param {Element} parent
  */
-const HERE = [
-  [/station_check differences/, 'hereDifferences'],
-  [/--(two-c|two-i|residual|within)/, 'hereLimits'],
-  [/--degrees/, 'hereGon'],
-  [/--sets/, 'hereNumbers'],
-  [/--(again|same-set-up)/, 'hereSetUp'],
-  [/prepare\.py/, 'hereEditor'],
-];
-
-/** Says what stands in the place of options and scripts that an explanation names. */
-function showHere(/** @type {string} */ explanation, /** @type {Element} */ parent) {
-  const said = HERE.filter(([named]) => named.test(explanation)).map(([, name]) => text(name));
-  if (said.length === 0) return;
-  const part = element('p', '', parent, { className: 'here' });
-  element('strong', `${text('here')} `, part).after(said.join(' '));
+export function showMeaning(tag, { explanation }, parent, className = '') {
+  const { what, isOfProgram } = toldOf(explanation);
+  return isOfProgram ? ofProgram(tag, what, parent, className)
+    : element(tag, what, parent, { className });
 }
 
-export function showExplanation(/** @type {string} */ explanation, /** @type {Element} */ parent) {
-  const part = element('div', '', parent, { className: 'explanation' });
-  part.setAttribute('role', 'note');
-  part.setAttribute('aria-label', text('whatItMeans'));
-  element('p', text('whatItMeans'), part, { className: 'label' });
+/**
+ * The whole explanation of the program, folded.
+ * @param {string} explanation
+ * @param {Element} parent
+ * @param {boolean} open
+ */
+function showInFull(explanation, parent, open) {
+  const part = element('details', '', parent, { open });
+  element('summary', text('inFull'), part);
   const [, ...paragraphs] = paragraphsOf(explanation);
   for (const paragraph of paragraphs) {
     const [, lead, rest] = paragraph.match(/^(What to do: )?([^]*)$/);
@@ -79,7 +75,25 @@ export function showExplanation(/** @type {string} */ explanation, /** @type {El
     if (lead) element('strong', lead, said);
     said.append(rest);
   }
-  showHere(explanation, part);
+}
+
+/**
+ * What is to be done about a fault, on the page; below it, but not on paper, what the program says
+ * of it in full, which is English.
+ * @param {string} explanation
+ * @param {Element} parent
+ */
+export function showExplanation(explanation, parent, isOnPaper = false) {
+  const { todo, isByCopy } = toldOf(explanation);
+  const part = element('div', '', parent, { className: 'explanation' });
+  part.setAttribute('role', 'note');
+  part.setAttribute('aria-label', text('whatToDo'));
+  if (todo) {
+    const said = element('p', '', part, { className: 'todo' });
+    element('strong', `${text('whatToDo')} `, said).after(todo);
+  }
+  if (isByCopy) element('p', text('byCopy'), part, { className: 'quiet' });
+  if (!isOnPaper || !todo) showInFull(explanation, part, !todo);
 }
 
 /**
@@ -87,8 +101,9 @@ export function showExplanation(/** @type {string} */ explanation, /** @type {El
  * @param {import('./answers.js').Answer} answer
  * @param {Element} parent
  */
-export function showFault({ status, line, field, other, station, explanation }, parent) {
+export function showFault(answer, parent, isOnPaper = false) {
+  const { status, line, field, other, station, explanation } = answer;
   const place = status === REFUSED ? placeOf(line, field, other, station) : null;
   if (place) showPlace(place, parent);
-  if (explanation) showExplanation(explanation, parent);
+  if (explanation) showExplanation(explanation, parent, isOnPaper);
 }

@@ -1,9 +1,10 @@
 // The results of a station, on its card and in its protocol.
 import { ACCEPTED } from './answers.js';
 import { element, ofProgram } from './elements.js';
-import { meaningOf } from './headlines.js';
+import { decimalsIn } from './files.js';
 import { showPicture } from './picture.js';
 import { accuracyIn, differencesIn, residualsIn } from './records.js';
+import { showMeaning } from './refusals.js';
 import {
   accuracyNote, differencesTable, directionsTable, facesTables, residualsTable,
 } from './tables.js';
@@ -23,7 +24,7 @@ const FEW_SETS = 5;
 /** Why there are no adjusted directions, and so no residuals. */
 function showRefused(/** @type {Answer} */ answer, /** @type {Element} */ parent) {
   ofProgram('samp', answer.line, element('p', '', parent));
-  ofProgram('p', meaningOf(answer), parent);
+  showMeaning('p', answer, parent);
 }
 
 /**
@@ -42,8 +43,8 @@ function sectionsOf({ station, results, answers }) {
   const sections = answers.filter(one => one.differences).map(({ differences, other }) => ({
     title: text('differences', { name: other.shown }),
     fill(part) {
-      differencesTable(differencesIn(differences), part);
-      element('p', text('differencesNote'), part, { className: 'quiet' });
+      differencesTable(differencesIn(differences), decimalsIn(other), part);
+      element('p', text('differencesNote'), part, { className: 'quiet note' });
     },
   }));
   sections.push({

@@ -2,7 +2,8 @@
 residuals: `python3 page/scripts.py`.
 
 A page that is opened from a folder can't load modules, so those of a script stand in it one after
-the other, as they are but for their comments and for what they say of each other.
+the other, as they are but for their comments, the blanks before their lines, and what they say of
+each other. A style has neither comments nor such blanks.
 """
 
 import re
@@ -15,11 +16,12 @@ HERE = Path(__file__).resolve().parent
 # The modules of each script, in the order in which they need each other: of the worker, which needs
 # no page around it; of the page; and of the residuals of a station in a file of their own.
 SCRIPTS = {
-    "calls": ["calls.js", "numbers.js", "records.js", "worker.js"],
+    "calls": ["calls.js", "numbers.js", "packed.js", "records.js", "worker.js"],
     "page": [
-        "texts.js", "numbers.js", "records.js", "files.js", "work.js", "limits.js", "place.js",
-        "answers.js", "elements.js", "tables.js", "picture.js", "headlines.js", "results.js",
-        "refusals.js", "protocol.js", "cards.js", "page.js",
+        "texts.js", "numbers.js", "records.js", "files.js", "packed.js", "work.js", "stored.js",
+        "limits.js", "notes.js", "place.js", "answers.js", "elements.js", "tables.js", "picture.js",
+        "faults.js", "headlines.js", "results.js", "refusals.js", "protocol.js", "cards.js",
+        "page.js",
     ],
     "residuals": [
         "texts.js", "numbers.js", "records.js", "elements.js", "tables.js", "picture.js",
@@ -41,6 +43,10 @@ EXPORT = re.compile(r"^export (?=(?:async )?(?:const|let|class|function)\b)", re
 # A comment that begins its line, and one of a type.
 COMMENT = re.compile(r"^ *//[^\n]*\n|/\*\*.*?\*/(?: |\n(?: *\n)*)?", re.MULTILINE | re.DOTALL)
 
+# A comment of a style, and the blanks before a line.
+NOTE = re.compile(r"/\*.*?\*/\n?", re.DOTALL)
+INDENT = re.compile(r"^ +", re.MULTILINE)
+
 # What a module declares for all of itself: a name, and constants that stand after another on its
 # line.
 DECLARED = re.compile(r"^(?:export )?(?:async )?(?:const|let|class|function) (.*)", re.MULTILINE)
@@ -49,6 +55,11 @@ NAME = re.compile(r"^[$\w]+|(?<=, )[A-Z_]+(?= = )")
 # A text of the page's own, with its name; and a word that may name one.
 TEXT = re.compile(r"^  (\w+): \{(?:.*\},|\n(?:    .*\n)+  \},)\n", re.MULTILINE)
 WORD = re.compile(r"""['"](\w+)['"]""")
+
+# The words of a text in another language than English; and the texts that are said where nothing can
+# be unpacked, in the language of the reader.
+OTHER = re.compile(r"\s*\b(de|fr): '([^'\n]*)',?")
+AT_ONCE = {"cannotRun", "gettingReady"}
 
 
 def bare(module: str) -> str:
@@ -66,9 +77,28 @@ def joined(modules: list[str]) -> str:
     return "\n".join(["'use strict';", *map(bare, texts), ""])
 
 
+def apart(script: str) -> tuple[str, dict[str, dict[str, str]]]:
+    """A script with its texts in English alone, and those of the other languages by their names."""
+    others: dict[str, dict[str, str]] = {}
+
+    def english(text: re.Match[str]) -> str:
+        found = OTHER.findall(text[0])
+        if not found or text[1] in AT_ONCE:
+            return text[0]
+        others[text[1]] = dict(found)
+        return OTHER.sub("", text[0])
+
+    return TEXT.sub(english, script), others
+
+
+def dense(text: str) -> str:
+    """A text without the blanks before its lines."""
+    return INDENT.sub("", text)
+
+
 def styled(name: str) -> str:
     """The style of this name."""
-    return "\n".join((HERE / one).read_text() for one in STYLES[name])
+    return dense("\n".join(NOTE.sub("", (HERE / one).read_text()) for one in STYLES[name]))
 
 
 def filled(template: str, values: dict[str, str]) -> str:
@@ -83,7 +113,7 @@ def residuals_page() -> str:
     template, script = TEMPLATE.read_text(), joined(SCRIPTS["residuals"])
     needed = {*WORD.findall(template + script)}
     script = TEXT.sub(lambda text: text[0] if text[1] in needed else "", script)
-    return filled(template, {"style": styled("results"), "script": script})
+    return filled(template, {"style": styled("results"), "script": dense(script)})
 
 
 def main() -> None:

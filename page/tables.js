@@ -1,9 +1,9 @@
 // The results of a station as tables: targets as rows, and sets as columns, in groups that fit on a
 // page.
 import { element, tableOf } from './elements.js';
-import { FACE, decimal, signed } from './numbers.js';
+import { FACE, decimal } from './numbers.js';
 import { each, greatestOf, pairsOf, recordsOf, sizeOf } from './records.js';
-import { text } from './texts.js';
+import { numeral, signedNumeral, text } from './texts.js';
 
 /** So many sets stand side by side. */
 const ABREAST = 8;
@@ -48,7 +48,7 @@ export function directionsTable(table, station, parent) {
   const rows = recordsOf(table).map(({ fields: [target, direction] }) => {
     const n = pairs.filter(pair => pair.target === target).length;
     const seen = text('ofSets', { n, all: station.listed.sets });
-    return [target, { text: direction }, { text: seen, mark: 'quiet' }];
+    return [target, { text: numeral(direction) }, { text: seen, mark: 'quiet' }];
   });
   const headings = [text('target'), text('direction'), text('seenIn')];
   tableOf(text('directionsCaption'), headings, /** @type {any} */ (rows), parent, 'numbers');
@@ -61,22 +61,35 @@ export function directionsTable(table, station, parent) {
 function cellWithBar(/** @type {string} */ number, /** @type {number} */ greatest) {
   const isGreatest = greatest > 0 && sizeOf(number) === greatest;
   return {
-    text: signed(number),
+    text: signedNumeral(number),
     mark: isGreatest ? 'greatest' : '', bar: greatest > 0 ? Number(number) / greatest : 0,
   };
 }
 
 /**
+ * A number without the zeros at its end that are more than so many decimals.
+ * @param {string} number
+ * @param {number | undefined} decimals none where it isn't known
+ */
+function asStated(number, decimals = number.length) {
+  const [whole, all = ''] = number.split('.');
+  if (!/^0*$/.test(all.slice(decimals))) return number;
+  return decimals > 0 && all ? `${whole}.${all.slice(0, decimals)}` : whole;
+}
+
+/**
  * The differences of a table by target, each as a number and as a bar, the greatest marked: beside
- * the target, so that a phone shows them.
+ * the target, so that a phone shows them. What is stated has the decimals that the table has.
  * @param {import('./records.js').Difference[]} differences
+ * @param {Map<string, number>} decimals
  * @param {Element} parent
  */
-export function differencesTable(differences, parent) {
+export function differencesTable(differences, decimals, parent) {
   const greatest = Math.max(...differences.map(one => sizeOf(one.fromMedian)));
   const rows = differences.map(({ target, stated, least, difference, fromMedian }) => [
-    target, cellWithBar(fromMedian, greatest), { text: stated }, { text: least },
-    { text: signed(difference) },
+    target, cellWithBar(fromMedian, greatest),
+    { text: numeral(asStated(stated, decimals.get(target))) }, { text: numeral(least) },
+    { text: signedNumeral(difference) },
   ]);
   const headings = ['target', 'fromMedian', 'stated', 'leastSquares', 'difference']
     .map(name => text(name));
@@ -128,7 +141,8 @@ export function facesTables(/** @type {Station} */ station, /** @type {Element} 
     const cell = (set, target) => {
       const units = byPlace.get(`${set} ${target}`);
       if (units === undefined) return undefined;
-      return { text: signed(mgon(units)), mark: Math.abs(units) === greatest ? 'greatest' : '' };
+      const mark = Math.abs(units) === greatest ? 'greatest' : '';
+      return { text: signedNumeral(mgon(units)), mark };
     };
     const part = element('div', '', around);
     bySets(text(caption, { size: mgon(greatest) }), targets, sets, cell, part, 'numbers');

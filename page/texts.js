@@ -1,5 +1,6 @@
 // All words of the page's own, in each language. What the program says, its lines and explanations,
 // stands in the page as it is.
+import { signed } from './numbers.js';
 
 /** The languages, by their codes. */
 export const LANGUAGES = { en: 'English', de: 'Deutsch', fr: 'Français' };
@@ -12,7 +13,7 @@ export const LANGUAGES = { en: 'English', de: 'Deutsch', fr: 'Français' };
 export const TEXTS = {
   tagline: {
     en: 'Are your adjusted directions right? Check them against the raw field file.',
-    de: 'Stimmen Ihre ausgeglichenen Richtungen? Prüfen Sie sie an der Felddatei.',
+    de: 'Stationsausgleichung: Stimmen Ihre Richtungen? Prüfen Sie sie anhand der Messdatei.',
     fr: 'Vos directions compensées sont-elles justes ? Vérifiez-les avec le fichier de terrain.',
   },
   stays: {
@@ -33,10 +34,11 @@ export const TEXTS = {
   },
   dropKinds: {
     en: 'A field file (GSI) alone gives adjusted directions, residuals and the protocol. With the table of directions (CSV: target, gon) or the sheet of your program these are checked.',
-    de: 'Eine Felddatei (GSI) allein ergibt ausgeglichene Richtungen, Verbesserungen und das Protokoll. Mit der Richtungstabelle (CSV: Ziel, gon) oder dem Rechenblatt (CSV mit Brüchen) Ihres Programms werden diese geprüft.',
-    fr: 'Un fichier de terrain (GSI) seul donne les directions compensées, les résidus et le protocole. Avec la table de directions (CSV : cible, gon) ou la feuille exacte (CSV) de votre programme, celles-ci sont vérifiées.',
+    de: 'Eine Messdatei (GSI) allein ergibt ausgeglichene Richtungen, Verbesserungen und das Protokoll. Mit der Richtungstabelle (CSV: Ziel, gon) oder dem Ergebnisblatt (CSV mit exakten Brüchen) Ihres Programms werden diese geprüft.',
+    fr: 'Un fichier de terrain (GSI) seul donne les directions compensées, les résidus et le procès-verbal. Avec la table de directions (CSV : point visé, gon) ou le résultat exact (CSV) de votre programme, ceux-ci sont vérifiés.',
   },
   choose: { en: 'Choose files', de: 'Dateien wählen', fr: 'Choisir des fichiers' },
+  tryExample: { en: 'Try an example', de: 'Beispiel ausprobieren', fr: 'Essayer un exemple' },
   addMore: { en: 'Add files', de: 'Dateien hinzufügen', fr: 'Ajouter des fichiers' },
   files: { en: 'Files', de: 'Dateien', fr: 'Fichiers' },
   replaced: {
@@ -46,8 +48,8 @@ export const TEXTS = {
   },
   removeAll: { en: 'Remove all', de: 'Alle entfernen', fr: 'Tout retirer' },
   remove: { en: 'Remove {name}', de: '{name} entfernen', fr: 'Retirer {name}' },
-  kindField: { en: 'field file', de: 'Felddatei', fr: 'fichier de terrain' },
-  kindSheet: { en: 'sheet of {station}', de: 'Rechenblatt von {station}', fr: 'feuille de {station}' },
+  kindField: { en: 'field file', de: 'Messdatei', fr: 'fichier de terrain' },
+  kindSheet: { en: 'sheet of {station}', de: 'Ergebnisblatt von {station}', fr: 'résultat exact de {station}' },
   kindTable: { en: 'table of directions', de: 'Richtungstabelle', fr: 'table de directions' },
   kindSpreadsheet: {
     en: 'not used: a spreadsheet; save its two columns as CSV',
@@ -71,14 +73,14 @@ export const TEXTS = {
   },
   kindOther: {
     en: 'not used: neither a field file, nor a sheet, nor a table of directions',
-    de: 'nicht verwendet: weder Felddatei noch Rechenblatt noch Richtungstabelle',
-    fr: 'non utilisé : ni fichier de terrain, ni feuille, ni table de directions',
+    de: 'nicht verwendet: weder Messdatei noch Ergebnisblatt noch Richtungstabelle',
+    fr: 'non utilisé : ni fichier de terrain, ni résultat exact, ni table de directions',
   },
   belongsTo: { en: 'Station of {name}', de: 'Station von {name}', fr: 'Station de {name}' },
   byName: { en: 'found automatically', de: 'automatisch gefunden', fr: 'trouvée automatiquement' },
   labelled: { en: '{label}: {said}', de: '{label}: {said}', fr: '{label} : {said}' },
-  limits: { en: 'Limits', de: 'Grenzen', fr: 'Limites' },
-  limitsInForce: { en: 'Limits:', de: 'Grenzen:', fr: 'Limites :' },
+  limits: { en: 'Limits', de: 'Grenzwerte', fr: 'Limites' },
+  limitsInForce: { en: 'Limits:', de: 'Grenzwerte:', fr: 'Limites :' },
   inForce: {
     en: '2c {twoC}, 2i {twoI}, residuals {residual} mgon',
     de: '2c {twoC}, 2i {twoI}, Verbesserungen {residual} mgon',
@@ -96,16 +98,16 @@ export const TEXTS = {
   },
   inForceByDecimals: {
     en: 'tables within 0.01 mgon or as they are rounded',
-    de: 'Tabellen auf 0.01 mgon genau oder wie sie gerundet sind',
-    fr: 'tables à 0.01 mgon près ou selon leur arrondi',
+    de: 'Tabellen auf 0,01 mgon genau oder wie sie gerundet sind',
+    fr: 'tables à 0,01 mgon près ou selon leur arrondi',
   },
   residualStated: {
     en: 'The limit of residuals holds each station, with a sheet, with a table or alone. The page itself states 10 mgon if you state none.',
-    de: 'Die Grenze der Verbesserungen gilt für jede Station, mit Rechenblatt, mit Tabelle oder allein. Die Seite selbst setzt 10 mgon, wenn Sie nichts angeben.',
-    fr: 'La limite des résidus vaut pour chaque station, avec une feuille, avec une table ou seule. La page fixe elle-même 10 mgon si vous n’indiquez rien.',
+    de: 'Der Grenzwert der Verbesserungen gilt für jede Station, mit Ergebnisblatt, mit Tabelle oder allein. Die Seite selbst setzt 10 mgon, wenn Sie nichts angeben.',
+    fr: 'La limite des résidus vaut pour chaque station, avec un résultat exact, avec une table ou seule. La page fixe elle-même 10 mgon si vous n’indiquez rien.',
   },
-  limitTwoC: { en: '2c at most, in mgon', de: '2c höchstens, in mgon', fr: '2c au plus, en mgon' },
-  limitTwoI: { en: '2i at most, in mgon', de: '2i höchstens, in mgon', fr: '2i au plus, en mgon' },
+  limitTwoC: { en: '2c (collimation) at most, in mgon', de: '2c (Zielachsfehler) höchstens, in mgon', fr: '2c (collimation) au plus, en mgon' },
+  limitTwoI: { en: '2i (index error) at most, in mgon', de: '2i (Höhenindexfehler) höchstens, in mgon', fr: '2i (index) au plus, en mgon' },
   limitResidual: {
     en: 'Residuals at most, in mgon',
     de: 'Verbesserungen höchstens, in mgon',
@@ -113,7 +115,7 @@ export const TEXTS = {
   },
   limitWithin: {
     en: 'A table may differ by, in mgon',
-    de: 'Eine Tabelle darf abweichen um, in mgon',
+    de: 'Zulässige Abweichung einer Tabelle, in mgon',
     fr: 'Une table peut différer de, en mgon',
   },
   usual: { en: 'usual', de: 'üblich', fr: 'usuelle' },
@@ -132,7 +134,7 @@ export const TEXTS = {
   ready: { en: 'Ready for your files.', de: 'Bereit für Ihre Dateien.', fr: 'Prête à recevoir vos fichiers.' },
   needField: {
     en: 'Add the field file (GSI) too: without it nothing can be checked.',
-    de: 'Fügen Sie auch die Felddatei (GSI) hinzu: Ohne sie kann nichts geprüft werden.',
+    de: 'Fügen Sie auch die Messdatei (GSI) hinzu: Ohne sie kann nichts geprüft werden.',
     fr: 'Ajoutez aussi le fichier de terrain (GSI) : sans lui, rien ne peut être vérifié.',
   },
   working: {
@@ -143,7 +145,7 @@ export const TEXTS = {
   stop: { en: 'Stop', de: 'Abbrechen', fr: 'Arrêter' },
   stopped: {
     en: 'Stopped. What was not answered was not checked.',
-    de: 'Abgebrochen. Was keine Antwort hat, wurde nicht geprüft.',
+    de: 'Abgebrochen. Was kein Ergebnis hat, wurde nicht geprüft.',
     fr: 'Arrêté. Ce qui n’a pas de réponse n’a pas été vérifié.',
   },
   checkAgain: { en: 'Check again', de: 'Noch einmal prüfen', fr: 'Vérifier de nouveau' },
@@ -159,18 +161,18 @@ export const TEXTS = {
   },
   outOfRange: {
     en: 'No answer: a number is out of its range.',
-    de: 'Keine Antwort: Eine Zahl liegt außerhalb ihres Bereichs.',
+    de: 'Kein Ergebnis: Eine Zahl liegt außerhalb ihres Bereichs.',
     fr: 'Pas de réponse : un nombre est hors de son domaine.',
   },
   noRoom: {
     en: 'No answer: the text has no room here.',
-    de: 'Keine Antwort: Der Text hat hier keinen Platz.',
+    de: 'Kein Ergebnis: Der Text hat hier keinen Platz.',
     fr: 'Pas de réponse : le texte n’a pas la place ici.',
   },
   summaryGood: {
     en: '{n} computed rightly',
     de: '{n} richtig berechnet',
-    fr: '{n} sans faute de calcul',
+    fr: '{n} sans erreur de calcul',
   },
   summaryBad: { en: '{n} refused', de: '{n} zurückgewiesen', fr: '{n} refus' },
   summaryRead: { en: '{n} read, not compared', de: '{n} gelesen, nicht verglichen', fr: '{n} sans comparaison' },
@@ -183,12 +185,12 @@ export const TEXTS = {
   moodRead: { en: 'Not compared', de: 'Nicht verglichen', fr: 'Sans comparaison' },
   accepted: {
     en: 'Accepted. Greatest residual {size} mgon, set {set}, {target}.',
-    de: 'Angenommen. Größte Verbesserung {size} mgon, Satz {set}, {target}.',
+    de: 'Bestätigt. Größte Verbesserung {size} mgon, Satz {set}, {target}.',
     fr: 'Accepté. Plus grand résidu {size} mgon, série {set}, {target}.',
   },
   acceptedZero: {
     en: 'Accepted. All residuals are 0.',
-    de: 'Angenommen. Alle Verbesserungen sind 0.',
+    de: 'Bestätigt. Alle Verbesserungen sind 0.',
     fr: 'Accepté. Tous les résidus sont nuls.',
   },
   oneSet: {
@@ -196,21 +198,21 @@ export const TEXTS = {
     de: 'Ein Satz: seine Verbesserungen sind 0, was auch abgelesen wurde.',
     fr: 'Une seule série : ses résidus sont nuls, quelles que soient les lectures.',
   },
-  acceptedBare: { en: 'Accepted.', de: 'Angenommen.', fr: 'Accepté.' },
+  acceptedBare: { en: 'Accepted.', de: 'Bestätigt.', fr: 'Accepté.' },
   agrees: {
     en: 'Agrees. {n} target within {apart} mgon of the least-squares directions; the limit is {limit} mgon.|Agrees. {n} targets within {apart} mgon of the least-squares directions; the limit is {limit} mgon.',
-    de: 'Stimmt überein. {n} Ziel weicht höchstens {apart} mgon von den Richtungen nach kleinsten Quadraten ab; die Grenze ist {limit} mgon.|Stimmt überein. {n} Ziele weichen höchstens {apart} mgon von den Richtungen nach kleinsten Quadraten ab; die Grenze ist {limit} mgon.',
-    fr: 'Concorde. {n} cible à {apart} mgon près des directions des moindres carrés ; la limite est {limit} mgon.|Concorde. {n} cibles à {apart} mgon près des directions des moindres carrés ; la limite est {limit} mgon.',
+    de: 'Stimmt überein. {n} Ziel weicht höchstens {apart} mgon von den ausgeglichenen Richtungen ab; der Grenzwert ist {limit} mgon.|Stimmt überein. {n} Ziele weichen höchstens {apart} mgon von den ausgeglichenen Richtungen ab; der Grenzwert ist {limit} mgon.',
+    fr: 'Conforme. {n} point visé à {apart} mgon près des directions des moindres carrés ; la limite est {limit} mgon.|Conforme. {n} points visés à {apart} mgon près des directions des moindres carrés ; la limite est {limit} mgon.',
   },
-  agreesBare: { en: 'Agrees.', de: 'Stimmt überein.', fr: 'Concorde.' },
+  agreesBare: { en: 'Agrees.', de: 'Stimmt überein.', fr: 'Conforme.' },
   residualKept: {
     en: 'Greatest residual {size} mgon, set {set}, {target}: within the limit of {limit} mgon.',
-    de: 'Größte Verbesserung {size} mgon, Satz {set}, {target}: innerhalb der Grenze von {limit} mgon.',
+    de: 'Größte Verbesserung {size} mgon, Satz {set}, {target}: innerhalb des Grenzwerts von {limit} mgon.',
     fr: 'Plus grand résidu {size} mgon, série {set}, {target} : dans la limite de {limit} mgon.',
   },
   residualAbove: {
     en: 'Greatest residual {size} mgon, set {set}, {target}: above the limit of {limit} mgon.',
-    de: 'Größte Verbesserung {size} mgon, Satz {set}, {target}: über der Grenze von {limit} mgon.',
+    de: 'Größte Verbesserung {size} mgon, Satz {set}, {target}: über dem Grenzwert von {limit} mgon.',
     fr: 'Plus grand résidu {size} mgon, série {set}, {target} : au-dessus de la limite de {limit} mgon.',
   },
   notAdjusted: {
@@ -221,18 +223,18 @@ export const TEXTS = {
   refused: { en: 'Refused.', de: 'Zurückgewiesen.', fr: 'Refusé.' },
   refusedApart: {
     en: 'Refused. The directions are {apart} mgon apart; the limit is {limit} mgon.',
-    de: 'Zurückgewiesen. Die Richtungen weichen {apart} mgon ab; die Grenze ist {limit} mgon.',
+    de: 'Zurückgewiesen. Die Richtungen weichen {apart} mgon ab; der Grenzwert ist {limit} mgon.',
     fr: 'Refusé. Les directions s’écartent de {apart} mgon ; la limite est {limit} mgon.',
   },
   furthest: {
     en: 'Furthest from the least-squares directions: {targets}.',
-    de: 'Am weitesten von den Richtungen nach kleinsten Quadraten entfernt: {targets}.',
+    de: 'Am weitesten von den ausgeglichenen Richtungen entfernt: {targets}.',
     fr: 'Les plus éloignées des directions des moindres carrés : {targets}.',
   },
   readWell: {
     en: 'Read without a fault: {sets}, {targets}, {directions}.',
     de: 'Fehlerfrei gelesen: {sets}, {targets}, {directions}.',
-    fr: 'Lu sans faute : {sets}, {targets}, {directions}.',
+    fr: 'Lu sans erreur : {sets}, {targets}, {directions}.',
   },
   notCompared: {
     en: 'Not compared with the results of a program.',
@@ -241,8 +243,8 @@ export const TEXTS = {
   },
   nothingCompared: {
     en: 'No results of your program were given yet: add its table of directions or its sheet, and they are checked.',
-    de: 'Es liegt noch kein Ergebnis Ihres Programms vor: Fügen Sie seine Richtungstabelle oder sein Rechenblatt hinzu, dann wird es geprüft.',
-    fr: 'Aucun résultat de votre programme pour l’instant : ajoutez sa table de directions ou sa feuille, et elle sera vérifiée.',
+    de: 'Es liegt noch kein Ergebnis Ihres Programms vor: Fügen Sie seine Richtungstabelle oder sein Ergebnisblatt hinzu, dann wird es geprüft.',
+    fr: 'Aucun résultat de votre programme pour l’instant : ajoutez sa table de directions ou son résultat exact, pour les vérifier.',
   },
   nothingChecked: {
     en: 'Nothing was checked: this file has no sets.',
@@ -257,7 +259,7 @@ export const TEXTS = {
   nothingCounted: {
     en: 'Nothing was checked yet: the sets were read target by target, and their number is needed.',
     de: 'Noch nichts wurde geprüft: Die Sätze wurden Ziel für Ziel beobachtet, und ihre Anzahl fehlt.',
-    fr: 'Rien n’a encore été vérifié : les séries ont été lues cible par cible, et il faut leur nombre.',
+    fr: 'Rien n’a encore été vérifié : les séries ont été lues point par point, et il faut leur nombre.',
   },
   nothingSetUp: {
     en: 'Nothing was checked yet: a station is set up twice, and it is not said whether that is one set-up or two.',
@@ -267,7 +269,7 @@ export const TEXTS = {
   countedOtherwise: {
     en: 'Nothing was checked: the sets of this job are not as many as you stated, or have other targets.',
     de: 'Nichts wurde geprüft: Die Sätze dieses Jobs sind nicht so viele, wie Sie angeben, oder haben andere Ziele.',
-    fr: 'Rien n’a été vérifié : les séries de ce job ne sont pas aussi nombreuses que vous l’indiquez, ou ont d’autres cibles.',
+    fr: 'Rien n’a été vérifié : les séries de ce job ne sont pas aussi nombreuses que vous l’indiquez, ou ont d’autres points visés.',
   },
   nothingRecognized: {
     en: 'Nothing was checked: the sets of this job are not recognized.',
@@ -277,7 +279,7 @@ export const TEXTS = {
   outside: {
     en: '{n} reading with a direction stands outside of sets.|{n} readings with directions stand outside of sets.',
     de: '{n} Ablesung mit Richtung steht außerhalb von Sätzen.|{n} Ablesungen mit Richtungen stehen außerhalb von Sätzen.',
-    fr: '{n} lecture avec direction est hors série.|{n} lectures avec directions sont hors série.',
+    fr: '{n} lecture avec direction est hors des séries.|{n} lectures avec directions sont hors des séries.',
   },
   noReadings: {
     en: 'It has no reading with a direction (word 21): a levelling file or a list of coordinates has none. Take the file of the job in which the sets were observed.',
@@ -286,7 +288,7 @@ export const TEXTS = {
   },
   markedCopy: {
     en: 'Sets recognized in {name}: the answer is of a copy with codes put in',
-    de: 'In {name} erkannte Sätze: Die Antwort gilt einer Kopie mit eingesetzten Codes',
+    de: 'In {name} erkannte Sätze: Das Ergebnis gilt einer Kopie mit eingesetzten Codes',
     fr: 'Séries reconnues dans {name} : la réponse porte sur une copie avec des codes',
   },
   recognized: {
@@ -321,13 +323,13 @@ export const TEXTS = {
   },
   recognizedOthers: {
     en: 'After the sets {n} target that no set has is read in both faces: is a set-up line missing before it?|After the sets {n} targets that no set has are read in both faces: is a set-up line missing before them?',
-    de: 'Nach den Sätzen ist {n} Ziel, das kein Satz hat, in beiden Lagen gelesen: Fehlt davor eine Aufstellungszeile?|Nach den Sätzen sind {n} Ziele, die kein Satz hat, in beiden Lagen gelesen: Fehlt davor eine Aufstellungszeile?',
-    fr: 'Après les séries, {n} cible qu’aucune série n’a est lue aux deux cercles : manque-t-il une ligne de mise en station ?|Après les séries, {n} cibles qu’aucune série n’a sont lues aux deux cercles : manque-t-il une ligne de mise en station ?',
+    de: 'Nach den Sätzen ist {n} Ziel, das kein Satz hat, in beiden Fernrohrlagen abgelesen: Fehlt davor eine Aufstellungszeile?|Nach den Sätzen sind {n} Ziele, die kein Satz hat, in beiden Fernrohrlagen abgelesen: Fehlt davor eine Aufstellungszeile?',
+    fr: 'Après les séries, {n} point qu’aucune série n’a est lu en CG et CD : manque-t-il une ligne de mise en station ?|Après les séries, {n} points qu’aucune série n’a sont lus en CG et CD : manque-t-il une ligne de mise en station ?',
   },
   recognizedOpenedAgain: {
     en: '{opening}, which opens the sets, is read again after them: is a reading of theirs missing?',
     de: '{opening}, mit dem die Sätze beginnen, ist nach ihnen noch einmal gelesen: Fehlt ihnen eine Ablesung?',
-    fr: '{opening}, qui ouvre les séries, est relue après elles : leur manque-t-il une lecture ?',
+    fr: '{opening}, qui ouvre les séries, est relu après elles : leur manque-t-il une lecture ?',
   },
   recognizedEqual: {
     en: 'Sets {earlier} and {later} are the same to the last digit: was one set transferred twice?',
@@ -345,9 +347,9 @@ export const TEXTS = {
     fr: 'Sa ligne de mise en station a été réécrite {n} fois : cela compte comme la même mise en station.',
   },
   recognizedNot: {
-    en: 'Station {station}: not recognized, block {block}: {fault}. Its {n} reading stays outside, and nothing of it was checked.|Station {station}: not recognized, block {block}: {fault}. Its {n} readings stay outside, and nothing of them was checked.',
-    de: 'Station {station}: nicht erkannt, Block {block}: {fault}. Ihre {n} Ablesung bleibt außerhalb; nichts davon wurde geprüft.|Station {station}: nicht erkannt, Block {block}: {fault}. Ihre {n} Ablesungen bleiben außerhalb; nichts davon wurde geprüft.',
-    fr: 'Station {station} : non reconnue, bloc {block} : {fault}. Sa {n} lecture reste en dehors, et rien n’en a été vérifié.|Station {station} : non reconnue, bloc {block} : {fault}. Ses {n} lectures restent en dehors, et rien n’en a été vérifié.',
+    en: 'Station {station}: not recognized, block {block}: {fault} Its {n} reading stays outside, and nothing of it was checked.|Station {station}: not recognized, block {block}: {fault} Its {n} readings stay outside, and nothing of them was checked.',
+    de: 'Station {station}: nicht erkannt, Block {block}: {fault} Ihre {n} Ablesung bleibt außerhalb; nichts davon wurde geprüft.|Station {station}: nicht erkannt, Block {block}: {fault} Ihre {n} Ablesungen bleiben außerhalb; nichts davon wurde geprüft.',
+    fr: 'Station {station} : non reconnue, bloc {block} : {fault} Sa {n} lecture reste en dehors, et rien n’en a été vérifié.|Station {station} : non reconnue, bloc {block} : {fault} Ses {n} lectures restent en dehors, et rien n’en a été vérifié.',
   },
   leaveOut: {
     en: 'Leave the stations that are not recognized outside',
@@ -362,7 +364,7 @@ export const TEXTS = {
   marks: { en: 'Codes put in', de: 'Eingesetzte Codes', fr: 'Codes insérés' },
   compareBook: {
     en: 'Compare these numbers with the field book, and keep the copy beside the field file.',
-    de: 'Vergleichen Sie diese Zahlen mit dem Feldbuch, und bewahren Sie die Kopie neben der Felddatei auf.',
+    de: 'Vergleichen Sie diese Zahlen mit dem Feldbuch, und bewahren Sie die Kopie neben der Messdatei auf.',
     fr: 'Comparez ces nombres avec le carnet de terrain, et gardez la copie avec le fichier de terrain.',
   },
   saveMarked: { en: 'Save the copy with codes', de: 'Kopie mit Codes speichern', fr: 'Enregistrer la copie avec codes' },
@@ -407,7 +409,7 @@ export const TEXTS = {
   numbersOf: {
     en: 'Sets and targets of {station}',
     de: 'Sätze und Ziele von {station}',
-    fr: 'Séries et cibles de {station}',
+    fr: 'Séries et points visés de {station}',
   },
   ofEach: {
     en: 'the same at each station that needs it',
@@ -419,7 +421,7 @@ export const TEXTS = {
     de: 'Zu Ende beobachtete Sätze, laut Feldbuch',
     fr: 'Séries lues jusqu’au bout, selon le carnet',
   },
-  targetsRead: { en: 'Targets', de: 'Ziele', fr: 'Cibles' },
+  targetsRead: { en: 'Targets', de: 'Ziele', fr: 'Points visés' },
   changeNumbers: { en: 'Change the numbers', de: 'Anzahlen ändern', fr: 'Changer les nombres' },
   markSets: { en: 'Recognize the sets', de: 'Sätze erkennen', fr: 'Reconnaître les séries' },
   lineOfFile: {
@@ -428,31 +430,31 @@ export const TEXTS = {
     fr: 'Ligne {line} de {name}, bloc {block}',
   },
   endOfFile: { en: 'The end of {name}', de: 'Das Ende von {name}', fr: 'La fin de {name}' },
-  rowOfFile: { en: 'Row {row} of {name}', de: 'Zeile {row} von {name}', fr: 'Rangée {row} de {name}' },
+  rowOfFile: { en: 'Row {row} of {name}', de: 'Zeile {row} von {name}', fr: 'Ligne {row} de {name}' },
   rowOfKind: {
     en: 'Row {row} of {name}, {kind} row {nth}',
     de: 'Zeile {row} von {name}, {kind}-Zeile {nth}',
-    fr: 'Rangée {row} de {name}, rangée {kind} {nth}',
+    fr: 'Ligne {row} de {name}, ligne {kind} {nth}',
   },
   targetOfStation: {
     en: 'Target {nth} of station {station}',
     de: 'Ziel {nth} der Station {station}',
-    fr: 'Cible {nth} de la station {station}',
+    fr: 'Point visé {nth} de la station {station}',
   },
   observationOfStation: {
     en: 'Observation {nth} of station {station}',
     de: 'Beobachtung {nth} der Station {station}',
     fr: 'Observation {nth} de la station {station}',
   },
-  setAndTarget: { en: 'set {set}, target {target}', de: 'Satz {set}, Ziel {target}', fr: 'série {set}, cible {target}' },
+  setAndTarget: { en: 'set {set}, target {target}', de: 'Satz {set}, Ziel {target}', fr: 'série {set}, point {target}' },
   waiting: {
     en: 'Not checked until the field file has no fault: {names}.',
-    de: 'Nicht geprüft, solange die Felddatei einen Fehler hat: {names}.',
-    fr: 'Non vérifié tant que le fichier de terrain a une faute : {names}.',
+    de: 'Nicht geprüft, solange die Messdatei einen Fehler hat: {names}.',
+    fr: 'Non vérifié tant que le fichier de terrain a une erreur : {names}.',
   },
   waitingForSets: {
     en: 'Not checked, since the field file has no station: {names}.',
-    de: 'Nicht geprüft, weil die Felddatei keine Station hat: {names}.',
+    de: 'Nicht geprüft, weil die Messdatei keine Station hat: {names}.',
     fr: 'Non vérifié, car le fichier de terrain n’a pas de station : {names}.',
   },
   waitingForName: {
@@ -477,12 +479,12 @@ export const TEXTS = {
   },
   notJudged: {
     en: 'Its residuals were not held to the limit, since the work was stopped.',
-    de: 'Ihre Verbesserungen wurden nicht an der Grenze gemessen, weil die Arbeit abgebrochen wurde.',
+    de: 'Ihre Verbesserungen wurden nicht mit dem Grenzwert verglichen, weil die Arbeit abgebrochen wurde.',
     fr: 'Ses résidus n’ont pas été comparés à la limite, car le travail a été arrêté.',
   },
   noFieldFor: {
     en: 'Not checked: no field file fits it. Its name should begin as that of its field file, or choose its station in the list of files.',
-    de: 'Nicht geprüft: Keine Felddatei passt dazu. Der Name sollte wie der der Felddatei beginnen, oder wählen Sie die Station in der Dateiliste.',
+    de: 'Nicht geprüft: Keine Messdatei passt dazu. Der Name sollte wie der der Messdatei beginnen, oder wählen Sie die Station in der Dateiliste.',
     fr: 'Non vérifié : aucun fichier de terrain ne lui correspond. Son nom devrait commencer comme celui du fichier de terrain, ou choisissez sa station dans la liste des fichiers.',
   },
   noStationFor: {
@@ -496,60 +498,39 @@ export const TEXTS = {
     de: 'Dasselbe auf der Kommandozeile',
     fr: 'La même chose en ligne de commande',
   },
-  whatItMeans: { en: 'What it means and what to do', de: 'Was es bedeutet und was zu tun ist (englisch)', fr: 'Ce que cela veut dire et que faire (en anglais)' },
-  here: { en: 'On this page:', de: 'Auf dieser Seite:', fr: 'Sur cette page :' },
-  hereDifferences: {
-    en: 'The differences of all targets stand below.',
-    de: 'Die Unterschiede aller Ziele stehen weiter unten.',
-    fr: 'Les écarts de toutes les cibles sont plus bas.',
+  whatToDo: { en: 'What to do:', de: 'Was zu tun ist:', fr: 'Que faire :' },
+  byCopy: {
+    en: 'Change the copy in a text editor: its lines have the numbers shown here. Keep the original, and note what you changed and why.',
+    de: 'Ändern Sie die Kopie in einem Texteditor: Ihre Zeilen haben die hier gezeigten Nummern. Bewahren Sie das Original auf, und notieren Sie, was Sie geändert haben und warum.',
+    fr: 'Modifiez la copie dans un éditeur de texte : ses lignes ont les numéros montrés ici. Gardez l’original, et notez ce que vous avez changé et pourquoi.',
   },
-  hereLimits: {
-    en: 'You state --two-c, --two-i, --residual and --within in mgon, under ‘Limits’.',
-    de: 'Sie geben --two-c, --two-i, --residual und --within in mgon an, unter „Grenzen“.',
-    fr: 'Vous indiquez --two-c, --two-i, --residual et --within en mgon, sous « Limites ».',
-  },
-  hereGon: {
-    en: 'Tables are read in gon alone; the program reads degrees too.',
-    de: 'Tabellen werden nur in gon gelesen; das Programm liest auch Grad.',
-    fr: 'Les tables sont lues en gon seulement ; le programme lit aussi les degrés.',
-  },
-  hereNumbers: {
-    en: 'You state --sets and --targets below.',
-    de: 'Sie geben --sets und --targets unten an.',
-    fr: 'Vous indiquez --sets et --targets plus bas.',
-  },
-  hereSetUp: {
-    en: 'You say below what a station is that is set up twice.',
-    de: 'Was eine zweimal aufgestellte Station ist, sagen Sie unten.',
-    fr: 'Vous dites plus bas ce qu’est une station mise en place deux fois.',
-  },
-  hereEditor: {
-    en: 'If you have no prepare.py, change a copy of the file in a text editor, whose lines have the numbers shown here; keep the original, and write down what you changed and why.',
-    de: 'Ohne prepare.py ändern Sie eine Kopie der Datei in einem Texteditor, dessen Zeilen die hier gezeigten Nummern haben; bewahren Sie das Original auf, und halten Sie fest, was Sie geändert haben und warum.',
-    fr: 'Sans prepare.py, modifiez une copie du fichier dans un éditeur de texte, dont les lignes ont les numéros montrés ici ; gardez l’original, et notez ce que vous avez changé et pourquoi.',
+  inFull: {
+    en: 'In full, in the words of the program',
+    de: 'Ausführlich, in den Worten des Programms (englisch)',
+    fr: 'En détail, dans les mots du programme (en anglais)',
   },
   directions: { en: 'Adjusted directions', de: 'Ausgeglichene Richtungen', fr: 'Directions compensées' },
   directionsCaption: {
     en: 'Least-squares directions, the first target as zero, in gon',
-    de: 'Richtungen nach kleinsten Quadraten, erstes Ziel als Null, in gon',
-    fr: 'Directions des moindres carrés, première cible à zéro, en gon',
+    de: 'Ausgeglichene Richtungen, auf das erste Ziel reduziert, in gon',
+    fr: 'Directions des moindres carrés, premier point visé à zéro, en gon',
   },
-  differences: { en: 'Differences of {name}', de: 'Unterschiede von {name}', fr: 'Écarts de {name}' },
+  differences: { en: 'Differences of {name}', de: 'Abweichungen von {name}', fr: 'Écarts de {name}' },
   differencesCaption: {
     en: 'By target in gon, and the difference in mgon from the median of all, and after the best rotation',
-    de: 'Nach Zielen in gon, und der Unterschied in mgon vom Median aller, und nach der besten Drehung',
-    fr: 'Par cible en gon, et l’écart en mgon de la médiane de tous, et après la meilleure rotation',
+    de: 'Richtungen in gon; Abweichungen in mgon, vom Median aller und nach bester Verdrehung',
+    fr: 'Directions en gon ; écarts en mgon de la médiane de tous, et après la meilleure rotation',
   },
   differencesNote: {
     en: 'From the median a single wrong target shows its whole error, and the others about 0. The best rotation, by which the verdict counts, halves it: 1 mgon shows as about 0.5.',
-    de: 'Vom Median aus zeigt ein einzelnes falsches Ziel seinen ganzen Fehler, und die anderen etwa 0. Die beste Drehung, nach der das Urteil zählt, halbiert ihn: 1 mgon zeigt etwa 0.5.',
-    fr: 'De la médiane, une seule cible fausse montre toute son erreur, et les autres environ 0. La meilleure rotation, selon laquelle le verdict compte, la divise par deux : 1 mgon se montre comme 0.5 environ.',
+    de: 'Vom Median aus zeigt ein einzelnes falsches Ziel seinen ganzen Fehler, und die anderen etwa 0. Die beste Verdrehung, nach der das Urteil zählt, halbiert ihn: 1 mgon zeigt etwa 0,5.',
+    fr: 'De la médiane, un seul point faux montre toute son erreur, et les autres environ 0. La meilleure rotation, selon laquelle le verdict compte, la divise par deux : 1 mgon se montre comme 0,5 environ.',
   },
   stated: { en: 'Stated', de: 'Angegeben', fr: 'Indiquée' },
-  leastSquares: { en: 'Least squares', de: 'Kleinste Quadrate', fr: 'Moindres carrés' },
-  difference: { en: 'Best rotation', de: 'Beste Drehung', fr: 'Meilleure rotation' },
+  leastSquares: { en: 'Least squares', de: 'Ausgeglichen', fr: 'Compensée' },
+  difference: { en: 'Best rotation', de: 'Beste Verdrehung', fr: 'Meilleure rotation' },
   fromMedian: { en: 'From the median', de: 'Vom Median', fr: 'De la médiane' },
-  saveDifferences: { en: 'Save differences (CSV)', de: 'Unterschiede speichern (CSV)', fr: 'Enregistrer les écarts (CSV)' },
+  saveDifferences: { en: 'Save differences (CSV)', de: 'Abweichungen speichern (CSV)', fr: 'Enregistrer les écarts (CSV)' },
   residuals: { en: 'Residuals', de: 'Verbesserungen', fr: 'Résidus' },
   residualsOf: {
     en: 'Residuals of station {name}',
@@ -569,12 +550,12 @@ export const TEXTS = {
   set: { en: 'Set', de: 'Satz', fr: 'Série' },
   greatest: { en: 'Greatest', de: 'Größte', fr: 'Max.' },
   picture: { en: 'Residuals as a picture', de: 'Verbesserungen als Bild', fr: 'Résidus en image' },
-  pictureByTarget: { en: 'Residuals by target', de: 'Verbesserungen nach Zielen', fr: 'Résidus par cible' },
+  pictureByTarget: { en: 'Residuals by target', de: 'Verbesserungen nach Zielen', fr: 'Résidus par point visé' },
   pictureBySet: { en: 'Residuals by set', de: 'Verbesserungen nach Sätzen', fr: 'Résidus par série' },
   pictureHow: {
     en: 'Each dot is a residual in mgon; in a row the first set, or target, is highest.',
-    de: 'Jeder Punkt ist eine Verbesserung in mgon; in einer Zeile ist der erste Satz, das erste Ziel, oben.',
-    fr: 'Chaque point est un résidu en mgon ; dans une ligne la première série, ou cible, est en haut.',
+    de: 'Punkte sind Verbesserungen in mgon, der Reihe nach von oben.',
+    fr: 'Points : résidus en mgon, dans l’ordre de haut en bas.',
   },
   pictureGreatest: {
     en: 'The diamond is the greatest: {size} mgon, set {set}, {target}.',
@@ -584,15 +565,15 @@ export const TEXTS = {
   pictureZero: { en: 'All are {size} mgon.', de: 'Alle sind {size} mgon.', fr: 'Tous sont {size} mgon.' },
   deviation: {
     en: 'Standard deviation of one two-face direction: {size} mgon, {n} degree of freedom.|Standard deviation of one two-face direction: {size} mgon, {n} degrees of freedom.',
-    de: 'Standardabweichung einer Richtung aus beiden Lagen: {size} mgon, {n} Freiheitsgrad.|Standardabweichung einer Richtung aus beiden Lagen: {size} mgon, {n} Freiheitsgrade.',
-    fr: 'Écart-type d’une direction moyenne des deux cercles : {size} mgon, {n} degré de liberté.|Écart-type d’une direction moyenne des deux cercles : {size} mgon, {n} degrés de liberté.',
+    de: 'Standardabweichung einer in zwei Fernrohrlagen beobachteten Richtung: {size} mgon, {n} Freiheitsgrad.|Standardabweichung einer in zwei Fernrohrlagen beobachteten Richtung: {size} mgon, {n} Freiheitsgrade.',
+    fr: 'Écart-type d’une direction moyenne CG/CD : {size} mgon, {n} degré de liberté.|Écart-type d’une direction moyenne CG/CD : {size} mgon, {n} degrés de liberté.',
   },
   noFreedom: {
     en: 'No degree of freedom: the residuals say nothing of the accuracy.',
     de: 'Kein Freiheitsgrad: Die Verbesserungen sagen nichts über die Genauigkeit.',
     fr: 'Aucun degré de liberté : les résidus ne disent rien de la précision.',
   },
-  faces: { en: 'Face differences', de: 'Lagedifferenzen', fr: 'Écarts entre les deux cercles' },
+  faces: { en: 'Face differences', de: 'Differenzen der Fernrohrlagen (2c, 2i)', fr: 'Écarts CG/CD (2c, 2i)' },
   twoCCaption: {
     en: '2c in mgon; the greatest, {size}, is marked',
     de: '2c in mgon; der größte Wert, {size}, ist markiert',
@@ -603,7 +584,7 @@ export const TEXTS = {
     de: '2i in mgon; der größte Wert, {size}, ist markiert',
     fr: '2i en mgon ; le plus grand, {size}, est marqué',
   },
-  target: { en: 'Target', de: 'Ziel', fr: 'Cible' },
+  target: { en: 'Target', de: 'Ziel', fr: 'Point visé' },
   setNumber: { en: 'Set {set}', de: 'Satz {set}', fr: 'Série {set}' },
   setsOf: { en: 'sets {first} to {last}', de: 'Sätze {first} bis {last}', fr: 'séries {first} à {last}' },
   direction: { en: 'Direction', de: 'Richtung', fr: 'Direction' },
@@ -615,20 +596,20 @@ export const TEXTS = {
   savePicture: { en: 'Save picture (SVG)', de: 'Bild speichern (SVG)', fr: 'Enregistrer l’image (SVG)' },
   saveReport: { en: 'Save report (TXT)', de: 'Bericht speichern (TXT)', fr: 'Enregistrer le rapport (TXT)' },
   saveFaces: { en: 'Save 2c and 2i (CSV)', de: '2c und 2i speichern (CSV)', fr: 'Enregistrer 2c et 2i (CSV)' },
-  saveMeans: { en: 'Save sheet of means', de: 'Rechenblatt der Mittel speichern', fr: 'Enregistrer la feuille des moyennes' },
-  saveProtocol: { en: 'Save protocol', de: 'Protokoll speichern', fr: 'Enregistrer le protocole' },
+  saveMeans: { en: 'Save sheet of means', de: 'Ergebnisblatt der Mittel speichern', fr: 'Enregistrer le résultat exact des moyennes' },
+  saveProtocol: { en: 'Save protocol', de: 'Protokoll speichern', fr: 'Enregistrer le procès-verbal' },
   print: { en: 'Print', de: 'Drucken', fr: 'Imprimer' },
-  printProtocol: { en: 'Print protocol', de: 'Protokoll drucken', fr: 'Imprimer le protocole' },
+  printProtocol: { en: 'Print protocol', de: 'Protokoll drucken', fr: 'Imprimer le procès-verbal' },
   reportLimit: {
     en: 'It was held to {most} mgon, the largest limit of residuals; with yours: {command}',
-    de: 'Er wurde an {most} mgon gemessen, der größten Grenze der Verbesserungen; mit Ihrer: {command}',
+    de: 'Er gilt für {most} mgon, den größten Grenzwert der Verbesserungen; mit Ihrem: {command}',
     fr: 'Il a été tenu à {most} mgon, la plus grande limite des résidus ; avec la vôtre : {command}',
   },
   saved: { en: 'Saved as {name}.', de: 'Gespeichert als {name}.', fr: 'Enregistré sous {name}.' },
   protocol: {
     en: 'Protocol of sets: Station {name}',
     de: 'Satzmessprotokoll: Station {name}',
-    fr: 'Protocole de séries : station {name}',
+    fr: 'Procès-verbal de mesures en séries : station {name}',
   },
   checkOf: { en: 'Check of {name}', de: 'Prüfung von {name}', fr: 'Vérification de {name}' },
   contents: {
@@ -639,10 +620,10 @@ export const TEXTS = {
   handedIn: { en: 'Handed in with it', de: 'Mit übergeben', fr: 'Remis avec' },
   notOpened: {
     en: 'Directions, residuals and face differences are printed where they were opened.',
-    de: 'Richtungen, Verbesserungen und Lagedifferenzen werden gedruckt, wo sie geöffnet wurden.',
+    de: 'Richtungen, Verbesserungen und Differenzen der Fernrohrlagen werden gedruckt, wo sie geöffnet wurden.',
     fr: 'Les directions, les résidus et les écarts sont imprimés là où ils ont été ouverts.',
   },
-  answer: { en: 'Answer', de: 'Antwort', fr: 'Réponse' },
+  answer: { en: 'Answer', de: 'Ergebnis', fr: 'Résultat' },
   date: { en: 'Date of the check', de: 'Datum der Prüfung', fr: 'Date de la vérification' },
   counts: {
     en: '{sets}, {targets}, {directions}',
@@ -650,45 +631,117 @@ export const TEXTS = {
     fr: '{sets}, {targets}, {directions}',
   },
   setsCounted: { en: '{n} set|{n} sets', de: '{n} Satz|{n} Sätze', fr: '{n} série|{n} séries' },
-  targetsCounted: { en: '{n} target|{n} targets', de: '{n} Ziel|{n} Ziele', fr: '{n} cible|{n} cibles' },
+  targetsCounted: { en: '{n} target|{n} targets', de: '{n} Ziel|{n} Ziele', fr: '{n} point visé|{n} points visés' },
   directionsCounted: { en: '{n} direction|{n} directions', de: '{n} Richtung|{n} Richtungen', fr: '{n} direction|{n} directions' },
   readingsCounted: { en: '{n} reading|{n} readings', de: '{n} Ablesung|{n} Ablesungen', fr: '{n} lecture|{n} lectures' },
   observed: { en: 'Observed', de: 'Beobachtet', fr: 'Observé' },
   sign: { en: 'Checked by: place, date, signature', de: 'Geprüft: Ort, Datum, Unterschrift', fr: 'Vérifié par : lieu, date, signature' },
-  observer: { en: 'Observer, instrument', de: 'Beobachter, Instrument', fr: 'Observateur, instrument' },
+  byHand: { en: 'Observer, instrument', de: 'Beobachter, Instrument', fr: 'Observateur, instrument' },
+  notes: {
+    en: 'Protocol: project, instrument, observer',
+    de: 'Protokoll: Projekt, Instrument, Beobachter',
+    fr: 'Procès-verbal : projet, instrument, observateur',
+  },
+  project: { en: 'Project', de: 'Projekt', fr: 'Projet' },
+  instrument: { en: 'Instrument, number', de: 'Instrument, Nummer', fr: 'Instrument, numéro' },
+  observer: { en: 'Observer', de: 'Beobachter', fr: 'Observateur' },
+  notesKept: {
+    en: 'This browser keeps them for the next time. Nothing is sent.',
+    de: 'Dieser Browser behält sie für das nächste Mal. Nichts wird gesendet.',
+    fr: 'Ce navigateur les garde pour la prochaine fois. Rien n’est envoyé.',
+  },
   digest: { en: 'SHA-256 {digest}', de: 'SHA-256 {digest}', fr: 'SHA-256 {digest}' },
   madeBy: {
     en: 'station_check, version {commit}; SHA-256 of the module inside: {digest}.',
     de: 'station_check, Version {commit}; SHA-256 des Moduls darin: {digest}.',
     fr: 'station_check, version {commit} ; SHA-256 du module inclus : {digest}.',
   },
-  answers: { en: 'Answers', de: 'Antworten', fr: 'Réponses' },
+  answers: { en: 'Answers', de: 'Ergebnisse', fr: 'Résultats' },
+  about: {
+    en: 'About: what is proved, and what isn’t',
+    de: 'Über diese Seite: was bewiesen ist und was nicht',
+    fr: 'À propos : ce qui est prouvé, et ce qui ne l’est pas',
+  },
+  aboutUse: { en: 'What it does', de: 'Wozu sie dient', fr: 'À quoi elle sert' },
+  aboutUseSaid: {
+    en: 'A total station reads sets of directions. The page adjusts each station by least squares: the directions for which the squares of all residuals have the smallest sum. It prints them as a protocol, and compares those of your program with them: a table has one direction for each target, a sheet has exact fractions.',
+    de: 'Eine Totalstation misst Richtungssätze. Die Seite rechnet für jede Station die Stationsausgleichung nach kleinsten Quadraten, bei der die Summe der Verbesserungsquadrate am kleinsten ist, druckt sie als Satzmessprotokoll und vergleicht das Ergebnis Ihres Programms damit: eine Tabelle mit einer Richtung je Ziel, oder ein Ergebnisblatt mit exakten Brüchen.',
+    fr: 'Une station totale mesure des séries de directions. La page compense chaque station par moindres carrés : la somme des carrés des résidus est la plus petite. Elle en imprime le procès-verbal, et compare le résultat de votre programme : une table d’une direction par point visé, ou un résultat exact en fractions.',
+  },
+  aboutProved: { en: 'Proved', de: 'Bewiesen', fr: 'Prouvé' },
+  aboutProvedSaid: {
+    en: 'The module in this page is given the bytes of your files. For all bytes it is proved by machine, function by function, that what it answers is as the definitions say: verdicts, directions, residuals, 2c, 2i, differences, SHA-256.',
+    de: 'Das Modul in dieser Seite erhält die Bytes Ihrer Dateien. Für alle Bytes ist maschinell bewiesen, Funktion für Funktion, dass seine Antworten den schriftlichen Definitionen entsprechen: Urteile, Richtungen, Verbesserungen, 2c, 2i, Abweichungen, SHA-256.',
+    fr: 'Le module de cette page reçoit les octets de vos fichiers. Pour tous les octets il est prouvé par machine, fonction par fonction, que ses réponses sont conformes aux définitions écrites : verdicts, directions, résidus, 2c, 2i, écarts, SHA-256.',
+  },
+  aboutNot: { en: 'Not proved', de: 'Nicht bewiesen', fr: 'Non prouvé' },
+  aboutNotSaid: {
+    en: 'That the page shows what the module answered, and which files it takes together: this is tested. That the greatest residual, with its three decimals, is held to your limit where no sheet is: tested too. The tools that make the module of what was proved, and the browser, are trusted. What was read in the field nobody can prove: see the residuals.',
+    de: 'Dass die Seite zeigt, was das Modul antwortet, und welche Dateien sie zusammenfügt: Das ist getestet. Dass die größte Verbesserung mit ihren drei Dezimalen, wo kein Ergebnisblatt vorliegt, Ihren Grenzwert einhält: ebenso getestet. Den Werkzeugen, die aus dem Bewiesenen das Modul machen, und dem Browser wird vertraut. Ob im Feld richtig gemessen wurde, kann niemand beweisen: Das zeigen die Verbesserungen.',
+    fr: 'Que la page montre ce que le module répond, et quels fichiers elle réunit : cela est testé. Que le plus grand résidu, avec ses trois décimales, respecte votre limite là où il n’y a pas de résultat exact : testé aussi. On se fie aux outils qui font le module de ce qui est prouvé, et au navigateur. Ce qui a été lu sur le terrain, personne ne peut le prouver : voyez les résidus.',
+  },
+  aboutWho: { en: 'By whom', de: 'Von wem', fr: 'Par qui' },
+  aboutWhoSaid: {
+    en: 'Rattle, the language of the module, checks the proofs each time that it is made. Whoever has the sources of this version can do it again, and compare the SHA-256 of the module with the one below.',
+    de: 'Rattle, die Sprache des Moduls, prüft die Beweise jedes Mal, wenn es gemacht wird. Wer die Quellen dieser Version hat, kann das wiederholen und die SHA-256 des Moduls mit der untenstehenden vergleichen.',
+    fr: 'Rattle, le langage du module, vérifie les preuves chaque fois qu’il est fait. Qui a les sources de cette version peut le refaire, et comparer le SHA-256 du module à celui ci-dessous.',
+  },
+  aboutFile: { en: 'This very file', de: 'Diese Datei selbst', fr: 'Ce fichier même' },
+  aboutFileSaid: {
+    en: 'Its SHA-256 stands in SHA256SUMS, which is handed out with it. Yours is told by:',
+    de: 'Ihre SHA-256 steht in SHA256SUMS, das mit ihr ausgegeben wird. Die Ihrer Kopie sagt:',
+    fr: 'Son SHA-256 est dans SHA256SUMS, remis avec lui. Celui de votre copie est donné par :',
+  },
 };
 
-/** The language that the page speaks. */
-let language = 'en';
+/** The language that the page speaks, and what it puts before the decimals of a number. */
+let language = 'en', point = '.';
 
 /** The first of the wanted languages that the page speaks. */
 export function languageOf(/** @type {readonly string[]} */ wanted) {
   return wanted.map(code => code.slice(0, 2)).find(code => code in LANGUAGES) ?? 'en';
 }
 
-export const speak = (/** @type {string} */ code) => { language = code; };
+/** Speaks a language: with the numbers of its land, where the browser names one, as de-CH. */
+export function speak(/** @type {string} */ code) {
+  language = code;
+  const land = navigator.languages.find(one => one.startsWith(code)) ?? code;
+  const parts = new Intl.NumberFormat(land).formatToParts(0.5);
+  point = parts.find(({ type }) => type === 'decimal').value;
+}
+
 export const spoken = () => language;
+
+/** A number that a call wrote, with the decimal sign of the language. */
+export const numeral = (/** @type {string} */ number) => number.replace('.', point);
+
+/** The same with a sign that is seen. */
+export const signedNumeral = (/** @type {string} */ number) => numeral(signed(number));
 
 /**
  * French text with narrow blanks, at which no line ends, before its signs and within its quotes.
  */
 const inFrench = (/** @type {string} */ said) => said.replace(/ (?=[:;?!»])|(?<=«) /g, '\u202f');
 
+/** A text as its language sets it. */
+export const typeset = (/** @type {string} */ said) => language === 'fr' ? inFrench(said) : said;
+
+/** The words in the place of which texts have numbers with decimals. */
+const NUMBERS = new Set([
+  'size', 'apart', 'limit', 'twoC', 'twoI', 'residual', 'within', 'least', 'most', 'step',
+]);
+
 /**
- * The text of this name, with these values filled in; `n` chooses between one and more.
+ * The text of this name, with these values filled in; `n` chooses between one and more. It is
+ * English as long as those of other languages are not yet unpacked.
  * @param {string} name
  * @param {Record<string, string | number>} [values]
  */
 export function text(name, values = {}) {
-  const [one, more] = TEXTS[name][language].split('|');
+  const [one, more] = (TEXTS[name][language] ?? TEXTS[name].en).split('|');
   const isOne = more === undefined || new Intl.PluralRules(language).select(Number(values.n)) === 'one';
-  const said = isOne ? one : more;
-  return (language === 'fr' ? inFrench(said) : said).replace(/\{(\w+)\}/g, (_, word) => String(values[word]));
+  return typeset(isOne ? one : more).replace(/\{(\w+)\}/g, (_, word) => {
+    const value = String(values[word]);
+    return NUMBERS.has(word) ? numeral(value) : value;
+  });
 }

@@ -1,4 +1,5 @@
 // The page's side of the worker: each call is a promise of its answer, and all can be stopped.
+import { bytesOfBase64 } from './packed.js';
 
 /**
  * What a call answered: its status, its text, and what it said beside it, where it has two texts.
@@ -8,7 +9,8 @@
 /** What a call ends with that was stopped. */
 export class Stopped extends Error {}
 
-const part = (/** @type {string} */ id) => document.getElementById(id).textContent;
+/** What stands in a part of the page. */
+export const part = (/** @type {string} */ id) => document.getElementById(id)?.textContent ?? '';
 const bytesOf = (/** @type {string} */ text) => new TextEncoder().encode(text);
 
 /** @type {Worker | null} */
@@ -38,7 +40,7 @@ export async function start() {
   worker.onerror = event => {
     for (const { reject } of waiting.values()) reject(new Error(event.message));
   };
-  await sent({ module: Uint8Array.from(atob(part('module')), letter => letter.charCodeAt(0)) });
+  await sent({ module: bytesOfBase64(part('module')) });
 }
 
 /** Ends what is under way; the next calls go to a new worker. */
@@ -50,9 +52,9 @@ export function stop() {
 }
 
 /**
- * Asks a proved call, with files as bytes, names as texts and numbers in their units.
+ * Asks a proved call, with files as bytes, names as texts, numbers in their units, and flags.
  * @param {string} name
- * @param {(Uint8Array | string | number)[]} inputs
+ * @param {(Uint8Array | string | number | boolean)[]} inputs
  * @returns {Promise<Reply>}
  */
 export async function ask(name, ...inputs) {

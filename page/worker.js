@@ -1,18 +1,10 @@
 // Answers one call after the other beside the page, so that no file holds the window.
 import { calls } from './calls.js';
+import { unpacked } from './packed.js';
 import { readingsIn } from './records.js';
 
 /** @type {Promise<WebAssembly.Module>} */
 let core;
-
-/** The module, compiled, of its bytes as gzip packs them. */
-async function compiled(/** @type {Uint8Array} */ packed) {
-  // (the stream of a blob can't be read in WebKit's workers)
-  const { writable, readable } = new DecompressionStream('gzip'), writer = writable.getWriter();
-  writer.write(packed);
-  writer.close();
-  return WebAssembly.compile(await new Response(readable).arrayBuffer());
-}
 
 /**
  * How many readings with a direction a field file has: its words may be many, and are counted here.
@@ -28,7 +20,7 @@ const asked = { ...calls, readings };
 
 onmessage = async ({ data: { module, id, name, inputs } }) => {
   try {
-    if (module) core = compiled(module);
+    if (module) core = unpacked(module).then(WebAssembly.compile);
     const ready = await core;
     postMessage({ id, answer: name && await asked[name](ready, ...inputs) });
   } catch (error) {

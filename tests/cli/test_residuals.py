@@ -37,7 +37,7 @@ class ResidualsTest(ProgramTest):
         self.assertEqual(scripts.residuals_page(), page)
         for name in scripts.SCRIPTS["residuals"][1:]:
             text = (ROOT / "page" / name).read_text()
-            self.assertIn(scripts.bare(text), page)
+            self.assertIn(scripts.dense(scripts.bare(text)), page)
 
     def test_a_page_has_the_residuals_as_they_were_printed(self):
         status, rows, _ = answer_of(["residuals", EXAMPLE, "S1"])

@@ -151,12 +151,13 @@ UNUSED = [
 ]
 
 # The paragraphs of an explanation that are the program's.
-EXPLAINED = ".explanation p:not(.label, .here)"
+EXPLAINED = ".explanation details p"
 
 # Every text of the page's own in brackets; what is a number, a name or the program's stands without.
 BRACKETS = (
     "for (const one of Object.values(TEXTS))"
     " one.en = one.en.split('|').map(text => `\u27e6${text}\u27e7`).join('|');"
+    "for (const one of Object.values(texts.en)) one.todo = `\u27e6${one.todo}\u27e7`;"
     " languages.onchange()"
 )
 
@@ -562,7 +563,8 @@ class PageInBrowserTest(TimedTest):
         self.assertTrue(page.text(".where").startswith("Line "), page.text(".where"))
         self.assertTrue(page.texts(EXPLAINED)[-1].startswith("What to do: "))
         # Who has the page alone has no script of the program's.
-        self.assertIn("If you have no prepare.py, change a copy of the file in a text editor", page.text(".here"))
+        self.assertTrue(page.text(".todo").startswith("What to do: Compare with the field book."), page.text(".todo"))
+        self.assertIn("Change the copy in a text editor", page.text(".explanation .quiet"))
 
     def state_numbers(self, page, station, *numbers, each=False):
         """States how many sets were read to the end at a station, and how many targets they have; or the
@@ -730,6 +732,8 @@ class PageInBrowserTest(TimedTest):
                 # What it means is shown as flowing text, without the line that is its sample.
                 paragraphs = page.texts(EXPLAINED)
                 self.assertTrue(paragraphs[-1].startswith("What to do: "))
+                self.assertEqual(1, len(page.texts(".todo")))
+                self.assertFalse(page.js("document.querySelector('.explanation details').open"))
                 self.assertFalse([text for text in paragraphs if "\n" in text or text.startswith("refused:")])
             page.empty()
 
@@ -750,9 +754,7 @@ class PageInBrowserTest(TimedTest):
         page.fill("within", "0.01")
         furthest = f"Furthest from the least-squares directions: MAST {MINUS}0.038\xa0mgon."
         self.assertEqual([furthest], page.texts(".reason"))
-        here = page.text(".here")
-        for said in ("The differences of all targets stand below.", "--within in mgon", "Tables are read in gon alone"):
-            self.assertIn(said, here)
+        self.assertTrue(page.text(".todo").startswith("What to do: See below which target stands out"), page.text(".todo"))
         refused = "Refused. The directions are 0.025 mgon apart; the limit is 0.01 mgon."
         self.assertEqual([["bad", "Station P7", refused]], self.cards(page))
         self.assertEqual("station_check compare --within 10 station_p7.gsi P7 four.csv", page.text(".exact code"))
@@ -781,6 +783,67 @@ class PageInBrowserTest(TimedTest):
         page.empty()
         page.give(P7_FIELD, self.file("one.csv", turned.encode()))
         self.assertEqual(["+0.056"], page.texts(".results section:first-child td.greatest"))
+
+    # ------------------------------------------------------------ the first screen
+
+    def test_an_example_is_checked_at_a_click_as_files_that_are_dropped(self):
+        page = self.page()
+        with page.answered():
+            page.press("Try an example")
+        self.assertEqual([JOB.name, P7_TABLE.name], page.texts("#inputs .name"))
+        agrees = "Agrees. 6 targets within 0.004 mgon of the least-squares directions; the limit is 0.01 mgon."
+        cards = self.cards(page)
+        self.assertEqual(["good", "Station P7", agrees], cards[0])
+        self.assertEqual(["read", "Station P9"], cards[1][:2])
+        # They are those of the examples, byte for byte, and their answers are the same.
+        for path in (JOB, P7_TABLE):
+            self.assertIn(hashlib.sha256(path.read_bytes()).hexdigest(), page.text("#answers"))
+        dropped = self.page()
+        dropped.drop(JOB, P7_TABLE)
+        self.assertEqual(cards, self.cards(dropped))
+        self.assertEqual(*(one.text("#answers") for one in (page, dropped)))
+        self.assertFalse(page.js("$('try').checkVisibility()"))
+        page.empty()
+        self.assertTrue(page.js("$('try').checkVisibility()"))
+
+    def test_the_words_of_the_page_stand_in_it_before_any_script(self):
+        """In English; and who has no scripts is told so first."""
+        page, html = self.page(), PAGE.read_text()
+        self.assertEqual([], page.js(
+            f"(html => [...new DOMParser().parseFromString(html, 'text/html').querySelectorAll('[data-text]')]"
+            ".map(one => [one.textContent, text(one.dataset.text, { ...$('made').dataset })])"
+            f".filter(([found, wanted]) => found !== wanted))({json.dumps(html)})"
+        ))
+        self.assertLess(html.index("<noscript>"), html.index('<header class="top">'))
+        page.call("Emulation.setScriptExecutionDisabled", value=True)
+        page.call("Page.reload")
+        page.wait("document.readyState === 'complete'")
+        seen = page.js("document.body.innerText")
+        self.assertTrue(seen.startswith("This page needs JavaScript: open it in a browser. Nothing was checked."), seen)
+        for said in ("Diese Seite braucht JavaScript", "Cette page a besoin", "A field file (GSI) alone", "About: "):
+            self.assertIn(said, seen)
+        self.assertEqual([], page.js(
+            "[...document.querySelectorAll('button, input, select')].filter(one => one.checkVisibility()).map(one => one.id)"
+        ))
+
+    def test_on_a_phone_the_button_comes_first(self):
+        page = self.page(size=PHONE)
+        for code in page.js("Object.keys(LANGUAGES)"):
+            page.js(f"languages.value = '{code}'; languages.onchange()")
+            with self.subTest(code):
+                tops = page.js(
+                    "[...document.querySelectorAll('.add .button, .add p')].filter(one => one.checkVisibility())"
+                    ".sort((a, b) => a.getBoundingClientRect().top - b.getBoundingClientRect().top).map(one => one.textContent)"
+                )
+                self.assertEqual(page.js("[text('choose'), text('tryExample'), text('dropKinds'), text('stays')]"), tops)
+                self.assertLessEqual(page.js("document.documentElement.scrollWidth"), PHONE[0])
+
+    def test_the_page_says_of_itself_what_is_proved_and_what_is_not(self):
+        page = self.page()
+        page.js("$('about').open = true")
+        self.assertEqual(["What it does", "Proved", "Not proved", "By whom", "This very file"], page.texts("#about dt"))
+        self.assertIn(f"sha256sum {PAGE.name}", page.text("#about"))
+        self.assertEqual([], page.js(CONTRASTS))
 
     # ------------------------------------------------------------ files
 
@@ -1069,7 +1132,7 @@ class PageInBrowserTest(TimedTest):
         page = self.page()
         for do, said in [
             ("tell(() => say('quiet', text('checking')))", "Wird geprüft …"),
-            ("sayWhy(new Stopped())", "Abgebrochen. Was keine Antwort hat, wurde nicht geprüft."),
+            ("sayWhy(new Stopped())", "Abgebrochen. Was kein Ergebnis hat, wurde nicht geprüft."),
             ("sayWhy(new Error('CompileError'))", "Dieser Browser kann nicht prüfen"),
         ]:
             page.js(f"{do}; languages.value = 'de'; languages.onchange()")
@@ -1200,10 +1263,66 @@ class PageInBrowserTest(TimedTest):
         self.assertIn("SHA-256 of the module inside", text)
 
     @unittest.skipUnless(shutil.which("pdftotext"), "no pdftotext is found")
-    def test_with_a_table_the_picture_stands_beside_the_residuals(self):
-        first, second = self.printed(self.page(P7_FIELD, self.file("four.csv", FOUR_DECIMALS)))
-        self.assertRegex(first, r"(?m)^ *Residuals +Residuals as a picture$")
-        self.assertIn("Checked by: place, date, signature", second)
+    def test_with_a_table_of_six_targets_the_protocol_has_one_page(self):
+        """In each language, and the picture stands beside the residuals."""
+        page = self.page(P7_FIELD, self.file("four.csv", FOUR_DECIMALS))
+        for code in page.js("Object.keys(LANGUAGES)"):
+            self.speak(page, code)
+            with self.subTest(code):
+                (text,) = self.printed(page)
+                self.assertRegex(text, rf"(?m)^ *{page.js('text(`residuals`)')} +{page.js('text(`picture`)')}$")
+                self.assertIn(" ".join(page.js("text('sign')").split()), " ".join(text.split()))
+
+    def test_what_is_stated_has_the_decimals_that_the_table_has(self):
+        uneven = FOUR_DECIMALS.replace(b"0.0000", b"0").replace(b"64.5213\n", b"64.521300000\n").replace(b",", b"\t ")
+        for table, expected in [
+            (FOUR_DECIMALS, ["0.0000", "64.5213", "139.4045", "212.7572", "278.8606", "345.2092"]),
+            (b"Ziel;Hz\n" + FOUR_DECIMALS.replace(b",", b";").replace(b".", b","), ["0.0000", "64.5213", "139.4045", "212.7572", "278.8606", "345.2092"]),
+            (uneven, ["0", "64.521300", "139.4045", "212.7572", "278.8606", "345.2092"]),
+        ]:
+            page = self.page(P7_FIELD, self.file("table.csv", table))
+            stated = page.js("[...document.querySelectorAll('.results table')[0].tBodies[0].rows].map(row => row.cells[2].textContent)")
+            self.assertEqual(expected, stated)
+        # No digit goes that isn't a zero at the end.
+        for number, decimals, shown in [("64.521338", 4, "64.521338"), ("64.520000", 2, "64.52"), ("0.000000", 0, "0"), ("64.5", None, "64.5"), ("100", 2, "100")]:
+            self.assertEqual(shown, page.js(f"asStated('{number}', {'undefined' if decimals is None else decimals})"))
+
+    def test_the_protocol_has_what_the_user_says_of_the_job_and_the_browser_keeps_it(self):
+        page = self.page(P7_FIELD)
+        said = {"project": "<b>Dam & \"weir\"</b>", "instrument": "TS60 887766", "observer": "A. Mayer"}
+        for name, one in said.items():
+            page.js(f"$('{name}').value = {json.dumps(one)}; $('{name}').oninput()")
+        labels = dict(zip(page.js("(onbeforeprint(), [...document.querySelectorAll('#protocol .facts dt')].map(one => one.textContent))"), page.texts("#protocol .facts dd")))
+        self.assertEqual([said["project"], "A. Mayer, TS60 887766"], [labels[name] for name in ("Project", "Observer, instrument")])
+        self.assertEqual(["Checked by: place, date, signature"], page.texts(".signs p"))
+        self.assertIn("&lt;b&gt;Dam &amp; ", page.js("protocolFile(cards[0], limits)"))
+        page.call("Page.reload")
+        page.wait("document.readyState === 'complete' && typeof state !== 'undefined' && state > 0")
+        self.assertEqual([*said.values()], page.js("['project', 'instrument', 'observer'].map(name => $(name).value)"))
+        page.empty()
+        page.give(P7_FIELD)
+        page.js("$('observer').value = ''; $('observer').oninput()")
+        page.js("onbeforeprint()")
+        self.assertEqual(["Observer, instrument", "Checked by: place, date, signature"], page.texts(".signs p"))
+        self.assertIn("Instrument, number", page.texts("#protocol .facts dt"))
+
+    def test_what_is_printed_is_called_by_its_field_file_and_its_station(self):
+        page = self.page(P7_FIELD, P7_SHEET)
+        names = [page.js("document.title"), page.js("(onbeforeprint(), document.title)"), page.js("(onafterprint(), document.title)")]
+        self.assertEqual(["station_check", "station_p7_P7", "station_check"], names)
+        page.give(FIELD)
+        self.assertEqual("Check of 3 files", page.js("(onbeforeprint(), document.title)"))
+        self.assertEqual("station_s1_S1", page.js("(only = cards[1], onbeforeprint(), only = null, document.title)"))
+
+    def test_each_table_has_one_caption_and_each_verdict_is_a_heading(self):
+        page = self.page(P7_FIELD, P7_SHEET, self.file("four.csv", FOUR_DECIMALS))
+        tables = page.js("[...document.querySelectorAll('.results table')].map(one => [one.caption?.textContent, one.getAttribute('aria-label')])")
+        self.assertEqual(5, len(tables))
+        self.assertTrue(all(caption and label is None for caption, label in tables), tables)
+        headings = [part.name for part in page.parts() if part.role == "heading"]
+        self.assertIn(P7_HEADLINE, headings)
+        page.js("onbeforeprint()")
+        self.assertIn(f"station_p7.csv: {P7_HEADLINE}", page.texts("#protocol h2"))
 
     @unittest.skipUnless(shutil.which("pdftotext"), "no pdftotext is found")
     def test_a_refusal_is_printed_with_what_it_means(self):
@@ -1229,6 +1348,7 @@ class PageInBrowserTest(TimedTest):
             self.assertIn(hashlib.sha256(path.read_bytes()).hexdigest(), first)
         for said in (P7_HEADLINE, "Refused.", "not used: ", NOTHING_RECOGNIZED, "several stations are possible", page.text("#verdict")):
             self.assertIn(" ".join(said.split()), " ".join(first.split()))
+        self.assertIn("A target is read in one face only before the next set begins.", " ".join(" ".join(rest).split()))
         # The protocol of one station, printed or saved alone, names what was refused, open or not used.
         page.js("only = cards[0]; onbeforeprint(); only = null")
         for alone in (page.text("#protocol"), page.js("protocolFile(cards[0], limits, desk.beside(cards[0]))")):
@@ -1442,8 +1562,8 @@ class PageInBrowserTest(TimedTest):
     def test_the_language_is_chosen_by_hand(self):
         page = self.page(P7_FIELD, P7_SHEET)
         for code, headline in [
-            ("de", "Angenommen. Größte Verbesserung 0.320 mgon, Satz 4, TOWER."),
-            ("fr", "Accepté. Plus grand résidu 0.320 mgon, série 4, TOWER."),
+            ("de", "Bestätigt. Größte Verbesserung 0,320 mgon, Satz 4, TOWER."),
+            ("fr", "Accepté. Plus grand résidu 0,320 mgon, série 4, TOWER."),
             ("en", P7_HEADLINE),
         ]:
             page.js(f"languages.value = '{code}'; languages.onchange()")
@@ -1451,6 +1571,65 @@ class PageInBrowserTest(TimedTest):
             self.assertEqual((headline, code), (page.text(".headline"), page.js("document.documentElement.lang")))
             # What the program says stays as it is, and is said to be English.
             self.assertEqual((P7_LINE, "en"), (page.text(".exact samp"), page.js("document.querySelector('samp').lang")))
+
+    def speak(self, page, code):
+        """Has the page speak a language."""
+        page.js(f"languages.value = '{code}'; languages.onchange()")
+        page.settle()
+
+    def test_each_fault_is_told_in_each_language(self):
+        page = self.page()
+        names = page.js(
+            "readFaults().then(() => ask('explain', '')).then(({ text }) =>"
+            " text.trimEnd().split('\\n').map(line => line.split(/ {2,}/)[0]))"
+        )
+        self.assertGreater(len(names), 80)
+        told = {
+            code: page.js(
+                f"speak('{code}'), Promise.all({json.dumps(names)}.map(name => ask('explain', name)))"
+                ".then(all => all.map(({ text }) => toldOf(text)))"
+            ) for code in page.js("Object.keys(LANGUAGES)")
+        }
+        for code, all_of in told.items():
+            for name, one, english in zip(names, all_of, told["en"]):
+                with self.subTest(code, name=name):
+                    self.assertTrue(one["what"] and one["todo"])
+                    self.assertEqual((code == "en", english["isByCopy"]), (one["isOfProgram"], one["isByCopy"]))
+                    self.assertEqual(code == "en", one["what"] == english["what"])
+
+    def test_a_refusal_speaks_the_language_of_the_page_alone(self):
+        """But for the program's line and what it says in full, which is folded."""
+        fault = self.file("fault.gsi", FIELD.read_bytes().replace(b"25000010", b"2500001X", 1))
+        table = self.file("row.csv", b"TOWER,0\nNOBODY,1\n")
+        page = self.page(fault, P7_FIELD, table)
+        for code, said in [
+            ("de", ("Zurückgewiesen. Ein Winkel besteht nicht nur aus Ziffern.", "Zurückgewiesen. Eine Zeile der Tabelle nennt kein Ziel der Station.")),
+            ("fr", ("Refusé. Un angle n’a pas que des chiffres.", "Refusé. Une ligne de la table ne nomme aucun point visé de la station.")),
+        ]:
+            self.speak(page, code)
+            with self.subTest(code):
+                self.assertEqual([*said], page.texts(".answer .headline"))
+                todo = page.js("texts[spoken()]['Hz Digits'].todo")
+                self.assertTrue(page.text(".todo").endswith(todo), page.text(".todo"))
+                for english in ("angle", "names no target", "What to do"):
+                    self.assertNotIn(english, page.js("$('answers').innerText").replace("un angle", "").replace("Un angle", ""))
+                printed = self.printed_text(page)
+                for one in (*said, todo):
+                    self.assertIn(one, printed)
+
+    def test_numbers_have_the_decimal_sign_of_the_language(self):
+        page = self.page(P7_FIELD, P7_SHEET, self.file("four.csv", FOUR_DECIMALS))
+        page.fill("two-c", "2.5")
+        words = "[...document.querySelectorAll('#answers .headline, #in-force, .results td, .results svg text')].map(one => one.textContent)"
+        english = page.js(words)
+        saved = page.saved("Save directions (CSV)", "P7_directions.csv")
+        for code in ("de", "fr"):
+            self.speak(page, code)
+            with self.subTest(code):
+                numbers = [re.findall(r"\d+[.,]\d+", one) for one in page.js(words)]
+                self.assertEqual([re.findall(r"\d+[.,]\d+", one.replace(".", ",")) for one in english], numbers)
+                self.assertGreater(len([one for one in numbers if one]), 50)
+        self.assertEqual(saved, page.js("cards[0].results.directions.line").encode() + b"\n")
 
     # ------------------------------------------------------------ large files
 
@@ -1505,6 +1684,8 @@ class PageInBrowserTest(TimedTest):
             if files:
                 page.give(*files)
             self.assertTrue(page.text("#verdict").startswith("This browser cannot run the check: it is too old."))
+            # No files are asked for in vain.
+            self.assertFalse(page.js("document.querySelector('.add').checkVisibility()"))
 
     def test_the_page_names_the_module_that_is_in_it(self):
         page = self.page()

@@ -2,12 +2,23 @@
 
 import shutil
 import subprocess
+import sys
+import tempfile
 import unittest
+from pathlib import Path
 
 import firefox
 from driven import until
+from program import ROOT
 from steps import StepsTest
 from test_page_calls import EXAMPLES, PAGE, RT, make_page
+
+sys.path[:0] = [str(ROOT / "bench")]
+import bench  # noqa: E402
+
+# Stations, sets and targets of a wide station, for print.
+WIDE = (1, 40, 30)
+
 
 class PageInFirefoxTest(StepsTest):
     @classmethod
@@ -55,6 +66,25 @@ class PageInFirefoxTest(StepsTest):
         self.assertEqual(1, said.count("\f"))
         for text in ("Protocol of sets: Station P7", "Residuals as a picture", "SHA-256 of the module inside"):
             self.assertIn(text, said)
+
+    @unittest.skipUnless(shutil.which("pdftotext"), "no pdftotext is found")
+    def test_each_page_of_paper_has_its_name_and_no_heading_stands_alone_at_its_end(self):
+        folder = tempfile.TemporaryDirectory(prefix="page-")
+        self.addCleanup(folder.cleanup)
+        wide, page = Path(folder.name, "wide.gsi"), self.page()
+        wide.write_text(bench.field_file(bench.Shape("wide", *WIDE)))
+        page.drop(wide)
+        until(lambda: page.text(".results.filled"))
+        to_text = ["pdftotext", "-layout", "-", "-"]
+        said = subprocess.run(to_text, input=page.printed(), stdout=subprocess.PIPE, check=True).stdout.decode()
+        pages = [[line.strip() for line in one.splitlines() if line.strip()] for one in said.split("\f")[:-1]]
+        self.assertGreater(len(pages), 5)
+        name = "Protocol of sets: Station S1, wide.gsi"
+        for number, lines in enumerate(pages, 1):
+            with self.subTest(page=number):
+                self.assertIn(name, lines)
+                left = [line for line in lines if line != name]
+                self.assertNotIn(left[-1], ("Residuals", "Face differences", "Residuals as a picture", "Adjusted directions"))
 
 
 if __name__ == "__main__":

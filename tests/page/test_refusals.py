@@ -1,0 +1,54 @@
+"""Each fault that the program explains has its texts on the page, in each language."""
+
+import json
+import re
+import unittest
+
+from program import ROOT, TimedTest
+
+REFUSALS = ROOT / "page" / "refusals"
+
+# A page of all explanations, made of what the program prints: the first name of each stands here.
+EXPLAINED = re.compile(r"^### `([\w ]+)`", re.MULTILINE)
+
+# The languages, of which English says what a fault is in the words of the program.
+LANGUAGES = {"en": {"todo"}, "de": {"what", "todo"}, "fr": {"what", "todo"}}
+
+# What is longer is read by nobody: so many bytes say what a fault is, and what to do.
+LONGEST = {"what": 110, "todo": 320}
+
+
+class RefusalsTest(TimedTest):
+    def setUp(self):
+        self.texts = {path.stem: json.loads(path.read_text()) for path in REFUSALS.iterdir()}
+
+    def test_each_fault_has_its_texts_in_each_language(self):
+        names = EXPLAINED.findall((ROOT / "docs" / "FAULTS.md").read_text())
+        self.assertGreater(len(names), 70)
+        self.assertEqual(sorted(LANGUAGES), sorted(self.texts))
+        for language, parts in LANGUAGES.items():
+            self.assertEqual(names, list(self.texts[language]))
+            for name, texts in self.texts[language].items():
+                with self.subTest(language=language, name=name):
+                    self.assertEqual(parts, {*texts})
+
+    def test_each_text_is_short_and_whole_sentences(self):
+        for language, faults in self.texts.items():
+            for name, texts in faults.items():
+                for part, said in texts.items():
+                    with self.subTest(language=language, name=name, part=part):
+                        self.assertLessEqual(len(said), LONGEST[part])
+                        self.assertRegex(said, r"^[A-ZÀ-Ü].*[.?]$")
+
+    def test_a_copy_that_is_to_be_changed_is_one_in_each_language(self):
+        """In English it decides whether the page says how."""
+        copies = {"en": " a copy", "de": r"\bKopie\b", "fr": r"\bcopie\b"}
+        for name in self.texts["en"]:
+            told = {language: self.texts[language][name]["todo"] for language in copies}
+            found = {bool(re.search(word, told[language])) for language, word in copies.items()}
+            with self.subTest(name):
+                self.assertTrue(len(found) == 1 or name == "already there", told)
+
+
+if __name__ == "__main__":
+    unittest.main()
