@@ -10,7 +10,8 @@ import sys
 from pathlib import Path
 from typing import Callable, Iterator, NamedTuple
 
-from faults import MAN_PAGE, PROGRAM, ROOT, escaped, man_text, sentence
+from faults import PROGRAM, sentence
+from man import MAN_PAGE, ROOT, escaped, man_text
 from parts import with_part
 
 SHARE = ROOT / "packaging" / "share"

@@ -1,24 +1,14 @@
-"""Makes the pages of faults from the program's explanations: `python3 tools/faults.py [PROGRAM]`.
-
-docs/FAULTS.md is made whole, and of the man page the part between two comments.
-"""
+"""Makes docs/FAULTS.md from the program's explanations: `python3 tools/faults.py [PROGRAM]`."""
 
 import re
 import subprocess
 import sys
-import textwrap
 from pathlib import Path
 from typing import NamedTuple
-
-from parts import with_part
 
 ROOT = Path(__file__).resolve().parents[1]
 PROGRAM = ROOT / "build" / "station_check"
 GUIDE_PAGE = ROOT / "docs" / "FAULTS.md"
-MAN_PAGE = ROOT / "packaging" / "share" / "man" / "man1" / "station_check.1"
-
-# The width of a line in the man page.
-MAN_WIDTH = 80
 
 # What the line of a refusal says before a fault, and the heading of such faults.
 HEADINGS = [
@@ -112,50 +102,8 @@ def guide_page(program: Path) -> str:
     return "\n".join(parts)
 
 
-def escaped(text: str) -> str:
-    """Text for a man page: each byte stands for itself."""
-    for plain, named in [("\\", "\\e"), ("-", "\\-"), ("'", "\\(aq"), ("^", "\\(ha"), ("`", "\\(ga"), ("~", "\\(ti")]:
-        text = text.replace(plain, named)
-    return re.sub(r"^\.", r"\\&.", text, flags=re.MULTILINE)
-
-
-def whole_words(text: str) -> list[str]:
-    """The lines of a text, none of them broken within a word."""
-    return textwrap.wrap(text, MAN_WIDTH, break_long_words=False, break_on_hyphens=False)
-
-
-def man_text(text: str) -> list[str]:
-    """The lines of a text in a man page, each sentence on a line of its own that may go on."""
-    sentences = re.split(r"(?<=[.:]) (?=[A-Z])", one_line(text))
-    wrapped = (whole_words(escaped(part)) for part in sentences)
-    return [line for lines in wrapped for line in lines]
-
-
-def man_part(program: Path) -> str:
-    lines, heading = [], None
-    for fault in explanations(program):
-        if fault.heading() != heading:
-            heading = fault.heading()
-            lines.append(f".SS {heading}")
-        names = ", ".join(f"\\fB{escaped(name)}\\fR" for name in fault.names)
-        lines += [".TP", names, *man_text(sentence(fault.meaning)), *man_text(fault.when)]
-        lines += [".IP", f"\\fB{escaped(fault.example)}\\fR"]
-        lines += [".IP", *man_text(f"What to do: {fault.remedy}")]
-    return "".join(f"{line}\n" for line in lines)
-
-
-def man_page(program: Path) -> str:
-    return with_part(MAN_PAGE.read_text(), '.\\"', "faults", "faults.py", man_part(program))
-
-
-def pages(program: Path) -> list[tuple[Path, str]]:
-    """Each page that has faults, with what it must hold."""
-    return [(GUIDE_PAGE, guide_page(program)), (MAN_PAGE, man_page(program))]
-
-
 def main() -> None:
-    for path, text in pages(Path(sys.argv[1]) if len(sys.argv) > 1 else PROGRAM):
-        path.write_text(text)
+    GUIDE_PAGE.write_text(guide_page(Path(sys.argv[1]) if len(sys.argv) > 1 else PROGRAM))
 
 
 if __name__ == "__main__":

@@ -13,7 +13,7 @@ from pathlib import Path
 from types import ModuleType
 from typing import Iterator
 
-from faults import MAN_PAGE, ROOT, escaped, man_text
+from man import MAN_PAGE, ROOT, escaped, man_text
 
 EXAMPLES = ROOT / "examples"
 CHANGES = ROOT / "CHANGELOG.md"

@@ -1,4 +1,4 @@
-"""`explain`: each fault is explained, its example is met, and the pages made from it are up to date."""
+"""`explain`: each fault is explained, its example is met, and the page made from it is up to date."""
 
 import re
 import sys
@@ -231,9 +231,7 @@ class ExplainTest(ProgramTest):
         self.assertEqual(expected, explained("Datum"))
 
 
-class PagesTest(ProgramTest):
-    def test_pages_are_up_to_date(self):
-        """Where this fails, `python3 tools/faults.py` makes them anew."""
-        for path, text in faults.pages(PROGRAM):
-            with self.subTest(path.name):
-                self.assertEqual(text, path.read_text())
+class PageTest(ProgramTest):
+    def test_the_page_is_up_to_date(self):
+        """Where this fails, `python3 tools/faults.py` makes it anew."""
+        self.assertEqual(faults.guide_page(PROGRAM), faults.GUIDE_PAGE.read_text())

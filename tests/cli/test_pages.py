@@ -1,8 +1,8 @@
 """What README.md, the guide and the pages beside it show is what the program does: each command that
 they show, in one copy of examples/; the faults and options of the guide's table of refusals; the
-numbers of the table of rounding, by `compare` itself; the links of all pages; the picture and the
-table of crates; the table of tests. And that the proof of `find` alone opens the seal of what the
-solver said."""
+numbers of the table of rounding, by `compare` itself; the links of all pages; the picture of the
+crates, and the files to which a change goes; the table of tests. And that the proof of `find` alone
+opens the seal of what the solver said."""
 
 import ast
 import importlib
@@ -30,6 +30,10 @@ ROUNDED = re.compile(r"^\| (.*?) \| ([\d.]+) \| ([\d.]+) mgon \| `--within ([\d.
 DEGREE = Fraction(400_000, 360)
 SECOND = DEGREE / 3600
 ARCHITECTURE = ROOT / "docs" / "ARCHITECTURE.md"
+
+# A path in the text of a page: of the repository, or below crates/.
+NAMED = re.compile(r"`(\w+(?:/[\w.-]+)+)`")
+
 TESTS = ROOT / "docs" / "TESTS.md"
 
 # The head of the guide's table of refusals, the faults of `mark` that have no row there, and the
@@ -160,14 +164,19 @@ class PagesTest(TimedTest):
                     if heading:
                         self.assertIn(heading, anchors(target.read_text()))
 
-    def test_the_house_stands_as_it_is_drawn(self):
-        lines = re.findall(r"^(\w+)[^:]*:(.*)$", (ROOT / "crates.txt").read_text(), re.MULTILINE)
-        rows = re.findall(r"^\| \[?`(\w+)`[^|]* \| ([^|]*) \|$", ARCHITECTURE.read_text(), re.MULTILINE)
-        drawn = {crate: re.findall(r"`(\w+)`", libraries) for crate, libraries in rows}
-        self.assertGreater(len(lines), 10)
-        for crate, libraries in lines:
-            with self.subTest(crate):
-                self.assertEqual(libraries.split(), drawn[crate])
+    def test_a_change_goes_to_files_that_are_there(self):
+        section = ARCHITECTURE.read_text().partition("## Where a change goes")[2].partition("\n## ")[0]
+        paths = NAMED.findall(section)
+        self.assertGreater(len(paths), 20)
+        for path in paths:
+            with self.subTest(path):
+                self.assertTrue((ROOT / path).exists() or (ROOT / "crates" / path).exists())
+
+    def test_each_crate_of_tests_is_named_for_its_library(self):
+        crates = re.findall(r"^(\w+)[^:]*:", (ROOT / "crates.txt").read_text(), re.MULTILINE)
+        tests = [crate for crate in crates if crate.startswith("tests_")]
+        self.assertTrue(tests)
+        self.assertEqual(set(), {crate.removeprefix("tests_") for crate in tests} - set(crates))
 
     def test_the_picture_of_the_house_has_each_crate_once(self):
         picture = ARCHITECTURE.read_text().partition("```\n")[2].partition("```\n")[0]
