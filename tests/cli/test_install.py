@@ -1,5 +1,5 @@
 """`make install` and `make uninstall`: what they put and remove, the links of installed pages, the
-tools where documents are left out; the manual pages by groff and mandoc."""
+tools where documents are left out; the manual pages by groff and mandoc, and what they show."""
 
 import os
 import re
@@ -61,6 +61,9 @@ TO_SOURCES = re.compile(r"\[([^][]*)\]\((?:\.\./)*(?:(?:crates|conformance|page|
 LINK = re.compile(r"\]\(([^)#:]+)(?:#[^)]*)?\)")
 
 OPTIONS = re.compile(r"--[a-z-]+")
+
+# A command in the manual page, and what it prints.
+SHOWN = re.compile(r"^\$ (.*)\n((?:(?![$.]).*\n)*)", re.MULTILINE)
 
 
 class InstallTest(ProgramTest):
@@ -178,6 +181,20 @@ class ManPageTest(ProgramTest):
         version, _ = manuals.release()
         self.assertEqual(f"station_check {version}\n", answer_of(["--version"])[1].decode())
         self.assertTrue(worked.REPORT.startswith(f"station_check {version}: ".encode()))
+
+    def test_its_examples_print_what_it_shows(self):
+        """Of the examples' job, and of S1 with its sheet and a table of four decimals."""
+        for name, source in [("job.gsi", "job.gsi"), ("field.gsi", "station_s1.gsi"), ("sheet.csv", "station_s1.csv")]:
+            shutil.copy(ROOT / "examples" / source, self.folder / name)
+        (self.folder / "table.csv").write_text("A,0.0000\nB,50.0000\n")
+        examples = manuals.MAN_PAGE.read_text().replace("\\-", "-").partition(".SH EXAMPLES\n")[2]
+        shown = [(command, printed) for command, printed in SHOWN.findall(examples) if printed]
+        self.assertGreater(len(shown), 2)
+        for command, printed in shown:
+            with self.subTest(command):
+                script = f'station_check() {{ "{PROGRAM.resolve()}" "$@"; }}; {command}'
+                _, stdout, stderr = answer_to(["bash", "-c", script], cwd=self.folder)
+                self.assertEqual(printed, (stdout + stderr).decode())
 
     def test_it_has_each_command_and_option_of_the_help(self):
         page = manuals.MAN_PAGE.read_text().replace("\\-", "-")

@@ -1,8 +1,8 @@
 """What README.md, the guide and the pages beside it show is what the program does: each command that
 they show, in one copy of examples/; the faults and options of the guide's table of refusals; the
 numbers of the table of rounding, by `compare` itself; the links of all pages; the picture of the
-crates, and the files to which a change goes; the table of tests. And that the proof of `find` alone
-opens the seal of what the solver said."""
+crates, and the files to which a change goes; the limits of the library; the table of tests. And that
+the proof of `find` alone opens the seal of what the solver said."""
 
 import ast
 import importlib
@@ -30,6 +30,9 @@ ROUNDED = re.compile(r"^\| (.*?) \| ([\d.]+) \| ([\d.]+) mgon \| `--within ([\d.
 DEGREE = Fraction(400_000, 360)
 SECOND = DEGREE / 3600
 ARCHITECTURE = ROOT / "docs" / "ARCHITECTURE.md"
+
+# A limit that a call of the library takes: its unit, and how many of them it has at most.
+LIMIT = re.compile(r"^\| `(\w+)`.* \| ([\d.]+) mgon.* \| ([\d,]+) \|$", re.MULTILINE)
 
 # A path in the text of a page: of the repository, or below crates/.
 NAMED = re.compile(r"`(\w+(?:/[\w.-]+)+)`")
@@ -163,6 +166,14 @@ class PagesTest(TimedTest):
                     self.assertTrue(target.exists())
                     if heading:
                         self.assertIn(heading, anchors(target.read_text()))
+
+    def test_the_limits_of_the_library_are_those_of_its_header(self):
+        header = re.sub(r"\s*\n \* ", " ", (ROOT / "capi" / "station_check.h").read_text())
+        rows = LIMIT.findall((ROOT / "docs" / "LIBRARY.md").read_text())
+        self.assertEqual(["two_c", "residual", "within"], [name for name, _, _ in rows])
+        for name, unit, most in rows:
+            with self.subTest(name):
+                self.assertRegex(header, rf"`{name}`[^.]*(\.\d[^.]*)*units of {unit} mgon, at most {most}\b")
 
     def test_a_change_goes_to_files_that_are_there(self):
         section = ARCHITECTURE.read_text().partition("## Where a change goes")[2].partition("\n## ")[0]
