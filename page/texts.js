@@ -343,8 +343,8 @@ export const TEXTS = {
   },
   recognizedWrittenAgain: {
     en: 'Its set-up line was written again {n} time: this was taken as the same set-up.|Its set-up line was written again {n} times: this was taken as the same set-up.',
-    de: 'Ihre Aufstellungszeile wurde {n}-mal wieder geschrieben: Das gilt als dieselbe Aufstellung.',
-    fr: 'Sa ligne de mise en station a été réécrite {n} fois : cela compte comme la même mise en station.',
+    de: 'Ihre Aufstellungszeile wurde {n}-mal wieder geschrieben: Das gilt als dieselbe Aufstellung.|Ihre Aufstellungszeile wurde {n}-mal wieder geschrieben: Das gilt als dieselbe Aufstellung.',
+    fr: 'Sa ligne de mise en station a été réécrite {n} fois : cela compte comme la même mise en station.|Sa ligne de mise en station a été réécrite {n} fois : cela compte comme la même mise en station.',
   },
   recognizedNot: {
     en: 'Station {station}: not recognized, block {block}: {fault} Its {n} reading stays outside, and nothing of it was checked.|Station {station}: not recognized, block {block}: {fault} Its {n} readings stay outside, and nothing of them was checked.',
