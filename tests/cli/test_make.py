@@ -230,16 +230,20 @@ class MakeTest(ProgramTest):
 
     def test_proofs_are_shared_where_little_is_proved_beside_them(self):
         """Where less than three tenths of the lines can be proved beside a crate, as many processes share
-        its proof as crates are proved side by side. Of libraries the statements are kept."""
-        for jobs in (4, 1):
+        its proof as crates are proved side by side; and two that of another with more than a tenth of
+        all lines, as each has here. Of libraries the statements are kept."""
+        for jobs, few in [(4, 2), (1, 1)]:
             with self.subTest(jobs):
                 self.make("clean")
                 self.make("run", f"JOBS={jobs}")
                 asked = {crate: (self.folder / f"asked_{crate}").read_text() for crate in PROVED}
-                shared, alone = {"low", "middle", "station_compare"}, {"other_low", "station_explain"}
-                self.assertEqual({f"{jobs} True"}, {asked[crate] for crate in shared})
-                self.assertEqual({"1 True"}, {asked[crate] for crate in alone})
+                most, two = {"low", "middle", "station_compare"}, {"other_low", "station_explain"}
+                self.assertEqual({f"{jobs} True"}, {asked[crate] for crate in most})
+                self.assertEqual({f"{few} True"}, {asked[crate] for crate in two})
                 self.assertEqual(f"{jobs} False", asked["station_program"])
+        self.write("middle", 5_000 * "one\n")
+        shared = run_of("python3", "tools/order.py", "station_explain", "4", cwd=self.folder)
+        self.assertEqual("1\n", shared.stdout)
 
     def test_crates_that_begin_longer_chains_are_begun_first(self):
         order = run_of("python3", "tools/order.py", cwd=self.folder).stdout.split()
