@@ -177,7 +177,8 @@ class PagesTest(TimedTest):
 
     def test_a_change_goes_to_files_that_are_there(self):
         section = ARCHITECTURE.read_text().partition("## Where a change goes")[2].partition("\n## ")[0]
-        paths = NAMED.findall(section)
+        # What is made stands below build/, and not in a fresh clone.
+        paths = [path for path in NAMED.findall(section) if not path.startswith("build/")]
         self.assertGreater(len(paths), 20)
         for path in paths:
             with self.subTest(path):
