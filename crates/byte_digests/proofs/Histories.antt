@@ -1,18 +1,9 @@
 -- What a digesting source gave.
-use Rattle.std.proofs.Common.{ℕ, zero, suc, List, [], ◌++◌, Option, Bool}
+use Rattle.std.proofs.Common.{ℕ, suc, List, [], Option, Bool}
 use Rattle.byte_digests.specs.Digesting.{reader_of, hasher_of, histories}
 use Rattle.byte_digests.specs.declared.digesting.Digesting.{Digesting}
-use Rattle.byte_ends.specs.Source.{Told, Adds, HasGiven, reader_change}
+use Rattle.byte_ends.specs.Source.{Told, HasGiven, reader_change}
 use Rattle.sha2.specs.Hashers.{Holds256}
-
--- Its histories have grown by some bytes where its hasher has and those of its reader have.
-pub all_grown : {R : Type 0} (gave : R → ℕ → List ℕ → Type 0) (old new : Digesting R)
-    (bytes : List ℕ)
-    → ((m : List ℕ) → Holds256 (hasher_of old) m → Holds256 (hasher_of new) (m ++ bytes))
-    → Adds (gave (reader_of old)) (gave (reader_of new)) bytes
-    → Adds (histories gave old) (histories gave new) bytes
-all_grown gave old new bytes hashed grown zero given h = hashed given h
-all_grown gave old new bytes hashed grown (suc history) given h = grown history given h
 
 -- What it gave, the reader that it asks gave, and its hasher holds it, where it held nothing
 -- before.

@@ -5,9 +5,8 @@ use Rattle.std.proofs.Common.{subst, ◌∙◌, append_assoc, Bool, true, false,
 use Rattle.std.proofs.Common.{add-one}
 use Rattle.std.specs.Io.KnownBytes.{Appends}
 use Rattle.std.proofs.KnownBytes.{Appends-nil, Appends-trans}
-use Rattle.std.proofs.lemmas.List.{append-nil, take-append-drop, take_at}
+use Rattle.std.proofs.lemmas.List.{take-append-drop, take_at}
 use Rattle.std.specs.Prelude.{◌||◌, ◌==◌, ◌+◌, ◌<◌, slice_index, Result, Ok, Err, OnOk, OnErr}
-use Rattle.std.specs.Prelude.{Some, None, IfNone}
 use Rattle.std.specs.List.{list_any}
 use Rattle.byte_digests.specs.DigestLines.{escaped, is_escaped}
 use Rattle.byte_ends.specs.Sink.{AppendsSome}
@@ -44,15 +43,6 @@ then_some old now new first text p h =
 pub in_any_case : {T E P : Type 0} (r : Result T E) → P → OnErr r P
 in_any_case (Ok x) p = tt
 in_any_case (Err e) p = p
-
--- The same where none was answered, and what follows from what is so there.
-pub whatever_none : {A P : Type 0} (r : Option A) → P → IfNone r P
-whatever_none None p = p
-whatever_none (Some x) p = tt
-
-pub so_none : {A P Q : Type 0} (r : Option A) → (P → Q) → IfNone r P → IfNone r Q
-so_none None next p = next p
-so_none (Some x) next p = tt
 
 -- What follows from what is so with Ok, or where a failure was.
 pub so_ok : {T E P Q : Type 0} (r : Result T E) → (P → Q) → OnOk r P → OnOk r Q
@@ -108,13 +98,6 @@ partly_some text rest piece after old now new p h e =
     subst (λ (t : List ℕ). AppendsSome old new t)
     (ap (λ (r : List ℕ). p.done ++ r) (sym e) ∙ p.split)
     (then_some old now new p.done (piece ++ after) p.got (some_of_longer now new piece after h))
-
--- All of it.
-pub partly_all : (text rest : List ℕ) (old now : Option (List ℕ)) → Partly text rest old now
-    → rest ≡ [] → Appends old now text
-partly_all text rest old now p e =
-    subst (λ (t : List ℕ). Appends old now t)
-    (sym (append-nil p.done) ∙ ap (λ (r : List ℕ). p.done ++ r) (sym e) ∙ p.split) p.got
 
 -- What is left of a name begins with its next byte, however a byte is written.
 pub next_byte : (written : ℕ → List ℕ) (name : List ℕ) (i : ℕ) → i < length name

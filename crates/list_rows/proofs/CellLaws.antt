@@ -1,7 +1,7 @@
 -- Cells: what `csv` writes of a name, and of numbers, which call for no quotes.
 use Rattle.std.proofs.Common.{◌≡◌, ℕ, ◌+◌, ◌/◌, ◌%◌, ◌<◌, ◌≤◌, ◌^◌, List, [], ◌∷◌, ◌++◌}
 use Rattle.std.proofs.Common.{true, false, ap, append_assoc, arith, length, refl, zero, suc}
-use Rattle.std.proofs.Common.{FitsSigned, ℤ, pos, negsuc, ◌-◌, ◌∙◌, get_or, length-append, map}
+use Rattle.std.proofs.Common.{FitsSigned, ℤ, pos, negsuc, ◌-◌, ◌∙◌, length-append}
 use Rattle.std.proofs.Common.{sym, take}
 use Rattle.std.specs.Prelude.{codes, decimal, if◌then◌else◌, unsigned_abs}
 use Rattle.std.specs.List.{list_all}
@@ -10,7 +10,7 @@ use Rattle.std.specs.Int.{w32}
 use Rattle.std.proofs.lemmas.Bool.{and_parts, ne_eqb}
 use Rattle.std.proofs.lemmas.Bool.Decides.{nat_tests}
 use Rattle.std.proofs.lemmas.Fmt.{digits_decimal}
-use Rattle.std.proofs.lemmas.List.{length-take-le, map-append, take-take, take_at, take_more}
+use Rattle.std.proofs.lemmas.List.{length-take-le, take-take, take_at}
 use Rattle.std.proofs.Math.Seq.{take-append-add}
 use Rattle.std.proofs.lemmas.List.Folds.{list_any-append}
 use Rattle.adjust_kernel.specs.Names.{IsName}
@@ -137,13 +137,6 @@ cell-short name is = omega (
   length-field name,
   is.short,
 )
-
--- The text of one more entry follows those of the entries before it.
-pub map-more : {A : Type 0} (f : A → List ℕ) (xs : List A) (i : ℕ) (x : A) → x ≡ get_or xs i x
-    → i < length xs → map f (take i xs) ++ (f x ∷ []) ≡ map f (take (i + 1) xs)
-map-more {A = A} f xs i x at inside =
-    sym (ap (map f) (take_more xs i x inside ∙ ap (λ (y : A). take i xs ++ (y ∷ [])) (sym at))
-    ∙ map-append f (take i xs) (x ∷ []))
 
 -- The first bytes of what was put, where all of it was put.
 pub put-start : (room old text : List ℕ) (at n end : ℕ) → at ≤ length old → at + n ≤ end

@@ -1,10 +1,10 @@
 -- The rows of stations, and those of a station, one after the other.
-use Rattle.std.proofs.Common.{◌≡◌, ◌∙◌, ℕ, ◌+◌, ◌<◌, ◌≤◌, List, [], ◌∷◌, ◌++◌, Some, ap}
+use Rattle.std.proofs.Common.{◌≡◌, ◌∙◌, ℕ, ◌+◌, ◌≤◌, List, [], ◌∷◌, ◌++◌, Some, ap}
 use Rattle.std.proofs.Common.{append_assoc}
 use Rattle.std.proofs.Common.{arith, flat_map, get_or, length, map, slice_get, sym, take, zip}
 use Rattle.std.proofs.lemmas.List.{append-nil, take_all, take_more}
 use Rattle.std.proofs.lemmas.List.Concat.{flat_map-append}
-use Rattle.std.proofs.lemmas.Option.{get_or_from_slice_get, slice_get-get_or, slice_get_within}
+use Rattle.std.proofs.lemmas.Option.{get_or_from_slice_get, slice_get_within}
 use Rattle.csv.specs.Writing.{default_writer, row_text}
 use Rattle.sheet_format.specs.Texts.{rows_text}
 use Rattle.sheet_format.proofs.TextRows.{entry-more, rows_text-append}
@@ -48,13 +48,6 @@ pair-joined f row text xs ys i x y ex ey =
     entry-more row text pairs i (f x, y)
     (sym (get_or_from_slice_get pairs i (f x, y) (f x, y) here))
     (slice_get_within pairs i (f x, y) here)
-
--- What stands at a place of a list is the same whatever stood for none.
-pub same-at : {A : Type 0} (xs : List A) (i : ℕ) (d e : A) → i < length xs
-    → get_or xs i d ≡ get_or xs i e
-same-at xs i d e inside =
-    let both : Some (get_or xs i d) ≡ Some (get_or xs i e) =
-    sym (slice_get-get_or xs i d inside) ∙ slice_get-get_or xs i e inside in cc
 
 -- Past the last place all pairs are there.
 pub all-pairs : {A B C : Type 0} (f : A → B) (xs : List A) (ys : List C) (i : ℕ)

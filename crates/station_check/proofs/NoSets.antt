@@ -1,7 +1,7 @@
 -- A file that has no stations has no code 20.
 use Rattle.std.proofs.Common.{◌≡◌, ℕ, Bool, true, false, cond, ◌||◌, ◌&&◌, List, [], ◌∷◌, length}
 use Rattle.std.proofs.Common.{refl, sym, ap, ◌∙◌, Option, Some, None, arith}
-use Rattle.std.specs.Prelude.{filter, map, reverse, IfSome, ◌<◌}
+use Rattle.std.specs.Prelude.{filter, reverse, IfSome, ◌<◌}
 use Rattle.std.specs.List.{AllZip, list_any, count_by}
 use Rattle.std.specs.Option.{unwrap_or}
 use Rattle.std.proofs.lemmas.Bool.{false≢true}
@@ -84,11 +84,6 @@ pub unchecked_without : (limits : FaceLimits) (h : History) (stations : List Sur
     → CountsReadings h readings → unwrap_or readings 0 ≡ unchecked_in stations h
 unchecked_without limits h [] readings e are counts = all_counted limits h readings are counts
 unchecked_without limits h (s ∷ stations) readings e are counts = absurd cc
-
-pub unchecked_with : (h : History) (stations : List SurveyedStation)
-    → (length stations ≡ 0 → ⊥) → 0 ≡ unchecked_in stations h
-unchecked_with h [] e = absurd (e refl)
-unchecked_with h (s ∷ stations) e = refl
 
 -- Fewer blocks than a bound have fewer measurements with a direction.
 pub few_readings : (past : History) (readings : Option ℕ) → CountsReadings past readings

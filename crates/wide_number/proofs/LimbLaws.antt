@@ -14,10 +14,6 @@ pub value_below-suc : (xs : List ℕ) (i : ℕ)
 unfolding value_below
 value_below-suc xs i = rw add-one
 
-pub limb_weight-zero : limb_weight 0 ≡ 1
-unfolding limb_weight
-limb_weight-zero = refl
-
 pub limb_weight-suc : (i : ℕ) → limb_weight (i + 1) ≡ limb_weight i * 2 ^ 64
 unfolding limb_weight
 limb_weight-suc i = rw add-one (pow-suc (2 ^ 64) i)

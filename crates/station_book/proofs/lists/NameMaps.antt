@@ -1,7 +1,6 @@
 -- What a map has by name after a new name, and whether it has a name.
 use Rattle.std.proofs.Common.{◌≡◌, ℕ, Bool, true, false, cond, eqb, ◌&&◌, ◌||◌, List, [], ◌∷◌, ◌++◌}
-use Rattle.std.proofs.Common.{length, take, is_some, Result, Ok, Err, refl, sym, ap, ◌∙◌, inl, inr}
-use Rattle.std.specs.Prelude.{IfErr}
+use Rattle.std.proofs.Common.{length, take, is_some, refl, sym, ap, ◌∙◌, inl, inr}
 use Rattle.std.specs.List.{list_any}
 use Rattle.std.specs.Map.{lookup}
 use Rattle.std.specs.Str.{bytes_eq}
@@ -56,12 +55,6 @@ pub inserted : {V : Type 0} (es : List (List ℕ × V)) (name : List ℕ) (s : V
     → list_any (λ e. bytes_eq name e.0) es ≡ false
     → insert_entry name_eq es name s ≡ es ++ (name, s) ∷ []
 inserted es name s out = insert-new name_eq es name s (known_by_bytes name es ∙ out)
-
--- What follows from what is said of an error is said of it.
-pub if_err : {X E : Type 0} {P Q : E → Type 0} (r : Result X E) → ((e : E) → P e → Q e) → IfErr r P
-    → IfErr r Q
-if_err (Ok x) f h = h
-if_err (Err e) f h = f e h
 
 found_any : {V : Type 0} (k : List ℕ) (es : List (List ℕ × V))
     → is_some (lookup (name_eq k) es) ≡ list_any (λ e. name_eq k e.0) es

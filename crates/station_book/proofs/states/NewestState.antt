@@ -1,7 +1,7 @@
 -- The newest of the stations that are kept, and the earlier ones: the code has the oldest of these
 -- first, and what is kept has the newest.
 use Rattle.std.proofs.Common.{◌≡◌, ℕ, Bool, true, false, ◌||◌, List, [], ◌∷◌, ◌++◌, reverse}
-use Rattle.std.proofs.Common.{Option, Some, None, refl, sym, ap, ◌∙◌, subst}
+use Rattle.std.proofs.Common.{Option, Some, refl, sym, ap, ◌∙◌, subst}
 use Rattle.std.specs.List.{list_any}
 use Rattle.std.specs.Str.{bytes_eq}
 use Rattle.std.specs.Map.{values_of}
@@ -106,12 +106,3 @@ pub joined : (o : Option (List ℕ × StationState)) (es there all : List (List 
 joined o es there all l x s is view same made added =
     ap values_of (all_surveyed o es all l x s (sym is) view made
     (added ∙ (λ i. same i ++ (l.0, x) ∷ [])))
-
--- Where there is no last station, there is none.
-pub none_joined : (o : Option (List ℕ × StationState)) (es : List (List ℕ × SurveyedStation))
-    (s : StationStates) → None ≡ o → states_of o es ≡ s → IsAfter o es
-    → values_of es ≡ surveys_of s
-none_joined o es s is view after =
-    ap values_of (subst (λ (m : Option (List ℕ × StationState)). IsAfter m es) (sym is) after)
-    ∙ ap surveys_of
-    (ap (λ (m : Option (List ℕ × StationState)). states_of m es) is ∙ view)
