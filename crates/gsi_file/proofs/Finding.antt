@@ -15,7 +15,8 @@ use Rattle.gsi_file.specs.Parts.{is_line_end, is_line, HasNoEnd}
 use Rattle.gsi_file.specs.FileAnswers.{answers_within, line_before}
 use Rattle.gsi_file.specs.Filling.{Grows}
 use Rattle.gsi_file.specs.Finding.{answers_in, IsFound, FindsLine}
-use Rattle.gsi_file.proofs.FirstBytes.{with_line, answers_end, answers_failed, answers_line}
+use Rattle.gsi_file.specs.Passing.{with_line}
+use Rattle.gsi_file.proofs.FirstBytes.{answers_end, answers_failed, answers_line}
 use Rattle.gsi_file.proofs.FirstBytes.{answers_long_file, answers_long_line}
 
 none_of : (xs : List ℕ) → length xs ≡ 0 → xs ≡ []

@@ -11,13 +11,10 @@ use Rattle.std.proofs.lemmas.List.Splits.{slice_split_none, slice_split_at, leng
 use Rattle.std.proofs.lemmas.Bool.Decides.{nat_tests}
 use Rattle.gsi_file.specs.declared.file_fault.FileKind.TheVariants.{Read, FileTooLong, LineTooLong}
 use Rattle.gsi_file.specs.Parts.{parts, is_line_end, HasNoEnd, is_line, front_of, ended_lines}
-use Rattle.gsi_file.specs.FileAnswers.{is_within, FileAnswers, answers_within}
+use Rattle.gsi_file.specs.FileAnswers.{is_within, answers_within}
+use Rattle.gsi_file.specs.Passing.{with_line}
 use Rattle.gsi_file.proofs.Breaks.{answers_by, breaks, same_answers}
 use Rattle.gsi_file.proofs.Fronts.{shortest_front, same_first, first_after}
-
--- A part, where it is a line, and then the other answers.
-abbrev pub with_line : List ℕ → FileAnswers → FileAnswers
-with_line part o = record { lines = cond (is_line part) (part ∷ o.lines) o.lines; last = o.last }
 
 both_le : (a b c : ℕ) → a ≤ b → a ≤ c → (nat_le a b && (nat_le a c && true)) ≡ true
 both_le a b c p q = grind (arith, nat_tests)

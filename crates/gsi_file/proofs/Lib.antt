@@ -8,3 +8,7 @@ pub mod AnswerLaws
 pub mod LineFaultLaws
 pub mod FaultsToCome
 pub mod LawLemmas
+pub mod PlainParts
+pub mod MemoryParts
+pub mod FirstEnds
+pub mod NumberedLines

@@ -50,7 +50,7 @@ pub struct Lines<R> {
 /// The shape of the block that a line is, or the line's fault. Its bytes are tested where they
 /// are not known to be printable.
 #[inline(always)]
-fn check_line(line: &[u8], printable: bool) -> Result<Shape, FileKind>
+pub(crate) fn check_line(line: &[u8], printable: bool) -> Result<Shape, FileKind>
     requires { printable ≡ true → All IsLineByte line.now }
     ensures shape { IfOk result (λ s. IsShape s line.now) }
     ensures fault { IfErr result (IsFileFault line.now) }

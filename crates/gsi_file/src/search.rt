@@ -12,7 +12,7 @@ ghost use Rattle.gsi_file.specs.Finding.{Finds, IsFound, IsOverAfter};
 use crate::bounds::LONGEST_LINE;
 use crate::buffer::Buffer;
 use crate::file_fault::FileKind;
-use crate::line_end::{LineEnd, is_blank, line_end, next_line_start};
+use crate::line_end::{FoundEnd, is_blank, line_end, next_line_start};
 use byte_ends::Source;
 
 /// A numbered line at the front of what is in hand.
@@ -31,7 +31,7 @@ pub(crate) struct FoundLine {
 }
 
 /// A line that a byte has ended, where `left` bytes might be taken at its beginning.
-fn ended(end: LineEnd, used: usize, left: usize) -> FoundLine
+fn ended(end: FoundEnd, used: usize, left: usize) -> FoundLine
     requires { used ≤ left }
     ensures { result ≡ record {
       line_length = end.place;

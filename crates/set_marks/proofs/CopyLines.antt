@@ -21,11 +21,12 @@ use Rattle.set_marks.specs.Copies.{woven}
 use Rattle.set_marks.specs.MarkedFile.{codes_before, with_codes}
 use Rattle.set_marks.proofs.Identity.{is_block}
 use Rattle.set_marks.proofs.CodeLineText.{text_has_no_end}
-use Rattle.set_marks.proofs.WholeLines.{LastEnds, last_beyond}
+use Rattle.set_marks.proofs.WholeLines.{last_beyond}
+use Rattle.gsi_file.proofs.NumberedLines.{LastEnds}
 use Rattle.set_marks.proofs.Unmarked.{line_ends}
 use Rattle.set_marks.proofs.Segments.{AreUp, AreFrom, from_later, none_before, earlier_codes}
-use Rattle.set_marks.proofs.NumberedLines.{numbered_append, one_numbered, one_part, some_part}
-use Rattle.set_marks.proofs.NumberedLines.{first_cut}
+use Rattle.gsi_file.proofs.NumberedLines.{numbered_append, one_numbered, one_part, some_part}
+use Rattle.gsi_file.proofs.NumberedLines.{first_cut}
 
 -- what each code line says has room
 abbrev pub AreRoomy : List BlockMark → Type 0

@@ -1,21 +1,22 @@
 -- The code lines of a file stand where lines with a byte begin, in order.
 use Rattle.std.proofs.Common.{◌≡◌, ℕ, suc, ◌+◌, ◌-◌, ◌<◌, ◌≤◌, true, false, List, [], ◌∷◌, ◌++◌}
 use Rattle.std.proofs.Common.{length, map, drop, get_or, refl, sym, ap, subst, ◌∙◌, inl, inr, arith}
-use Rattle.std.proofs.Common.{append_assoc}
+use Rattle.std.proofs.Common.{append_assoc, All}
 use Rattle.std.specs.Prelude.{slice_index}
 use Rattle.std.specs.List.{AllByRecursion}
 use Rattle.std.proofs.lemmas.Bool.{cases_Bool}
 use Rattle.std.proofs.lemmas.List.{append-nil, drop-drop, drop_at, length-append, length-drop}
 use Rattle.std.proofs.lemmas.List.{get_or-drop}
-use Rattle.std.proofs.lemmas.List.Elements.{All-head}
+use Rattle.std.proofs.lemmas.List.Elements.{All-head, All-from_recursion, recursion_from_All}
 use Rattle.gsi_file.specs.Parts.{parts, is_line, is_line_end, HasNoEnd}
 use Rattle.set_marks.specs.declared.mark.BlockMark.{BlockMark}
 use Rattle.set_marks.specs.declared.mark.Mark.{Mark}
 use Rattle.set_marks.specs.Placing.{marks_of_block, marks_after, placed_at, placed_from, placed}
-use Rattle.set_marks.specs.Copies.{AreOrdered, BeginsAt}
+use Rattle.set_marks.specs.Marks.{IsRoomy}
+use Rattle.set_marks.specs.Copies.{AreOrdered, BeginsAt, BeginsLine}
 use Rattle.set_marks.specs.Unmarked.{BeginsSomeLine}
 use Rattle.set_marks.proofs.CopyLines.{AreRoomy, roomy_first, roomy_after}
-use Rattle.set_marks.proofs.NumberedLines.{some_part, first_cut}
+use Rattle.gsi_file.proofs.NumberedLines.{some_part, first_cut}
 
 -- The code lines stand in order, from a place on, each where a line with a byte begins.
 pub record AreWell (bytes : List ℕ) (from : ℕ) (ms : List Mark) : Type 0 where
@@ -123,3 +124,19 @@ pub are_well : (bytes : List ℕ) (ms : List BlockMark) → AreRoomy ms
     → AreWell bytes 0 (placed bytes ms)
 are_well bytes ms roomy =
     well_from bytes 0 0 ms (parts bytes) (omega arith) refl (inl refl) roomy
+
+-- Code lines with room stand in order, each where a line begins.
+pub in_order : (bytes : List ℕ) (ms : List BlockMark) → All IsRoomy ms
+    → AreOrdered 0 (length bytes) (placed bytes ms)
+in_order bytes ms room = (are_well bytes ms (recursion_from_All IsRoomy ms room)).ordered
+
+begin_by : (bytes : List ℕ) (ms : List Mark) → AllByRecursion (BeginsSomeLine bytes) ms
+    → AllByRecursion (BeginsLine bytes) ms
+begin_by bytes [] each = tt
+begin_by bytes (m ∷ ms) each = (each.0.begins, begin_by bytes ms each.1)
+
+pub begin_lines : (bytes : List ℕ) (ms : List BlockMark) → All IsRoomy ms
+    → All (BeginsLine bytes) (placed bytes ms)
+begin_lines bytes ms room = All-from_recursion (BeginsLine bytes) (placed bytes ms)
+    (begin_by bytes (placed bytes ms)
+    (are_well bytes ms (recursion_from_All IsRoomy ms room)).each)

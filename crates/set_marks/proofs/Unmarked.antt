@@ -10,16 +10,17 @@ use Rattle.gsi_file.specs.Parts.{is_line_end}
 use Rattle.set_marks.specs.declared.mark.Code.{Code}
 use Rattle.set_marks.specs.declared.mark.Code.TheVariants.{Station, Set, Close}
 use Rattle.set_marks.specs.declared.mark.Mark.{Mark}
-use Rattle.set_marks.specs.declared.line_end.LineEnd.{LineEnd}
-use Rattle.set_marks.specs.declared.line_end.LineEnd.TheVariants.{LineFeed, CarriageReturn, Both}
-use Rattle.set_marks.specs.Lines.{end_bytes}
+use Rattle.gsi_file.specs.declared.beside.LineEnd.{LineEnd}
+use Rattle.gsi_file.specs.declared.beside.LineEnd.TheVariants.{LineFeed, CarriageReturn, Both}
+use Rattle.gsi_file.specs.Beside.{end_bytes}
+use Rattle.gsi_file.proofs.NumberedLines.{LastEnds}
 use Rattle.set_marks.specs.Marks.{line_of, text_of, star, words_text, HasRoom}
 use Rattle.set_marks.specs.Copies.{woven, AreOrdered}
 use Rattle.set_marks.specs.Unmarked.{begins_with_feed, whole_lines, is_put_in, unmarked}
 use Rattle.set_marks.specs.Unmarked.{BeginsSomeLine}
 use Rattle.set_marks.proofs.Identity.{ends_line}
 use Rattle.set_marks.proofs.CodeLineText.{text_has_no_end}
-use Rattle.set_marks.proofs.WholeLines.{LastEnds, last_ends, SomeLast, last_beyond, one_line}
+use Rattle.set_marks.proofs.WholeLines.{last_ends, SomeLast, last_beyond, one_line}
 use Rattle.set_marks.proofs.WholeLines.{unmarked_append, unmarked_without}
 
 begins_as : (wide : Bool) (code : Code) (more : List ℕ)

@@ -1,24 +1,19 @@
 -- The lines of bytes, each with what ends it.
 use Rattle.std.proofs.Common.{◌≡◌, ℕ, cond, true, false, ◌&&◌, not, List, [], ◌∷◌, ◌++◌, filter}
 use Rattle.std.proofs.Common.{refl, sym, ap, subst, ◌∙◌, inl, inr}
-use Rattle.std.specs.Prelude.{⊤, ◌==◌}
+use Rattle.std.specs.Prelude.{◌==◌}
 use Rattle.std.specs.List.{flat_map, list_any}
 use Rattle.std.proofs.lemmas.Bool.{cases_Bool, and_from, and_right, or_parts}
 use Rattle.std.proofs.lemmas.List.Elements.{filter-append, All-head, All-tail}
 use Rattle.std.proofs.lemmas.Grind.{flat_map-append}
 use Rattle.gsi_file.specs.Parts.{HasNoEnd, is_line_end}
-use Rattle.set_marks.specs.declared.line_end.LineEnd.{LineEnd}
-use Rattle.set_marks.specs.declared.line_end.LineEnd.TheVariants.{LineFeed, CarriageReturn, Both}
-use Rattle.set_marks.specs.Lines.{end_bytes}
+use Rattle.gsi_file.specs.declared.beside.LineEnd.{LineEnd}
+use Rattle.gsi_file.specs.declared.beside.LineEnd.TheVariants.{LineFeed, CarriageReturn, Both}
+use Rattle.gsi_file.specs.Beside.{end_bytes}
+use Rattle.gsi_file.proofs.NumberedLines.{LastEnds}
 use Rattle.set_marks.specs.Copies.{EndsLine}
 use Rattle.set_marks.specs.Unmarked.{begins_with_feed, ends_line, with_first, whole_lines}
 use Rattle.set_marks.specs.Unmarked.{is_put_in, unmarked}
-
--- the last of these bytes, where there is one, ends a line
-abbrev pub LastEnds : List ℕ → Type 0
-LastEnds [] = ⊤
-LastEnds (b ∷ []) = is_line_end b ≡ true
-LastEnds (b ∷ c ∷ bytes) = LastEnds (c ∷ bytes)
 
 last_of_front : (front : List ℕ) (byte : ℕ) → is_line_end byte ≡ true
     → LastEnds (front ++ byte ∷ [])

@@ -5,9 +5,9 @@ use Rattle.std.specs.List.{flat_map}
 use Rattle.gsi_word.specs.Blocks.{GsiBlock, IsBlock}
 use Rattle.gsi_file.specs.Parts.{is_line_end}
 use Rattle.station_book.specs.Blocks.{is_opening}
-use Rattle.set_marks.specs.declared.line_end.LineEnd.{LineEnd}
+use Rattle.gsi_file.specs.declared.beside.LineEnd.{LineEnd}
 use Rattle.set_marks.specs.declared.mark.Mark.{Mark}
-use Rattle.set_marks.specs.Lines.{end_bytes}
+use Rattle.gsi_file.specs.Beside.{end_bytes}
 use Rattle.set_marks.specs.Marks.{line_of, HasRoom}
 
 -- The bytes from a place on, with the code lines put in before their places.

@@ -12,7 +12,6 @@ pub mod Fewest
 pub mod EqualSets
 pub mod Zeniths
 pub mod Remarks
-pub mod Lines
 pub mod Marks
 pub mod Visits
 pub mod Judging

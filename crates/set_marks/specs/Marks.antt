@@ -12,7 +12,7 @@ use Rattle.set_marks.specs.declared.mark.Code.{Code}
 use Rattle.set_marks.specs.declared.mark.Code.TheVariants.{Station, Set, Close}
 use Rattle.set_marks.specs.declared.mark.Mark.{Mark}
 use Rattle.set_marks.specs.declared.mark.BlockMark.{BlockMark}
-use Rattle.set_marks.specs.Lines.{end_bytes}
+use Rattle.gsi_file.specs.Beside.{end_bytes}
 
 -- How many bytes the content of each of its words has.
 abbrev pub width_of : Bool → ℕ

@@ -3,7 +3,7 @@ use Rattle.std.specs.Prelude.{ℕ, suc, ◌+◌, ◌==◌, List, [], ◌∷◌, 
 use Rattle.gsi_file.specs.Parts.{parts, is_line}
 use Rattle.set_marks.specs.declared.mark.BlockMark.{BlockMark}
 use Rattle.set_marks.specs.declared.mark.Mark.{Mark}
-use Rattle.set_marks.specs.Lines.{end_beside}
+use Rattle.gsi_file.specs.Beside.{end_beside}
 
 -- the code lines of the block of this number that come first of these
 abbrev pub marks_of_block : ℕ → List BlockMark → List BlockMark

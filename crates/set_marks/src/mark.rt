@@ -8,9 +8,9 @@ ghost use Rattle.gsi_word.specs.Bytes.{blank, zero_digit};
 ghost use Rattle.gsi_word.specs.Words.{spelled};
 ghost use Rattle.set_marks.specs.Marks.{width_of, word_of, digits, HasRoom, line_of, words_text};
 
-use crate::line_end::LineEnd;
 use adjust_kernel::Name;
 use arrayvec::ArrayVec;
+use gsi_file::LineEnd;
 use gsi_word::{GSI_8, GSI_16};
 
 /// What a code line says.

@@ -1,13 +1,13 @@
 //! Where code lines are put in: at the places where the lines of their blocks begin.
 
 ghost use Rattle.std.specs.Prelude.{◌≡◌, ◌≤◌, ◌++◌, All, IfOk, drop, length, map};
+ghost use Rattle.gsi_file.specs.LinePlaces.{line_places};
 ghost use Rattle.set_marks.specs.Marks.{IsRoomy};
-ghost use Rattle.set_marks.specs.LinePlaces.{AreBegins};
 ghost use Rattle.set_marks.specs.Placing.{placed, placed_at, marks_of_block, marks_after};
-ghost use Rattle.set_marks.specs.Copies.{AreOrdered, BeginsAt, BeginsLine};
+ghost use Rattle.set_marks.specs.Copies.{AreOrdered, BeginsLine};
 
-use crate::line_end::end_beside;
 use crate::mark::{BlockMark, Mark};
+use gsi_file::end_beside;
 use std::alloc::{AllocError, Global};
 
 /// Places the code lines of the block of this number, which come first of these, where its line
@@ -20,17 +20,9 @@ fn place_block<'a>(
     block: usize,
     marks: &'a [BlockMark],
 ) -> Result<&'a [BlockMark], AllocError>
-    requires inside { at ≤ length bytes.now }
-    requires line { BeginsAt bytes.now at }
-    requires room { All IsRoomy marks.now }
-    requires ordered { AreOrdered 0 at placed.old.items }
-    requires begin { All (BeginsLine bytes.now) placed.old.items }
     ensures value { IfOk result (λ rest. placed.new.items ≡ placed.old.items
         ++ map (placed_at bytes.now at) (marks_of_block block marks.now)) }
     ensures rest { IfOk result (λ rest. rest.now ≡ marks_after block marks.now) }
-    ensures room { IfOk result (λ rest. All IsRoomy rest.now) }
-    ensures ordered { IfOk result (λ rest. AreOrdered 0 at placed.new.items) }
-    ensures begin { IfOk result (λ rest. All (BeginsLine bytes.now) placed.new.items) }
 {
     let mut left = marks;
     'marks: while let Some((mark, rest)) = left.split_first() {
@@ -64,7 +56,7 @@ pub(crate) fn placed(
     begins: &[u32],
     marks: &[BlockMark],
 ) -> Result<Vec<Mark>, AllocError>
-    requires begins { AreBegins bytes.now begins.now }
+    requires begins { begins.now ≡ line_places bytes.now }
     requires room { All IsRoomy marks.now }
     ensures value { IfOk result (λ found. found.items ≡ placed bytes.now marks.now) }
     ensures ordered { IfOk result (λ found. AreOrdered 0 (length bytes.now) found.items) }

@@ -2,6 +2,8 @@
 //! that the reader is not asked again; and the lines beside a plain program over the whole list of
 //! bytes.
 
+mod in_memory;
+
 ghost use Rattle.std.specs.Prelude.{◌<◌};
 
 use byte_ends::{OfRead, Script, Source};

@@ -1,18 +1,16 @@
 use Rattle.std.proofs.Common.{◌≡◌, ◌<◌, ◌+◌, ◌-◌, ◌∷◌, ◌++◌, [], ℕ, List, Some, None, length, drop}
 use Rattle.std.proofs.Common.{sym, ap, subst, ◌∙◌, arith, rules}
-use Rattle.std.specs.Prelude.{slice_get, slice_index}
+use Rattle.std.specs.Prelude.{slice_get}
 use Rattle.std.proofs.lemmas.List.{append-nil}
-use Rattle.std.proofs.lemmas.List.Elements.{All-nil, All-drop}
 use Rattle.gsi_file.specs.Parts.{parts}
 use Rattle.set_marks.specs.declared.mark.BlockMark.{BlockMark}
 use Rattle.set_marks.specs.declared.mark.Mark.{Mark}
-use Rattle.set_marks.specs.Copies.{BeginsAt, BeginsLine}
+use Rattle.set_marks.specs.Copies.{AreOrdered}
 use Rattle.set_marks.specs.LinePlaces.{placed_by}
 use Rattle.set_marks.specs.Placing.{marks_after, placed}
+use Rattle.set_marks.proofs.CopyPlaces.{in_order, begin_lines}
 use Rattle.set_marks.proofs.LinePlaces.{placed_is, placed_none, placed_past, placed_beyond}
-use Rattle.set_marks.proofs.LinePlaces.{next_placed, at_place, first_is, none_first}
-use Rattle.set_marks.proofs.LinePlaces.{up_to_end}
-use Rattle.set_marks.proofs.Ordering.{up_to}
+use Rattle.set_marks.proofs.LinePlaces.{next_placed, first_is, none_first}
 use Rattle.set_marks.proofs.placing.placed.Goals as goal
 use Rattle.set_marks.proofs.placing.placed.Goals.{then-block-number-via-then-block-number}
 use Rattle.set_marks.proofs.placing.placed.Goals.{
@@ -22,15 +20,8 @@ use Rattle.set_marks.proofs.placing.placed.Goals.{
 pub marks-init : goal.marks-init
 marks-init c =
     let bytes = c.args.bytes.now in
-    let none = c.in_ok-found.ensures.items in
-    record {
-      value = rw none (ap (λ (l : List ℕ). placed_by bytes 0 l c.args.marks.now)
-          c.requires.begins.places ∙ sym (placed_is bytes 0 0 c.args.marks.now (parts bytes)));
-      room = c.requires.room;
-      ordered = (0, rw none (omega arith), c.requires.begins.ordered);
-      begins = c.requires.begins.begin;
-      begin = rw none (All-nil (BeginsLine bytes));
-    }
+    rw c.in_ok-found.ensures.items (ap (λ (l : List ℕ). placed_by bytes 0 l c.args.marks.now)
+    c.requires.begins ∙ sym (placed_is bytes 0 0 c.args.marks.now (parts bytes)))
 
 pub marks-preserved : goal.marks-preserved
 marks-preserved c =
@@ -49,47 +40,13 @@ marks-preserved c =
     let step : k + 1 ≡ block - number = omega (arith, past) in
     let rest : c.later-rest.result.now ≡ drop (k + 1) bs =
     c.later-rest.ensures ∙ ap (λ (n : ℕ). drop n bs) (sym step) in
-    let order = c.marks.invariant.ordered in
-    let place = at_place order.0 (length bytes) k bs order.2 inside in
-    record {
-      value = rw (c.in_ok-left.ensures.rest, rest) (subst (λ (l : List BlockMark).
-          c.place_block.new.placed.items ++ placed_by bytes block (drop (k + 1) bs)
-          (marks_after block l) ≡ placed bytes c.args.marks.now) (sym split)
-          (next_placed bytes number k block bs m ms c.marks.found.items
-          c.place_block.new.placed.items (placed bytes c.args.marks.now) (omega (arith, past))
-          (search rules) inside (rw split at c.in_ok-left.ensures.value)
-          (rw split at c.marks.invariant.value)));
-      room = c.in_ok-left.ensures.room;
-      ordered = (
-        slice_index bs k,
-        c.in_ok-left.ensures.ordered,
-        rw rest place.2,
-      );
-      begins = rw rest (All-drop (BeginsAt bytes) (k + 1) bs c.marks.invariant.begins);
-      begin = c.in_ok-left.ensures.begin;
-    }
-
-pub place_block-requires-clause-ordered : goal.place_block-requires-clause-ordered
-place_block-requires-clause-ordered c =
-    let block = c.in-Some.mark.now.block in
-    let k = block - c.marks.number - 1 in
-    let past = c.if-block-number.false in
-    let among = c.if-block-number-2.false in
-    let order = c.marks.invariant.ordered in
-    let place = at_place order.0 (length c.args.bytes.now) k c.marks.rest.now order.2
-    (omega (arith, past, among)) in
-    up_to 0 order.0 (slice_index c.marks.rest.now k) c.marks.found.items order.1 place.0
-
-pub place_block-requires-clause-inside : goal.place_block-requires-clause-inside
-place_block-requires-clause-inside c =
-    let block = c.in-Some.mark.now.block in
-    let k = block - c.marks.number - 1 in
-    let past = c.if-block-number.false in
-    let among = c.if-block-number-2.false in
-    let order = c.marks.invariant.ordered in
-    let place = at_place order.0 (length c.args.bytes.now) k c.marks.rest.now order.2
-    (omega (arith, past, among)) in
-    place.1
+    rw (c.in_ok-left.ensures.rest, rest) (subst (λ (l : List BlockMark).
+    c.place_block.new.placed.items ++ placed_by bytes block (drop (k + 1) bs)
+    (marks_after block l) ≡ placed bytes c.args.marks.now) (sym split)
+    (next_placed bytes number k block bs m ms c.marks.found.items
+    c.place_block.new.placed.items (placed bytes c.args.marks.now) (omega (arith, past))
+    (search rules) inside (rw split at c.in_ok-left.ensures.value)
+    (rw split at c.marks.invariant)))
 
 pub returns-then-block-number-clause-value : goal.returns-then-block-number-clause-value
 returns-then-block-number-clause-value c =
@@ -112,12 +69,18 @@ returns-then-block-number-clause-value c =
     ] in
     sym (append-nil found) ∙ ap (λ (l : List Mark). found ++ l) (sym none)
     ∙ ap (λ (l : List BlockMark). found ++ placed_by bytes number bs l) (sym split)
-    ∙ c.marks.invariant.value
+    ∙ c.marks.invariant
 
 pub returns-then-block-number-clause-ordered : goal.returns-then-block-number-clause-ordered
 returns-then-block-number-clause-ordered c =
-    let order = c.marks.invariant.ordered in
-    up_to_end order.0 (length c.args.bytes.now) c.marks.found.items c.marks.rest.now order.1 order.2
+    subst (λ (ms : List Mark). AreOrdered 0 (length c.args.bytes.now) ms)
+    (sym (returns-then-block-number-clause-value c))
+    (in_order c.args.bytes.now c.args.marks.now c.requires.room)
+
+pub returns-then-block-number-clause-begin : goal.returns-then-block-number-clause-begin
+returns-then-block-number-clause-begin c =
+    rw (returns-then-block-number-clause-value c)
+    (begin_lines c.args.bytes.now c.args.marks.now c.requires.room)
 
 pub returns-clause-value : goal.returns-clause-value
 returns-clause-value c =
@@ -128,9 +91,15 @@ returns-clause-value c =
     sym (append-nil found) ∙ ap (λ (l : List Mark). found ++ l)
     (sym (placed_none bytes c.marks.number c.marks.rest.now))
     ∙ ap (λ (l : List BlockMark). found ++ placed_by bytes c.marks.number c.marks.rest.now l)
-    (sym none) ∙ c.marks.invariant.value
+    (sym none) ∙ c.marks.invariant
 
 pub returns-clause-ordered : goal.returns-clause-ordered
 returns-clause-ordered c =
-    let order = c.marks.invariant.ordered in
-    up_to_end order.0 (length c.args.bytes.now) c.marks.found.items c.marks.rest.now order.1 order.2
+    subst (λ (ms : List Mark). AreOrdered 0 (length c.args.bytes.now) ms)
+    (sym (returns-clause-value c))
+    (in_order c.args.bytes.now c.args.marks.now c.requires.room)
+
+pub returns-clause-begin : goal.returns-clause-begin
+returns-clause-begin c =
+    rw (returns-clause-value c)
+    (begin_lines c.args.bytes.now c.args.marks.now c.requires.room)
