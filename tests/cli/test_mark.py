@@ -156,6 +156,19 @@ class MarkTest(AgainstModel):
                         inside = re.sub(rb"(?s)^.*?(?=41[.]{4}[+]0{6}20)|41[.]{4}[+]0{6}30.*", b"", copy)
                         self.assertEqual(whole * sets, re.sub(rb"(?m)^41[.]{4}.*\n", b"", inside))
 
+    def test_half_of_a_target_after_sets_by_targets_refuses_them(self):
+        """An orientation in both faces to the target that ends the sets, of which the last lacks just
+        that: shifted by it they look whole, until half of another target follows them."""
+        for count, sets, detail in itertools.product(range(2, 5), range(1, 4), ["", "X", "XY"]):
+            targets = "ABCD"[:count]
+            whole = b"".join(reading(t, face) for t in targets for face in (1, 2))
+            job = whole[-2 * LINE :] + whole * sets + whole[: -2 * LINE]
+            job += b"".join(reading(t, 1) for t in detail)
+            stated = model.StatedSets(sets + 1, count)
+            for half, status in [(b"", 0), (reading("N", 2), 1)]:
+                case = Case(f"{targets} {sets} {detail}", "mark", job + half, stated=stated)
+                self.assertEqual(status, self.compare([case])[0][0])
+
     def test_nothing_is_printed_at_a_refusal(self):
         field = self.folder / "field.gsi"
         for text, refusal in [

@@ -32,7 +32,8 @@ use Rattle.set_marks.specs.Divisions.{seconds_of, rest_of, place_of, known_in, b
 use Rattle.set_marks.specs.Divisions.{begins_with_pair, are_by_targets, flaw_when}
 use Rattle.set_marks.specs.Outside.{are_among, are_sights_to, are_plain, sighted_before, may_lead}
 use Rattle.set_marks.specs.Outside.{in_ending}
-use Rattle.set_marks.specs.Doubts.{may_be_shifted, leads_to_end, leads_within, may_go_on}
+use Rattle.set_marks.specs.Doubts.{has_lone_second, may_be_shifted, leads_to_end, leads_within}
+use Rattle.set_marks.specs.Doubts.{may_go_on, may_have_gone_on}
 use Rattle.set_marks.specs.Ways.{Way, flaw_of, is_given_up, ways_of, after_leading, sets_by}
 use Rattle.set_marks.specs.Ways.{doubt_by, span_by, divided}
 use Rattle.set_marks.specs.BeginsAndEnds.{without_details}
@@ -330,8 +331,7 @@ not_alone true false e f = cc
 not_alone false false e f = cc
 
 all_paired : (rs : List Sight)
-    → list_any (λ r. r.second && not (list_any (λ s. is_pair r s) rs)) rs ≡ false
-    → All (λ r. r.second ≡ true → Any (IsPair r) rs) rs
+    → has_lone_second rs ≡ false → All (λ r. r.second ≡ true → Any (IsPair r) rs) rs
 all_paired rs e = λ k d lt two. by (slice_index_or rs k d)
     (none_pass (λ r. r.second && not (list_any (λ s. is_pair r s) rs)) rs e k d lt) two where
       by : (r : Sight) → (r.second && not (list_any (λ s. is_pair r s) rs)) ≡ false
@@ -436,8 +436,7 @@ paired_after stated rs way sure =
     let leading = take way.leading (rest_of rs) in
     let first = first_cut (starts_of rest) rest in
     let in_sets = part 0 (cut_end (starts_of rest) rest) rest in
-    all_paired leading
-    (or_parts (list_any (λ r. r.second && not (list_any (λ s. is_pair r s) leading)) leading)
+    all_paired leading (or_parts (has_lone_second leading)
     (leads_to_end leading first || (is_by_targets first && leads_within leading in_sets))
     (no_flaw (may_be_shifted leading first in_sets) kinds.MayBeShifted (slice_get rest 0)
     (all_none (doubts stated leading rest (after_leading rs way)) sure).0)).0
@@ -552,6 +551,7 @@ record IsSure (rs leading set in_sets left : List Sight) : Type 0 where
   pub to_end : leads_to_end leading set ≡ false
   pub within : (is_by_targets set && leads_within leading in_sets) ≡ false
   pub goes_on : (are_by_targets rs && begins_with_pair left) ≡ false
+  pub went_on : (are_by_targets rs && has_lone_second left) ≡ false
 
 sure_after : (stated : Numbers) (rs : List Sight) (way : Way) → doubt_by stated rs way ≡ None
     → IsSure (sets_by rs way) (take way.leading (rest_of rs))
@@ -566,8 +566,7 @@ sure_after stated rs way sure =
     let end = cut_end (starts_of rest) rest in
     let in_sets = part 0 end rest in
     let none = all_none (doubts stated leading rest after) sure in
-    let shifted = (or_parts
-    (list_any (λ r. r.second && not (list_any (λ s. is_pair r s) leading)) leading)
+    let shifted = (or_parts (has_lone_second leading)
     (leads_to_end leading first || (is_by_targets first && leads_within leading in_sets))
     (no_flaw (may_be_shifted leading first in_sets) kinds.MayBeShifted (slice_get rest 0)
     none.0)).1 in
@@ -577,6 +576,8 @@ sure_after stated rs way sure =
       to_end = both.0;
       within = both.1;
       goes_on = no_flaw (may_go_on rest after) kinds.PairAfter (slice_get after end) none.1.1.0;
+      went_on = no_flaw (may_have_gone_on rest after) kinds.MayBeShifted (slice_get rest 0)
+          none.1.1.1.0;
     }
 
 -- Of the way in which the sets of a station are found, with nothing wrong.
@@ -609,6 +610,12 @@ stands_after stated rs way only right sure e =
     let opening = first_cut (starts_of rest) rest in
     let doubt = sure_after stated rs way sure in
     let long_first = first.many in
+    let left = drop end (after_leading rs way) in
+    let by_targets : ArePairs (first_set inner) → are_by_targets rest ≡ true =
+    λ by. sym (first_begins rest
+    (subst (λ (l : List Sight). 2 ≤ length l) same_first (omega (arith, long_first))))
+    ∙ ap begins_with_pair (sym same_first)
+    ∙ pair_begins (first_set inner) first.many (are_pairs (first_set inner) by) in
     record {
       at_most = omega (arith, many_lead, most);
       few = subst (λ (l : List Sight).
@@ -645,12 +652,12 @@ stands_after stated rs way only right sure e =
           ⊎ Any (λ r. r.second ≡ true) l) lead some));
       goes_on = λ by a b more is two. false≢true (sym (sym (ap begins_with_pair is)
           ∙ ap begins_with_pair (left_after rs way right)
-          ∙ not_then (are_by_targets rest) (begins_with_pair (drop end (after_leading rs way)))
-          doubt.goes_on (sym (first_begins rest
-          (subst (λ (l : List Sight). 2 ≤ length l) same_first (omega (arith, long_first))))
-          ∙ ap begins_with_pair (sym same_first)
-          ∙ pair_begins (first_set inner) first.many (are_pairs (first_set inner) by)))
+          ∙ not_then (are_by_targets rest) (begins_with_pair left) doubt.goes_on (by_targets by))
           ∙ are_pair a b two);
+      went_on = λ by. subst (λ (l : List Sight). All (λ r. r.second ≡ true → Any (IsPair r) l) l)
+          (sym (left_after rs way right))
+          (all_paired left (not_then (are_by_targets rest) (has_lone_second left) doubt.went_on
+          (by_targets by)));
     }
 
 -- So the sets of a station stand.

@@ -28,7 +28,8 @@ use Rattle.set_marks.specs.Divisions.{flaw_at, flaw_when, flaw_found, are_by_tar
 use Rattle.set_marks.specs.Divisions.{begins_with_pair, divided_unless, has_no_sets, span_from}
 use Rattle.set_marks.specs.Divisions.{targets_of, is_read_in_two, first_target, are_in_face}
 use Rattle.set_marks.specs.Outside.{is_ended, in_ending, may_precede, may_end, may_follow}
-use Rattle.set_marks.specs.Doubts.{may_be_shifted, may_go_on, numbers_flaw, stranger_among}
+use Rattle.set_marks.specs.Doubts.{may_be_shifted, may_go_on, may_have_gone_on, numbers_flaw}
+use Rattle.set_marks.specs.Doubts.{stranger_among}
 use Rattle.set_marks.specs.Ways.{Way, detail_between, cut_flaw, is_no_end, flaw_after, flaw_of}
 use Rattle.set_marks.specs.Ways.{is_division, most_leading, leading_of, is_given_up, kept}
 use Rattle.set_marks.specs.Ways.{given_up, with_way}
@@ -233,6 +234,7 @@ doubts stated leading sets rs =
     ∷ flaw_when (is_asked (are_by_targets sets) stated.sets) kinds.ByTargets (slice_get sets 0)
     ∷ flaw_when (may_go_on sets rs) kinds.PairAfter
     (slice_get rs (cut_end (starts_of sets) sets))
+    ∷ flaw_when (may_have_gone_on sets rs) kinds.MayBeShifted (slice_get sets 0)
     ∷ numbers_flaw stated sets
     ∷ flaw_found kinds.OtherTargets
     (stranger_among (first_cut (starts_of sets) sets) (cut_of sets))
@@ -491,7 +493,7 @@ taken_after stated rs way e sure =
     let numbers = all_none (flaw_when (is_another stated.sets (length starts)) kinds.SetCount first
     ∷ flaw_when (is_asked (by && (length starts == 1)) stated.targets) kinds.ByTargets first
     ∷ flaw_when (is_another stated.targets targets) kinds.TargetCount first ∷ [])
-    none.1.1.1.0 in
+    none.1.1.1.1.0 in
     let many = has.many in
     let long = has.long in
     let read : are_by_targets inner ≡ by = cut.read in
@@ -507,7 +509,7 @@ taken_after stated rs way e sure =
       wrong = has.wrong;
       known = (λ i. stranger_among (has.first i) (has.sets i))
           ∙ none_found kinds.OtherTargets
-          (stranger_among (first_cut starts rest) (cut_of rest)) none.1.1.1.1.0;
+          (stranger_among (first_cut starts rest) (cut_of rest)) none.1.1.1.1.1.0;
       sets = ap (λ (ps : List ℕ). is_another stated.sets (length ps)) has.starts
           ∙ no_flaw (is_another stated.sets (length starts)) kinds.SetCount first numbers.0;
       targets = ap (λ (names : List (List ℕ)). is_another stated.targets (length names)) same_targets

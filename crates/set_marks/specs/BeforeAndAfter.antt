@@ -63,7 +63,8 @@ pub record LeadToOne (set before leading : List Sight) : Type 0 where
 -- with one target; and no detail stands among them. Before sets by targets a leading reading in face
 -- II is of the opening target, or of none that the sets have; and none is of the target that ends
 -- the first set and does not begin it, where one is in face II or the set has two targets. After
--- them, but for details, no pair follows.
+-- them, but for details, no pair follows, and each reading in face II has its pair among those that
+-- do.
 pub record StandsBetween (rs : List Sight) (span : Span) : Type 0 where
   pub at_most : length (leading_in span rs) ≤ MOST_READINGS
   pub few : (length (leading_in span rs) ≤ 3) ⊎ AreInOne (leading_in span rs)
@@ -87,3 +88,6 @@ pub record StandsBetween (rs : List Sight) (span : Span) : Type 0 where
   pub goes_on : ArePairs (first_set (in_span span rs))
       → (a b : Sight) (more : List Sight)
       → without_details rs (drop span.to rs) ≡ a ∷ b ∷ more → ¬ IsPair a b
+  pub went_on : ArePairs (first_set (in_span span rs))
+      → All (λ r. r.second ≡ true → Any (IsPair r) (without_details rs (drop span.to rs)))
+      (without_details rs (drop span.to rs))

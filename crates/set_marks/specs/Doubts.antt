@@ -38,6 +38,10 @@ leads_within leading in_sets =
     list_any (λ r. (r.second && not (is_of (first_target in_sets) r))
     && list_any (is_of r.target) in_sets) leading
 
+-- One of these readings is in face II, and none of them is of its target in face I.
+abbrev pub has_lone_second : List Sight → Bool
+has_lone_second rs = list_any (λ r. r.second && not (list_any (λ s. is_pair r s) rs)) rs
+
 -- The sets, of which this is the first, may begin earlier, with some of the leading readings. One
 -- of these is in face II, and none of them is of its target in face I. Or the first set is read by
 -- targets and may begin earlier. Or it is read by targets, and a leading reading in face II is of a
@@ -45,7 +49,7 @@ leads_within leading in_sets =
 -- set, and some after them may be lost.
 abbrev pub may_be_shifted : List Sight → List Sight → List Sight → Bool
 may_be_shifted leading set in_sets =
-    list_any (λ r. r.second && not (list_any (λ s. is_pair r s) leading)) leading
+    has_lone_second leading
     || (leads_to_end leading set || (is_by_targets set && leads_within leading in_sets))
 
 -- the first reading of the first of these sets of which no more than half of the targets are
@@ -62,6 +66,13 @@ abbrev pub may_go_on : List Sight → List Sight → Bool
 may_go_on sets rs =
     are_by_targets sets && begins_with_pair (drop (cut_end (starts_of sets) sets) rs)
 
+-- Sets that are read by targets may have gone on: a reading after them is in face II, and none after
+-- them is of its target in face I. Where that one is lost, the two were a target as the next of a
+-- set is. So the sets may begin with another target.
+abbrev pub may_have_gone_on : List Sight → List Sight → Bool
+may_have_gone_on sets rs =
+    are_by_targets sets && has_lone_second (drop (cut_end (starts_of sets) sets) rs)
+
 -- Why the sets of these readings can't be taken by the numbers that are stated. It is the first of
 -- these that is found: another number of sets is stated; there is one set, read by targets, and no
 -- number of targets is stated; another number of targets is stated.
@@ -77,9 +88,10 @@ numbers_flaw stated rs = first_of (
 
 -- The doubt about sets that stand after these leading readings, and of which this is stated. It is
 -- the first of these that is found: the sets may begin earlier; they are read by targets, and no
--- number of sets is stated; they may go on; they can't be taken by the numbers that are stated; no
--- more than half of the targets of a set are targets of the first. Here `sets` are the readings of
--- the sets up to an ending, and `rs` these and all after them. None of these readings is a detail.
+-- number of sets is stated; they may go on, or may have gone on; they can't be taken by the numbers
+-- that are stated; no more than half of the targets of a set are targets of the first. Here `sets`
+-- are the readings of the sets up to an ending, and `rs` these and all after them. None of these
+-- readings is a detail.
 abbrev pub doubt_after : Numbers → List Sight → List Sight → List Sight → Option Flaw
 doubt_after stated leading sets rs = first_of (
     flaw_when (may_be_shifted leading (first_cut (starts_of sets) sets)
@@ -87,6 +99,7 @@ doubt_after stated leading sets rs = first_of (
     ∷ flaw_when (is_asked (are_by_targets sets) stated.sets) kinds.ByTargets (slice_get sets 0)
     ∷ flaw_when (may_go_on sets rs) kinds.PairAfter
     (slice_get rs (cut_end (starts_of sets) sets))
+    ∷ flaw_when (may_have_gone_on sets rs) kinds.MayBeShifted (slice_get sets 0)
     ∷ numbers_flaw stated sets
     ∷ flaw_found kinds.OtherTargets
     (stranger_among (first_cut (starts_of sets) sets) (cut_of sets))

@@ -1,0 +1,10 @@
+use Rattle.std.proofs.Common.{◌≡◌, [], length}
+use Rattle.set_marks.specs.Divisions.{names_with}
+use Rattle.set_marks.specs.Outside.{firsts_of}
+use Rattle.set_marks.proofs.known.targets_in_one.Given as goal
+
+abbrev pub invariant-sights : goal.invariant-sights
+invariant-sights l = names_with l.names (firsts_of l.left) ≡ names_with [] (firsts_of l.sights)
+
+abbrev pub decreases-sights : goal.decreases-sights
+decreases-sights l = length l.left
