@@ -231,7 +231,8 @@ def belief(specs: list[Spec]) -> Iterator[str]:
         "[numbers, types and rules of CSV](#numbers-types-and-csv) after them, and on nothing else. "
         "That the program keeps the promise is proved, "
         "and needs no reading. So whoever believes these definitions, and what "
-        "[the first page](../README.md#what-is-trusted) says is trusted, may believe an acceptance.\n"
+        "[the first page](../README.md#what-is-trusted) says is trusted, may believe an acceptance. "
+        "[The promise](PROMISE.md) says the first sentence of it, in less than a quarter of the lines, which stand there whole.\n"
     )
     yield from in_words(specs, specs)
 

@@ -1,5 +1,5 @@
-"""docs/DEFINITIONS.md is made from the comments of the definitions, and is up to date; no name of a
-definition stands for two things in one crate."""
+"""docs/DEFINITIONS.md is made from the comments of the definitions, docs/PROMISE.md has those of the promise
+whole, and both are up to date; no name of a definition stands for two things in one crate."""
 
 import re
 import sys
@@ -10,6 +10,7 @@ from program import ROOT
 sys.path.insert(0, str(ROOT / "tools"))
 
 import definitions
+import promise
 
 # The names that a file takes of another crate's definitions, or of its own crate's.
 CITED = re.compile(r"use Rattle\.(\w+)\.specs\.(\w+)\.\{([^}]*)\}")
@@ -77,6 +78,38 @@ class DefinitionsTest(unittest.TestCase):
                 if crate in definitions.crates() and module != "declared":
                     with self.subTest(file=spec.path.name, cites=f"{crate} {module}"):
                         self.assertIn(definitions.Spec(crate, module), definitions.specs_of(crate))
+
+
+class PromiseTest(unittest.TestCase):
+    @classmethod
+    def setUpClass(cls):
+        cls.needed = promise.closure(promise.Cited(*promise.PROMISE))
+        cls.listed = [one for _, ones in promise.in_order(cls.needed) for one in ones]
+
+    def test_the_page_is_up_to_date(self):
+        """Where this fails, `python3 tools/promise.py` makes it anew."""
+        self.assertEqual(promise.page(), promise.PAGE.read_text())
+
+    def test_each_definition_stands_after_all_that_it_names(self):
+        own = {one for one in self.needed if definitions.Spec(one.crate, one.module).path.is_file()}
+        self.assertEqual(own, set(self.listed))
+        before = set()
+        for one in self.listed:
+            before.add(one)
+            with self.subTest(one):
+                self.assertLessEqual(own.intersection(promise.cited(one)), before)
+
+    def test_each_definition_has_a_comment(self):
+        for one in self.listed:
+            with self.subTest(one):
+                self.assertRegex(promise.text_of(one), r"\A--")
+
+    def test_each_word_of_the_library_is_explained(self):
+        named = {one.name for one in self.needed if one.crate == "std"}
+        usual = {f"◌{sign}◌" for sign in "+ * < ≤".split()}
+        built_in = {"◌×◌", "¬", "⊥"}
+        explained = [word for row in promise.LIBRARY for word in row.split()]
+        self.assertEqual(sorted(named - usual | built_in), sorted(explained))
 
 
 if __name__ == "__main__":

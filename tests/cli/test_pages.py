@@ -74,7 +74,11 @@ SEALED = [
 
 # The readers of the standard library, of which no contract says what they give; and where alone they
 # may be named: in the crate that makes sources of them, and at the edge of the program.
-OF_THE_SYSTEM = re.compile(r"\bOfRead\b|\bStdin\b|\bstd::(fs|net|os|process)\b|\bio::(Read|stdin)\b")
+OF_THE_SYSTEM = re.compile(
+    r"\b(OfRead|Stdin|BufReader)\b|\bstd::(\{[^}]*)?\b(fs|net|os|process)\b|\bio::(\{[^}]*)?\b(Read|stdin)\b"
+)
+NAMES_ONE = ["OfRead<R>", "use std::io::{self, Read};", "use std::{alloc::Global, fs};", "io::stdin()"]
+NAMES_NONE = ["use std::io::{BufWriter, Write};", "use std::alloc::Global;", "FileKind::Read", "read_whole(r)"]
 AT_THE_EDGE = ["byte_ends", "command_run/src/host.rt", "station_program/src/main.rt"]
 
 # What each crate's page says is trusted: no list of libraries, which would have to follow crates.txt.
@@ -221,6 +225,8 @@ class PagesTest(TimedTest):
         """A function over such a type may forget what it read, invent other bytes and still meet the
         contract of `check_bytes`; one over every source may not. So this is what makes that contract
         a promise of files."""
+        self.assertTrue(all(map(OF_THE_SYSTEM.search, NAMES_ONE)))
+        self.assertFalse(any(map(OF_THE_SYSTEM.search, NAMES_NONE)))
         for path in sorted(ROOT.glob("crates/*/src/**/*.rt")):
             name = str(path.relative_to(ROOT / "crates"))
             if not name.startswith(("test", *AT_THE_EDGE)):

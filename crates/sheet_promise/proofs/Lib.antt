@@ -1,0 +1,10 @@
+mod ByNames
+mod Placed
+mod HeldAngles
+mod SetNumbers
+mod PlacedStation
+mod PlacedRows
+mod BlockCodes
+mod InOrder
+mod SameObservations
+mod LawLemmas

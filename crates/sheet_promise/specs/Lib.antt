@@ -1,0 +1,3 @@
+pub mod LeastByNames
+pub mod Readings
+pub mod Promised
