@@ -24,7 +24,7 @@ SHARED := $(sort $(shell cd packaging && find share -type f))
 DOCUMENTS := README.md CHANGELOG.md capi/example.c $(sort $(wildcard docs/*.md docs/*.png)) \
   $(sort $(wildcard examples/*.md examples/*.gsi examples/*.csv examples/*.txt examples/*.svg examples/*.py examples/*.html))
 DOCUMENT_FOLDER := share/doc/station_check
-UNLINKED = sed -E 's/\[([^][]*)\]\((\.\.\/)*((crates|conformance|page|tests)\/[^)]*|HANDLES|crates\.txt)\)/\1/g'
+UNLINKED = sed -E 's/\[([^][]*)\]\((\.\.\/)*((bench|conformance|crates|page|tests)\/[^)]*|HANDLES|crates\.txt)\)/\1/g'
 
 # The scripts of examples/ that an office uses, on the path under names of their own; one fills in a page.
 TOOLS := adjust check_folder prepare residuals

@@ -38,13 +38,13 @@ from shapes import Shape, field_file, job_file
 
 ROOT = Path(__file__).resolve().parent.parent
 PROGRAM = Path(os.environ.get("STATION_CHECK", ROOT / "build/station_check")).resolve()
-PAGE = ROOT / "docs" / "MEASURED.md"
+PAGE = ROOT / "bench" / "MEASURED.md"
 
 # What the page of what was measured begins with, and how a table of it begins.
 HEAD = """\
 # Measured
 
-This page is made by `make bench BENCH='--page ..'`: [PERFORMANCE](PERFORMANCE.md) says what is measured and how, and what the marks are. A mark that is not kept is in bold. Each table has the commit of its code, its machine, and how busy other work kept that meanwhile: where that is more than a tenth of a thread, times are too long, and their ratios uncertain.
+This page is made by `make bench BENCH='--page ..'`: [PERFORMANCE](../docs/PERFORMANCE.md) says what is measured and how, and what the marks are. A mark that is not kept is in bold. Each table has the commit of its code, its machine, and how busy other work kept that meanwhile: where that is more than a tenth of a thread, times are too long, and their ratios uncertain.
 """
 BEGIN = "Commit "
 

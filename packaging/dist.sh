@@ -5,8 +5,8 @@
 #
 #     sh packaging/dist.sh PROGRAM FOLDER PAGE LIBRARY
 #
-# CRATES names those that the program is made of, lowest first; MAINTAINER, as 'Name <address>',
-# stands in the Debian package, where it is not whoever made the last commit.
+# CRATES names those that the program is made of, lowest first. packaging/maintainer has the name and
+# the address that stand in the Debian package; MAINTAINER, as 'Name <address>', states others.
 set -eu
 umask 022
 
@@ -25,8 +25,8 @@ time=${SOURCE_DATE_EPOCH:-$(git log -1 --format=%ct 2> /dev/null || echo 0)}
 glibc=$(grep -a -h -s -o 'GLIBC_[0-9.]*' "$program" "$library" | sed 's/GLIBC_//' |
   sort -t. -k1,1n -k2,2n | tail -n 1)
 
-# The address of those who make the package: the last commit's, where none is stated.
-maintainer=${MAINTAINER:-$(git log -1 --format='%an <%ae>' 2> /dev/null || echo 'unknown <unknown@localhost>')}
+# The name and the address of those who make the package.
+maintainer=${MAINTAINER:-$(cat packaging/maintainer)}
 
 # What the packed program was proved with, by the logs of its build; the packed library is named too.
 proved() {

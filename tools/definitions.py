@@ -1,9 +1,8 @@
 """Makes docs/DEFINITIONS.md from the comments in specs/: `python3 tools/definitions.py`.
 
 The page has what the promise of an acceptance rests on, and then that of an agreement: the file of
-the promise and all that it cites, however far, in reading order, with the comment that it begins with.
-Those of records are there for an acceptance; of an agreement for the file of the promise alone. Of the
-other answers it has the names of the files. The other definitions are read where they stand.
+the promise and all that it cites, however far, in reading order, with what each is about. Of the other
+answers it has the names of the files. The definitions are read where they stand.
 """
 
 import re
@@ -23,20 +22,23 @@ AGREEMENT = ("station_compare", "Agreeing")
 
 # The promises of what is printed, each after those whose files it shares.
 PRINTED = {
-    "What `directions` prints": ("station_answers", "Directions"),
-    "What `directions`, `residuals`, `report` and `report --csv` say of a field file": ("station_answers", "Answers"),
-    "What `list` prints": ("station_check", "Listing"),
-    "What `list --csv` prints": ("list_rows", "Listing"),
-    "What `means` prints": ("station_check", "Means"),
-    "What `words` prints": ("station_check", "WordTexts"),
-    "What `mark` prints": ("set_marks", "Markings"),
-    "What the notes of `mark` say": ("station_mark", "Notes"),
-    "What `differences` prints": ("station_differences", "Stating"),
-    "What `residuals` prints": ("station_residuals", "Stating"),
-    "What `report` prints": ("station_report", "Stating"),
-    "What `report --table` prints": ("table_report", "Stating"),
-    "What `report --csv` prints": ("report_rows", "Stating"),
+    "`directions`": ("station_answers", "Directions"),
+    "`list`": ("station_check", "Listing"),
+    "`list --csv`": ("list_rows", "Listing"),
+    "`means`": ("station_check", "Means"),
+    "`words`": ("station_check", "WordTexts"),
+    "`mark`": ("set_marks", "Markings"),
+    "the notes of `mark`": ("station_mark", "Notes"),
+    "`differences`": ("station_differences", "Stating"),
+    "`residuals`": ("station_residuals", "Stating"),
+    "`report`": ("station_report", "Stating"),
+    "`report --table`": ("table_report", "Stating"),
+    "`report --csv`": ("report_rows", "Stating"),
+    "what `directions`, `residuals` and `report` say of a field file": ("station_answers", "Answers"),
 }
+
+# More letters than most rows of the page have.
+LONGEST_ROW = 160
 
 USE = re.compile(r"^use Rattle\.(\w+)\.specs\.(\w+)(?:\.|$| as)", re.MULTILINE)
 DEFINITION = re.compile(r"^(?:abbrev|unfoldable) pub ([^\s:]+)|^pub (?:record|data) ([^\s:]+)")
@@ -46,40 +48,36 @@ MODULE = re.compile(r"^pub mod (\w+)", re.MULTILINE)
 OF_CODE = re.compile(r"^use Rattle\.(\w+)\.specs\.declared\.([\w.]+)\.(\w+)\.\{([^}]*)\}", re.MULTILINE)
 CONSTANTS, CASES = "TheConstants", "TheVariants"
 LAW = re.compile(r"^pub fn (\w+)\(\)$|ensures \w+ \{ (\w+) ≡ (?:pos )?([\d_]+) \}", re.MULTILINE)
-COMMENT_OF = r"((?:^ *///[^\n]*\n)+)(?: *#\[[^\n]*\n)*^ *pub(?:\(crate\))? const {}:"
-SOURCE = re.compile(r" ?\((?:profile|textbook|GSI manual)[^)]*\)")
 
 INTRODUCTION = """\
 # Definitions
 
-What the contracts speak of, in plain words. This page is made by `tools/definitions.py` from the comments of the definitions: it says what each file is about, and of what an acceptance rests on the records too. A link leads to the files of a crate, in which each definition has a comment. *GSI manual* means Leica's description of the format, *textbook* the usual least-squares station adjustment, *profile* that this project decides.
+What the contracts speak of: which files a verifier reads, in which order. This page is made by `tools/definitions.py` from the comments with which the files of definitions begin; in them each definition has a comment. *GSI manual* means Leica's description of the format, *textbook* the usual least-squares station adjustment, *profile* that this project decides.
 
-A contract is as good as its definitions, so they are short and are not the program written again: a relation on a whole line, lines cut at all line ends at once, a sum over rows, 'there is no division into two parts'. Where one does go line by line, a law says the same in another way.
-"""
+1. [What an answer says](TRUST.md), in words; then the promise itself, which is one page: of an acceptance [`Accepted`](../crates/station_check/specs/Accepted.antt), of an agreement [`Agreeing`](../crates/station_compare/specs/Agreeing.antt).
+2. What it cites, in the lists below, where each file rests on those before it alone. A contract is as good as its definitions, so they are short, and not the program written again: a relation on a whole line, lines cut at all line ends at once, a sum over rows, 'there is no division into two parts'. Where one does go line by line, a law says the same in another way.
+3. [`check_bytes`](../crates/station_check/src/check.rt), whose contract it is, and [of which bytes](#of-which-bytes-it-is-said) it is said.
+4. [The lines that no contract reaches](TRUST.md#where-the-program-meets-the-system).
 
-HOW_NEAR = """\
-### How the program knows it
-
-The program finds the exact adjustment of the station by a solver that nobody has to trust: directions and orientations in whole numbers over one denominator, of any size, and full turns. Then it adds up the residuals. Where those of each target and of each set are exactly 0 and none is above the limit of residuals, which is at most 2,000 half units, this is the least-squares choice, over all directions, orientations and full turns, and every other that is least is the same but for one rotation and whole turns ([`laws`](../crates/exact_adjustment/src/laws.rt)). So a least choice is there, and W and the printed digits are functions of the station alone ([`laws`](../crates/least_directions/src/laws.rt)).
+That the program keeps the promise is proved, and needs no reading. So whoever believes these definitions, and what [the first page](../README.md#what-is-trusted) says is trusted, may believe an answer.
 """
 
 EVERY_READER = """\
 ## Every reader, files included
 
-A source may *tell* contracts which bytes it still gives, and whether it then fails. A slice does; a file of the system or a terminal tells nothing beforehand. What is promised is said of each alike, and of the very bytes that it gave:
+A source may *tell* contracts which bytes it still gives, and whether it then fails. A slice does; a file or a terminal tells nothing beforehand. What is promised is said of each alike, and of the very bytes that it gave:
 
-Every source has *histories*: by number, which bytes it may have given since it was made. `Adds` says that they have grown by some bytes, and the contract of `read` says that each read adds to all of them what it gave. That there are no other bytes in them is not said. So `HasGiven` says of a reader, before and after some reads, that these were the bytes: its histories have grown by them, and whatever it may give now, it might then have given these bytes and after them that. The contract of `check_bytes` names bytes of the field file and of the sheet that their readers have given so, and keeps the promise of these bytes and of whatever may be left in the readers after them. Where it accepts, both readers have ended, so nothing is left and the bytes are all; where it answers a failed read, that reader has broken off; and of `check_sources` no read failed at any other answer.
-
-`check_bytes` is one function for every source. It can't tell which histories a source keeps, nor whether it tells its bytes, so what is proved of it holds of a reader that keeps each byte as of a file, for which the standard library's contract says nothing of what was read. Of such a reader the law is [`check_kept`](../crates/station_check/src/kept.rt): an acceptance is of exactly the bytes that `Keeping` of [`byte_ends`](../crates/byte_ends/README.md) kept, whatever reader is under it. That rests on the code being generic: a function over the type of a file could forget what it read and still meet the words of the contract, so only `byte_ends`, which makes sources of std's readers, and the program's edge may name those types, which a test sees to. The field file's reader is taken in and dropped: `UntilDropped` says that there is a state of the reader after it was taken in of which the promise is kept; `check_sources` gives the reader back, and so says it of the very state. What `UntilDropped` leaves open is a read after that state, which no answer tells of, and so out of memory in the place of a failed read.
-
-A source over a source can keep a history of its own: `Digesting` of [`byte_digests`](../crates/byte_digests/README.md) feeds what it gives to SHA-256, so that its first history is what a digest stands for.
+- Every source has *histories*: by number, which bytes it may have given since it was made. Each read adds to all of them what it gave (`Adds`); that no other bytes are in them is not said. `HasGiven` says of a reader that by some reads these were the bytes: its histories have grown by them, and whatever it may give now, it might then have given these bytes and after them that.
+- The contract of `check_bytes` names bytes of the field file and of the sheet that their readers have given so, and keeps the promise of these and of whatever may be left in the readers. Where it accepts, both readers have ended, so the bytes are all; where it answers a failed read, that reader has broken off; and of `check_sources` no read failed at any other answer.
+- `check_bytes` is one function for every source, and can't tell which histories a source keeps. So what is proved of it holds of a reader that keeps each byte as of a file, of which the standard library's contract says nothing: an acceptance is of exactly the bytes that `Keeping` kept, whatever reader is under it ([`check_kept`](../crates/station_check/src/kept.rt)). A function over the type of a file could forget what it read and still meet the words of the contract; so only [`byte_ends`](../crates/byte_ends/README.md) and the program's edge may name those types, which a test sees to.
+- The field file's reader is taken in and dropped: by `UntilDropped` there is a state of it after that of which the promise is kept. That leaves open a read after that state, of which no answer tells, and so out of memory in the place of a failed read; `check_sources` gives the reader back, and says it of the very state.
+- `Digesting` of [`byte_digests`](../crates/byte_digests/README.md) is a source over a source: its first history is what a digest stands for.
 """
 
 
 class Definition(NamedTuple):
     name: str
     comment: str
-    is_record: bool  # or a type of several cases
 
 
 class Spec(NamedTuple):
@@ -97,14 +95,10 @@ class Spec(NamedTuple):
         return f"[`{self.module}`](../crates/{self.crate}/specs/{self.module}.antt)"
 
     def about(self) -> str:
-        """A row of the page: the name of the file, and what it is about."""
-        return f"- `{self.module}`: {sentence(self.head())}"
-
-    def records(self) -> Iterator[str]:
-        """A row for each of its records."""
-        for name, comment, is_record in self.definitions():
-            if is_record:
-                yield f"  - `{name}`: {sentence(comment)}"
+        """A row of the page: the name of the file, and what it is about, by its first sentence; of a
+        long one, by what stands before its colon."""
+        text = self.head().removeprefix(f"{self.module}: ").split(". ")[0]
+        return f"- `{self.module}`: {sentence(text if len(text) <= LONGEST_ROW else text.split(': ')[0])}"
 
     def text(self) -> str:
         return self.path.read_text()
@@ -129,7 +123,7 @@ class Spec(NamedTuple):
                 comment.append(line.removeprefix("--").strip())
             elif matched := DEFINITION.match(line):
                 name, record = matched.groups()
-                found.append(Definition(name or record, " ".join(comment), bool(record)))
+                found.append(Definition(name or record, " ".join(comment)))
                 comment = []
             else:
                 comment = []
@@ -196,15 +190,6 @@ class Constant(NamedTuple):
                 return law, f"{int(digits):,}"
         raise LookupError(f"no law of {self.crate} says what {self.name} is")
 
-    def meaning(self) -> str:
-        """The first sentence of its comment."""
-        for path in sorted(self.sources().glob("**/*.rt")):
-            comment = re.compile(COMMENT_OF.format(self.name), re.MULTILINE)
-            if found := comment.search(path.read_text()):
-                text = " ".join(line.strip().removeprefix("///").strip() for line in found[1].splitlines())
-                return text.split(". ")[0].rstrip(".")
-        raise LookupError(f"{self.name} of {self.crate} has no comment")
-
     def sources(self) -> Path:
         return ROOT / "crates" / self.crate / "src"
 
@@ -226,15 +211,11 @@ def of_code(specs: list[Spec]) -> tuple[list[Constant], dict[str, list[str]]]:
 def belief(specs: list[Spec]) -> Iterator[str]:
     yield "## What you have to believe\n"
     yield (
-        f"An acceptance means what {Spec(*ACCEPTANCE).link} says: one page, in the order of the promise. "
-        f"It rests on the {size_of(specs)}, each of which rests on those before it, on the "
+        f"An acceptance means what {Spec(*ACCEPTANCE).link} says. It rests on the {size_of(specs)}, on the "
         "[numbers, types and rules of CSV](#numbers-types-and-csv) after them, and on nothing else. "
-        "That the program keeps the promise is proved, "
-        "and needs no reading. So whoever believes these definitions, and what "
-        "[the first page](../README.md#what-is-trusted) says is trusted, may believe an acceptance. "
         "[The promise](PROMISE.md) says the first sentence of it, in less than a quarter of the lines, which stand there whole.\n"
     )
-    yield from in_words(specs, specs)
+    yield from in_words(specs)
 
 
 def belief_of_code(specs: list[Spec]) -> Iterator[str]:
@@ -245,12 +226,12 @@ def belief_of_code(specs: list[Spec]) -> Iterator[str]:
         f"The definitions name {len(constants)} constants of the code. A law pins each in digits, "
         "so that no other number is proved:\n"
     )
-    yield "| Constant | Is | Law |"
-    yield "|---|---|---|"
+    laws: dict[tuple[str, str], list[str]] = {}
     for constant in constants:
         law, digits = constant.law()
-        path = f"../crates/{constant.crate}/src/laws.rt"
-        yield f"| `{constant.name}`: {constant.meaning()} | {digits} | [`{law}` of `{constant.crate}`]({path}) |"
+        laws.setdefault((constant.crate, law), []).append(f"`{constant.name}` {digits}")
+    for (crate, law), numbers in laws.items():
+        yield f"- [`{law}` of `{crate}`](../crates/{crate}/src/laws.rt): {'; '.join(numbers)}."
     listed_types = "; ".join(
         f"{listed([f'`{name}`' for name in names])} of `{crate}`" for crate, names in types.items()
     )
@@ -285,36 +266,31 @@ def belief_beside(title: str, says: str, specs: list[Spec], known: list[Spec]) -
         f"{says} means what {specs[-1].link} says. "
         f"It rests on {shared} of the files above and on the {size_of(more)}, and on no others.\n"
     )
-    yield from in_words(more, specs[-1:])
+    for crate, of_crate in by_crate(more):
+        modules = ", ".join(f"`{spec.module}`" for spec in of_crate)
+        yield f"- of [`{crate}`](../crates/{crate}/specs): {modules}."
+    yield ""
 
 
 def belief_of_printed(known: list[Spec]) -> Iterator[str]:
     """What has to be believed of what is printed, a line for each command."""
     yield "## What you have to believe of what is printed\n"
     yield (
-        "What a command prints means what the first file of its line says. That file rests on files "
-        "above and on those that the line names, and on no others.\n"
+        "What a command prints means what its file says, with what that cites, however far: files above, "
+        "and others of so many lines.\n"
     )
     known = list(known)
     for what, root in PRINTED.items():
         promise = Spec(*root)
-        cited = [spec for spec in closure(promise) if spec not in [*known, promise]]
-        lines = sum(spec.lines() for spec in [*cited, promise])
-        yield f"- {what}: {named([promise, *cited])}; {lines} lines."
-        known += [*cited, promise]
+        more = [spec for spec in closure(promise) if spec not in known]
+        lines = sum(spec.lines() for spec in more)
+        yield f"- of {what}: {promise.link} of `{promise.crate}`, {lines:,} lines in {counted(len(more), 'file')}."
+        known += more
     yield ""
 
 
-def named(specs: list[Spec]) -> str:
-    """The names of files, the first one with a link: those of a crate together, and crates that have
-    files of one name alone."""
-    crates: dict[str, list[str]] = {}
-    for spec in specs[1:]:
-        crates.setdefault(f"`{spec.module}`", []).append(f"`{spec.crate}`")
-    modules: dict[str, list[str]] = {f"`{specs[0].crate}`": [specs[0].link]}
-    for module, owners in crates.items():
-        modules.setdefault(listed(owners), []).append(module)
-    return "; ".join(f"{listed(names)} of {owners}" for owners, names in modules.items())
+def counted(number: int, what: str) -> str:
+    return f"{number} {what}{'s' * (number != 1)}"
 
 
 def listed(words: list[str]) -> str:
@@ -322,24 +298,22 @@ def listed(words: list[str]) -> str:
     return " and ".join(filter(None, [", ".join(words[:-1]), words[-1]]))
 
 
-def in_words(specs: list[Spec], whole: list[Spec]) -> Iterator[str]:
-    """What files of definitions are about, by crate; of these `whole` ones with their records."""
-    crate = None
-    for spec in specs:
-        if spec.crate != crate:
-            yield from [""] * (crate is not None)
-            crate = spec.crate
-            yield f"### Of [`{crate}`](../crates/{crate}/specs)\n"
-        yield spec.about()
-        if spec in whole:
-            yield from spec.records()
-    yield ""
+def in_words(specs: list[Spec]) -> Iterator[str]:
+    """What files of definitions are about."""
+    for crate, of_crate in by_crate(specs):
+        yield f"Of [`{crate}`](../crates/{crate}/specs):\n"
+        yield from [*(spec.about() for spec in of_crate), ""]
+
+
+def by_crate(specs: list[Spec]) -> Iterator[tuple[str, list[Spec]]]:
+    """Files by crate, the lowest first: so each stands after those that it cites."""
+    for crate in crates():
+        if of_crate := [spec for spec in specs if spec.crate == crate]:
+            yield crate, of_crate
 
 
 OTHERS = """\
-## The other definitions
-
-What refusals are, and how the code keeps things: nothing above rests on any of it. Each crate has its definitions in `specs/`; `specs/Lib.antt` lists the files in the order in which a reader needs them, the public ones first.
+On the other definitions, of refusals and of how the code keeps things, nothing above rests. `specs/Lib.antt` of each crate lists its files in the order in which a reader needs them, the public ones first.
 """
 
 
@@ -352,7 +326,6 @@ def page() -> str:
         *belief_of_code([*accepted, *contract]),
         *belief_of_contract(contract),
         *belief_beside("an agreement", "That a table of directions agrees", agreement, known),
-        HOW_NEAR,
         *belief_of_printed([*known, *agreement]),
     ]
     return "\n".join([INTRODUCTION, *believed, EVERY_READER, OTHERS])

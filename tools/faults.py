@@ -23,13 +23,10 @@ HEADINGS = [
     ("", "Of the run"),
 ]
 
-# What stands in quotes; an apostrophe, or a quote that is meant itself, opens none.
-QUOTED = re.compile(r"(?<!\w)'(\S[^']*)'(?!\w)")
-
 INTRODUCTION = """\
 # Faults
 
-A refusal is one line on standard error, and names the first fault: `refused: block 4: TwoC`. Each fault is explained here as `station_check explain FAULT` does; `station_check explain` lists all names. `docs/FORMATS.md` says exactly when each fault comes, and which comes first. This page is made by `tools/faults.py` from what the program prints.
+A refusal is one line on standard error, and names the first fault: `refused: block 4: TwoC`. This is what each means, as `station_check explain` lists them. `station_check explain FAULT`, or the whole line of a refusal after `explain`, says when the fault comes, with an example, and what to do; so does the page in a browser at a refusal, in English, German and French. [FORMATS](FORMATS.md) says exactly when each comes, and which comes first; [the guide](GUIDE.md#when-it-is-refused) has the way on from those of `mark`. This page is made by `tools/faults.py` from what the program prints.
 """
 
 
@@ -84,22 +81,17 @@ def sentence(text: str) -> str:
     return f"{text[0].upper()}{text[1:]}."
 
 
-def one_line(text: str) -> str:
-    return text.replace("\n", " ")
-
-
 def guide_page(program: Path) -> str:
-    parts, heading = [INTRODUCTION], None
+    """The page: each fault with its meaning, below what it is a fault of."""
+    groups: dict[str, list[str]] = {}
     for fault in explanations(program):
-        if fault.heading() != heading:
-            heading = fault.heading()
-            parts.append(f"## {heading}\n")
         names = ", ".join(f"`{name}`" for name in fault.names)
-        text = QUOTED.sub(r"`\1`", one_line(fault.when))
-        remedy = QUOTED.sub(r"`\1`", one_line(fault.remedy))
-        parts.append(f"### {names}\n\n{sentence(fault.meaning)}\n\n{text}\n")
-        parts.append(f"```\n{fault.example}\n```\n\nWhat to do: {remedy}\n")
-    return "\n".join(parts)
+        groups.setdefault(fault.heading(), []).append(f"- {names}: {sentence(fault.meaning)}")
+    return "\n".join([INTRODUCTION, *(f"## {heading}\n\n{lines(rows)}" for heading, rows in groups.items())])
+
+
+def lines(rows: list[str]) -> str:
+    return "".join(f"{row}\n" for row in rows)
 
 
 def main() -> None:

@@ -176,7 +176,9 @@ class DistTest(ProgramTest):
         for name in ["README.md", "PROVED", "docs/GUIDE.md", "examples/adjust.py", "copyright", "changelog.gz"]:
             self.assertTrue((root / "usr/share/doc/station-check" / name).exists(), name)
             self.assertTrue((root / "usr/share/doc/station_check" / name).exists(), name)
-        self.assertIn("Depends: libc6 (>= 2.", (root / "DEBIAN/control").read_text())
+        control = (root / "DEBIAN/control").read_text()
+        self.assertIn("Depends: libc6 (>= 2.", control)
+        self.assertIn(f"\nMaintainer: {(ROOT / 'packaging' / 'maintainer').read_text()}", control)
 
     def test_lintian_has_no_error_and_no_warning(self):
         if not shutil.which("lintian"):

@@ -57,7 +57,7 @@ LIBRARY_SOURCES = {
 LIBRARY_NAME, LIBRARY_LINK = "lib/libstation_check.so.1", "lib/libstation_check.so"
 
 # A link to a file of the sources, which are not installed.
-TO_SOURCES = re.compile(r"\[([^][]*)\]\((?:\.\./)*(?:(?:crates|conformance|page|tests)/[^)]*|HANDLES|crates\.txt)\)")
+TO_SOURCES = re.compile(r"\[([^][]*)\]\((?:\.\./)*(?:(?:bench|conformance|crates|page|tests)/[^)]*|HANDLES|crates\.txt)\)")
 LINK = re.compile(r"\]\(([^)#:]+)(?:#[^)]*)?\)")
 
 OPTIONS = re.compile(r"--[a-z-]+")

@@ -1,7 +1,7 @@
 """What README.md, the guide and the pages beside it show is what the program does: each command that
 they show, in one copy of examples/; the faults and options of the guide's table of refusals; the
-numbers of the table of rounding, by `compare` itself; the links of all pages; the picture of the
-crates, and the files to which a change goes; the limits of the library; the table of tests. And that
+numbers of the table of rounding, by `compare` itself; the bounds in the formats; the links of all pages; the picture of the
+crates, and the files to which a change goes; the limits of the library; the heads of tests. And that
 the proof of `find` alone opens the seal of what the solver said."""
 
 import ast
@@ -23,6 +23,15 @@ GUIDE = ROOT / "docs" / "GUIDE.md"
 FORMATS = ROOT / "docs" / "FORMATS.md"
 FAULTS = ROOT / "docs" / "FAULTS.md"
 TABLES = ROOT / "docs" / "TABLES.md"
+
+# The bounds that a reader of the formats meets, as the laws of these crates have them in digits; and
+# how the page writes a power of ten.
+BOUNDED = ["adjust_kernel", "direction_table", "gsi_file", "gsi_word", "set_marks", "sheet_format", "station_book"]
+BOUND = re.compile(r"ensures \w+ \{ ((?:LONGEST|LARGEST|MOST|USUAL|TURN)\w*) ≡ (?:pos )?([\d_]+) \}")
+POWER = re.compile(r"10(0+)")
+
+# Bounds of what nobody reads or writes: of numbers within the program.
+WITHIN = {"LONGEST_FAULT_NAME", "LARGEST_RESIDUAL"}
 
 # A row of the page of tables: how directions are printed, what rounding explains in mgon, the limit if
 # none is stated, and the least to state. A second of arc and a degree have so many mgon.
@@ -53,6 +62,7 @@ LINKED = [
     ROOT / "README.md",
     *sorted(ROOT.glob("docs/*.md")),
     *sorted(ROOT.glob("crates/*/README.md")),
+    ROOT / "bench" / "MEASURED.md",
     ROOT / "conformance" / "README.md",
     ROOT / "examples" / "README.md",
     ROOT / "page" / "README.md",
@@ -80,12 +90,6 @@ OF_THE_SYSTEM = re.compile(
 NAMES_ONE = ["OfRead<R>", "use std::io::{self, Read};", "use std::{alloc::Global, fs};", "io::stdin()"]
 NAMES_NONE = ["use std::io::{BufWriter, Write};", "use std::alloc::Global;", "FileKind::Read", "read_whole(r)"]
 AT_THE_EDGE = ["byte_ends", "command_run/src/host.rt", "station_program/src/main.rt"]
-
-# What each crate's page says is trusted: no list of libraries, which would have to follow crates.txt.
-TRUSTED_BY_EACH = (
-    "## Trusted\n\nThe toolchain, with [its contracts](../../README.md#what-is-trusted) of std "
-    "and of the libraries that this crate and those below it call."
-)
 
 # A part of what is trusted, and how many lines it has.
 PART = re.compile(r"^\| \[`[\w.]+`\]\(([\w./]+)\): .* \| (\d+) \|$", re.MULTILINE)
@@ -127,7 +131,7 @@ class PagesTest(TimedTest):
         of_mark = set(re.findall(r"`([A-Z]\w+)`", " ".join(re.findall(r"^\| (`.*?) \|", section, re.MULTILINE))))
         self.assertGreater(len(of_mark), 20)
         self.assertEqual(set(), of_mark - faults - OF_A_READING)
-        explained = set(re.findall(r"`(\w+)`", " ".join(re.findall(r"^### (.*)$", FAULTS.read_text(), re.MULTILINE))))
+        explained = set(re.findall(r"`(\w+)`", " ".join(re.findall(r"^- (.*?):", FAULTS.read_text(), re.MULTILINE))))
         self.assertEqual(set(), faults - explained)
         sys.path.insert(0, str(ROOT / "examples"))
         help_of_prepare = importlib.import_module("prepare").command_line().format_help()
@@ -154,6 +158,17 @@ class PagesTest(TimedTest):
                 flags = ["--degrees"] if "degrees" in printed else []
                 answer = answer_of(["compare", *flags, EXAMPLE, "S1", "/dev/stdin"], text.encode())
                 self.assertIn(f"limit {limit} mgon", (answer[1] + answer[2]).decode())
+
+    def test_the_formats_have_each_bound_of_the_code(self):
+        text = FORMATS.read_text()
+        laws = "".join((ROOT / "crates" / crate / "src" / "laws.rt").read_text() for crate in BOUNDED)
+        bounds = [(name, int(digits)) for name, digits in BOUND.findall(laws) if name not in WITHIN]
+        self.assertGreater(len(bounds), 20)
+        for name, bound in bounds:
+            with self.subTest(name):
+                power = POWER.fullmatch(str(bound))
+                forms = [str(bound), f"{bound:,}", *([f"10^{len(power[1]) + 1}"] if power else [])]
+                self.assertRegex(text, rf"(?<![\d,^])(?:{'|'.join(map(re.escape, forms))})(?!,?\d)")
 
     def test_the_time_of_the_gate_is_one(self):
         if measured := gate.MEASURED.search(TESTS.read_text()):
@@ -202,13 +217,10 @@ class PagesTest(TimedTest):
                 with self.subTest(crate):
                     self.assertEqual(1, len(re.findall(rf"^.{{15}}{crate} ", picture, re.MULTILINE)))
 
-    def test_the_table_of_tests_names_each_of_them(self):
-        named = re.findall(r"`(test_\w+\.py)`", TESTS.read_text())
-        files = [*(ROOT / "tests" / "cli").glob("test_*.py")]
-        self.assertEqual(sorted(path.name for path in files), sorted(named))
-        for path in [*files, *(ROOT / "tests" / "page").glob("test_*.py")]:
+    def test_the_head_of_each_file_of_tests_says_what_it_runs(self):
+        for path in ROOT.glob("tests/*/test_*.py"):
             with self.subTest(path.name):
-                self.assertTrue(ast.get_docstring(ast.parse(path.read_text())), "its head says what it runs")
+                self.assertTrue(ast.get_docstring(ast.parse(path.read_text())))
 
     def test_the_seal_of_the_solver_is_opened_by_its_own_proof_alone(self):
         """The prover lets any proof open it, or cite the solver's proofs: so nothing else may."""
@@ -234,11 +246,12 @@ class PagesTest(TimedTest):
                     code = re.sub(r"//.*", "", path.read_text())
                     self.assertIsNone(OF_THE_SYSTEM.search(code))
 
-    def test_the_page_of_each_crate_says_what_is_trusted(self):
+    def test_the_page_of_each_crate_says_what_is_proved(self):
         for page in ROOT.glob("crates/*/README.md"):
-            if not page.parent.name.startswith("test"):
-                with self.subTest(page.parent.name):
-                    self.assertIn(TRUSTED_BY_EACH, page.read_text())
+            crate = page.parent.name
+            if not crate.startswith("test"):
+                with self.subTest(crate):
+                    self.assertRegex(page.read_text(), rf"\A# `{crate}`: .*\n(.*\n)*\n## Proved")
 
     def test_the_lines_of_what_is_trusted_are_counted(self):
         parts = PART.findall(TRUSTED.read_text())

@@ -8,8 +8,8 @@ from program import ROOT, TimedTest
 
 REFUSALS = ROOT / "page" / "refusals"
 
-# A page of all explanations, made of what the program prints: the first name of each stands here.
-EXPLAINED = re.compile(r"^### `([\w ]+)`", re.MULTILINE)
+# The page of all faults, made of what the program prints: the first name of each stands here.
+EXPLAINED = re.compile(r"^- `([\w ]+)`", re.MULTILINE)
 
 # The languages, of which English says what a fault is in the words of the program.
 LANGUAGES = {"en": {"todo"}, "de": {"what", "todo"}, "fr": {"what", "todo"}}
