@@ -349,6 +349,8 @@ export async function makeCards(inputs, limits, cards, told) {
       const mine = cards.filter(one => one.field === card.field).length;
       const isFew = card.field && mine * card.field.bytes.length <= MOST_READ;
       if (isFew || card.answers.length > 0) await judge(card, limits);
+      // (of several cards there is a table, which has the standard deviations)
+      if (isFew && card.station && cards.length > 1) await reportOf(card.station, limits);
     }
   } catch (error) {
     leave(left, cards, read(), stations());
@@ -451,6 +453,13 @@ async function residualsOf(/** @type {Station} */ station, /** @type {Limits} */
   return station.residuals;
 }
 
+/** The report of a station: asked for once. */
+async function reportOf(/** @type {Station} */ station, /** @type {Limits} */ limits) {
+  const faces = ['twoC', 'twoI'], { name } = station.field;
+  station.report ??= await answerOfStation('report', station, faces, limits, name);
+  return station.report;
+}
+
 /**
  * The results of a station: asked for when they are first shown.
  * @param {Card} card
@@ -460,6 +469,6 @@ async function residualsOf(/** @type {Station} */ station, /** @type {Limits} */
 export async function resultsOf({ station }, limits) {
   const faces = ['twoC', 'twoI'];
   const directions = await answerOfStation('directions', station, [...faces, 'decimals'], limits);
-  const report = await answerOfStation('report', station, faces, limits, station.field.name);
+  const report = await reportOf(station, limits);
   return { directions, residuals: await residualsOf(station, limits), report };
 }

@@ -170,18 +170,18 @@ def packed(data: bytes) -> str:
 
 
 def stored(texts: dict[str, dict[str, str]]) -> dict[str, Any]:
-    """What the page has beside the module: these texts of other languages, the texts of faults by
-    their languages, and the files of its example."""
+    """What the page has beside the module: its texts, those of faults by their languages, the files
+    of its example, and the script of the worker."""
     refusals = {path.stem: json.loads(path.read_text()) for path in REFUSALS}
     example = {path.name: path.read_bytes().decode() for path in EXAMPLE}
-    return {"texts": texts, "refusals": refusals, "example": example}
+    calls = scripts.dense(scripts.joined(scripts.SCRIPTS["calls"]))
+    return {"texts": texts, "refusals": refusals, "example": example, "calls": calls}
 
 
 def page(module: bytes) -> str:
     """The text of the page around a module, with its style and its scripts in it."""
     script, texts = scripts.apart(scripts.joined(scripts.SCRIPTS["page"]))
     whole = scripts.filled((HERE / "station_check.html").read_text(), {
-        "calls": scripts.dense(scripts.joined(scripts.SCRIPTS["calls"])),
         "page": scripts.dense(script),
         "style": scripts.styled("page"),
         "MODULE": packed(module),

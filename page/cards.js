@@ -10,11 +10,12 @@ import {
   waitingText,
 } from './headlines.js';
 import { LIMITS, commandOf } from './limits.js';
+import { MOODS } from './overview.js';
 import { mgonOf } from './numbers.js';
 import { pictureFile } from './picture.js';
 import { placeOf } from './place.js';
 import { nameOfProtocol, protocolFile } from './protocol.js';
-import { isComplete, residualsIn } from './records.js';
+import { deviationIn, isComplete, residualsIn } from './records.js';
 import { showExplanation, showFault, showMeaning, showPlace } from './refusals.js';
 import { showResultsInTurn } from './results.js';
 import { facesFile } from './tables.js';
@@ -38,8 +39,6 @@ import { text } from './texts.js';
  * Gives what is in a file that can be saved; nothing where there is none, and it is said why.
  * @typedef {() => string | null | Promise<string | null>} Content
  */
-
-const MOODS = { good: 'moodGood', bad: 'moodBad', read: 'moodRead', open: 'moodOpen' };
 
 // ---------------------------------------------------------------- an answer
 
@@ -146,7 +145,8 @@ function showButtons(card, desk, parent) {
     const { line } = results.residuals, title = text('residualsOf', { name });
     const origin = [field.name, text('digest', { digest: field.digest })];
     offer('saveResiduals', `${name}_residuals.csv`, () => `${line}\n`);
-    const picture = () => pictureFile(title, origin, residualsIn(line));
+    const { report } = results, deviation = report.status === ACCEPTED ? deviationIn(report.line) : '';
+    const picture = () => pictureFile(title, origin, residualsIn(line), deviation);
     offer('savePicture', `${name}_residuals.svg`, picture, 'image/svg+xml');
   }
   if (results.report.status === ACCEPTED) {
@@ -435,6 +435,7 @@ function showDigests(/** @type {Card} */ card, /** @type {Element} */ parent) {
  */
 export function showCard(card, desk, isFew, parent) {
   const part = element('article', '', parent, { className: `card ${card.mood}` });
+  part.dataset.key = `${originalOf(card.file).shown} ${card.title}`;
   const head = element('header', '', part);
   element('span', text(MOODS[card.mood]), head, { className: 'mood' });
   part.setAttribute('aria-label', titleOf(card));

@@ -71,7 +71,7 @@ function cellOf(/** @type {Cell} */ { text: content, mark = '', bar }, /** @type
 }
 
 /**
- * A table with these headings and rows, whose first cells are headings too. It can be scrolled
+ * Makes a table with these headings and rows, whose first cells are headings too. It can be scrolled
  * where it is wider than the page.
  * @param {string} caption
  * @param {string[]} headings
@@ -89,6 +89,7 @@ export function tableOf(caption, headings, rows, parent, className = '') {
     element('th', first, row, { scope: 'row' });
     for (const cell of cells) cellOf(cell, row);
   }
+  return table;
 }
 
 /**

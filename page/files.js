@@ -13,20 +13,21 @@ import { each, recordsOf } from './records.js';
  * begin stations, `again` what a name that comes again is; `others` says whether stations that
  * aren't recognized stay outside.
  * `opened` says of the stations of a field file by their names whether the user opened or closed
- * their results. The digest is there once the file was judged.
+ * their results, and `unfolded` has those whose readings are. The digest is there once the file was
+ * judged.
  * @typedef {{ name: string, shown: string, bytes: Uint8Array, kind: Kind, digest: string,
  *   choice?: { field: Input, name: string }, station?: string, typed?: string, original?: Input,
  *   numbers?: Map<string, Numbers>, typing?: Map<string, Record<string, string>>, code?: string,
  *   typedCode?: string, again?: Again, others?: boolean,
- *   opened?: Map<string, boolean> }} Input
+ *   opened?: Map<string, boolean>, unfolded?: Set<string> }} Input
  * How many sets were read to the end at a station, and how many targets they have: each 0 where it
  * is not stated.
  * @typedef {{ sets: number, targets: number }} Numbers
  * What a station is whose name comes again: the same set-up, whose readings go on, or another one.
  * @typedef {'same' | 'another'} Again
- * A station of a field file, with its residuals once they were asked for.
+ * A station of a field file, with its residuals and its report once they were asked for.
  * @typedef {{ field: Input, listed: import('./records.js').Listed,
- *   residuals?: import('./answers.js').Answer }} Station
+ *   residuals?: import('./answers.js').Answer, report?: import('./answers.js').Answer }} Station
  */
 
 /** So many bytes at the beginning of a file tell what it is. */

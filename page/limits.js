@@ -83,6 +83,12 @@ export function limitsLine(limits, { residual, within }) {
   return names.map(name => text(name, numbers)).join(', ');
 }
 
+/** A limit as the program takes it: in mgon, where it is one. */
+function statedOf(/** @type {string} */ name, /** @type {number} */ units) {
+  const { per } = LIMITS[name];
+  return per === 1 ? String(units) : `${mgonOf(units, per)}mgon`;
+}
+
 /**
  * The command that answers the same. The residual limit is always stated, the others where they are
  * not the usual ones.
@@ -96,7 +102,7 @@ export function commandOf(command, names, limits, operands, more = []) {
   const isStated = (/** @type {string} */ name) =>
     name === 'residual' || limits[name] !== LIMITS[name].usual;
   const options = names.filter(isStated)
-    .flatMap(name => [`--${LIMITS[name].id}`, String(limits[name])]);
+    .flatMap(name => [`--${LIMITS[name].id}`, statedOf(name, limits[name])]);
   const rest = operands.some(word => word.startsWith('-')) ? ['--'] : [];
   const words = [...options, ...more.map(quoted), ...rest, ...operands.map(quoted)];
   return ['station_check', command, ...words].join(' ');

@@ -1,12 +1,15 @@
 // What the user does: files come in, limits are stated, and each time the cards are made anew.
 import { judge, makeCards, resultsOf } from './answers.js';
 import { showCard } from './cards.js';
-import { button, element } from './elements.js';
+import { button, element, save } from './elements.js';
 import { isChosen, isUsed, kindOf, originalOf, placeName, tellApart } from './files.js';
 import { kindText, saidOfCard, titleOf } from './headlines.js';
 import { limitsLine, limitsNow, LIMITS, showLimit, wrongLimit } from './limits.js';
 import { recallNotes } from './notes.js';
-import { besideOf, nameOfProtocol, showProtocol, showProtocols } from './protocol.js';
+import { overviewTable } from './overview.js';
+import {
+  besideOf, nameOfProtocol, protocolsFile, showProtocol, showProtocols,
+} from './protocol.js';
 import { exampleFiles, readTexts } from './stored.js';
 import { LANGUAGES, languageOf, speak, spoken, text } from './texts.js';
 import { Stopped, start, stop } from './work.js';
@@ -86,6 +89,12 @@ const SUMMARIES = {
   bad: 'summaryBad', open: 'summaryOpen', read: 'summaryRead', good: 'summaryGood',
 };
 
+/**
+ * In which order the cards stand: first those that are refused, then those that ask for something.
+ * @type {Record<string, number>}
+ */
+const ORDER = { bad: 0, open: 1, read: 2, good: 2 };
+
 /** Where a sheet or a table belongs, to be chosen where there are several stations. */
 function showChoice(/** @type {Input} */ input, /** @type {Element} */ parent) {
   const stations = cards.flatMap(card => card.station ?? []);
@@ -110,6 +119,7 @@ function showInputs() {
   $('inputs').textContent = '';
   for (const input of shown) {
     const item = element('li', '', $('inputs'), { className: isUsed(input) ? '' : 'unused' });
+    item.dataset.key = input.shown;
     element('span', input.shown, item, { className: 'name' });
     element('span', kindText(input), item, { className: 'kind' });
     showChoice(input, item);
@@ -129,13 +139,14 @@ function showInputs() {
 // ---------------------------------------------------------------- the keyboard's place
 
 /** The kinds of parts that are drawn anew, and what the keyboard reaches in them. */
-const PARTS = ['#inputs > li', '#answers > .card'], REACHED = 'button, input, select, summary';
+const PARTS = ['#inputs > li', '#answers > .card', '#overview'];
+const REACHED = 'button, input, select, summary';
 const RESULT = '.results > :not(summary), .results > :not(summary) *';
 
 /**
- * Where the keyboard is: in the nth part of a kind, within its results or not, at the nth of what
- * it reaches there; nowhere once it is turned to something else.
- * @type {{ kind: string, part: number, isResult: boolean, at: number } | null}
+ * Where the keyboard is: in the nth part of a kind, which has a key by which it is known, within its
+ * results or not, at the nth of what it reaches there; nowhere once it is turned to something else.
+ * @type {{ kind: string, part: number, key?: string, isResult: boolean, at: number } | null}
  */
 let inHand = null;
 for (const turned of ['focusin', 'pointerdown'])
@@ -150,24 +161,31 @@ const reachedIn = (part, isResult) =>
   /** @type {HTMLElement[]} */ ([...part?.querySelectorAll(REACHED) ?? []])
     .filter(one => one.matches(RESULT) === isResult);
 
+/** All parts of a kind. */
+const partsOf = (/** @type {string} */ kind) =>
+  /** @type {HTMLElement[]} */ ([...document.querySelectorAll(kind)]);
+
 /** Keeps in mind where the keyboard is, before all is drawn anew. */
 function keepFocus() {
   const here = /** @type {HTMLElement} */ (document.activeElement);
   for (const kind of PARTS) {
-    const parts = [...document.querySelectorAll(kind)];
-    const part = parts.findIndex(one => one.contains(here));
+    const parts = partsOf(kind), part = parts.findIndex(one => one.contains(here));
     for (const isResult of [true, false]) {
       const at = reachedIn(parts[part], isResult).indexOf(here);
-      if (at >= 0) inHand = { kind, part, isResult, at };
+      if (at >= 0) inHand = { kind, part, key: parts[part].dataset.key, isResult, at };
     }
   }
 }
 
-/** Leaves the keyboard where it was, or at the part before, as soon as that is there. */
+/**
+ * Leaves the keyboard in the part where it was, or in the one that has its place, as soon as that is
+ * there.
+ */
 function giveFocus() {
   if (!inHand || document.activeElement !== document.body) return;
-  const { kind, part, isResult, at } = inHand, parts = [...document.querySelectorAll(kind)];
-  reachedIn(parts[part] ?? parts.at(-1), isResult)[at]?.focus({ preventScroll: true });
+  const { kind, part, key, isResult, at } = inHand, parts = partsOf(kind);
+  const here = parts.find(({ dataset }) => key && dataset.key === key) ?? parts[part] ?? parts.at(-1);
+  reachedIn(here, isResult)[at]?.focus({ preventScroll: true });
 }
 
 /** Shows all that is known, and leaves the keyboard where it was. */
@@ -183,13 +201,18 @@ function draw() {
   /** @type {(selector: string) => NodeListOf<HTMLElement>} */
   const all = selector => document.querySelectorAll(selector);
   for (const part of all('[data-text]'))
-    part.textContent = text(part.dataset.text, { ...$('made').dataset });
+    part.textContent = text(part.dataset.text, { ...$('made').dataset }) || part.textContent;
   for (const part of all('[data-label]'))
     part.setAttribute('aria-label', text(part.dataset.label));
   for (const part of all('[data-placeholder]'))
     part.setAttribute('placeholder', text(part.dataset.placeholder));
   $('in-force').textContent = limitsLine(limits, { residual: true, within: true });
   showInputs();
+  $('several').hidden = cards.length < 2;
+  $('overview').textContent = '';
+  const lead = (/** @type {Card} */ card, /** @type {Element} */ head) =>
+    button(card.title, head, () => leadTo(card), 'to name');
+  if (cards.length > 1) overviewTable(cards, lead, $('overview'));
   $('answers').textContent = '';
   $('answers').className = cards.length > FEW ? 'many' : '';
   for (const card of cards) showCard(card, desk, cards.length <= FEW, $('answers'));
@@ -271,6 +294,7 @@ async function checkAll() {
   tell(() => say('quiet', text('checking')));
   const isDone = await worked(() => makeCards(inputs, limits, made, told));
   if (mine !== state) return;
+  made.sort((one, other) => ORDER[one.mood] - ORDER[other.mood]);
   show();
   if (isDone) tell(sayHow);
 }
@@ -281,6 +305,23 @@ async function checkAgain(/** @type {Input} */ field) {
   // (all cards are new, and the one that was worked at may have been far below)
   const first = cards.find(card => card.field && originalOf(card.field) === field);
   if (first) leadTo(first);
+}
+
+/** Has the results of all stations at hand; answers whether it came to its end. */
+async function loadAll() {
+  const left = cards.filter(card => card.station && !card.results), all = left.length;
+  const isDone = await worked(async () => {
+    for (const [nth, card] of left.entries()) {
+      told(nth + 1, all, card.title);
+      card.results = await resultsOf(card, limits);
+      await judge(card, limits);
+    }
+  });
+  if (!isDone || all === 0) return isDone;
+  // (what the residuals say changes the cards and what is said of all)
+  show();
+  tell(sayHow);
+  return true;
 }
 
 /** What the cards ask of the page. */
@@ -384,6 +425,7 @@ async function add(/** @type {Iterable<File>} */ given) {
   const files = Array.from(given);
   if (files.length === 0) return;
   busy(true);
+  await worded;
   const read = await Promise.all(files.map(inputOf));
   const isGone = (/** @type {Input} */ one) => read.some(more => more.name === one.name);
   replaced = inputs.filter(isGone).map(one => one.shown);
@@ -423,6 +465,12 @@ $('remove-all').onclick = () => {
 };
 $('stop').onclick = () => stop();
 $('again').onclick = () => checkAll();
+$('print-all').onclick = async () => { if (await loadAll()) window.print(); };
+$('save-all').onclick = async () => {
+  if (!await loadAll()) return;
+  const whole = protocolsFile(inputs, cards, limits, $('verdict').textContent);
+  save('station_check_protocols.html', whole, 'text/html');
+};
 for (const name of Object.keys(LIMITS)) {
   showLimit(name);
   $(LIMITS[name].id).onchange = () => checkAll();
@@ -442,7 +490,7 @@ speak(languageOf(navigator.languages));
 languages.value = spoken();
 recallNotes();
 limits = limitsNow();
-show();
 tell(() => say('quiet', text('gettingReady')));
-worked(async () => { await Promise.all([start(), readTexts().then(show)]); })
-  .then(isReady => isReady && checkAll());
+/** Comes when the texts are at hand; where they can't be unpacked the worker can't either. */
+const worded = readTexts().then(show, () => {});
+worked(async () => { await Promise.all([start(), worded]); }).then(isReady => isReady && checkAll());

@@ -19,9 +19,9 @@ import { signedNumeral, text } from './texts.js';
  * @typedef {{ title: string, heading: string, strips: Strip[],
  *   levelOf: (row: Residual) => number }} Panel
  * What all panels of a picture share, so that one below another can be compared: their width; the
- * greatest size of a residual, and the step and the end of the axis, in 0.001 mgon; and where so
- * many of these stand.
- * @typedef {{ width: number, greatest: number, step: number, end: number,
+ * greatest size of a residual, the standard deviation, which is 0 where none is known, and the step
+ * and the end of the axis, in 0.001 mgon; and where so many of these stand.
+ * @typedef {{ width: number, greatest: number, deviation: number, step: number, end: number,
  *   x: (units: number) => number }} Axis
  */
 
@@ -59,6 +59,11 @@ const MOST_STRIPS = 30;
 const ROUND_ENDS = [10, 15, 20, 30, 40, 50, 60, 80];
 /** So many residuals of a strip are few. */
 const SPARSE = 12;
+/** Of so many residuals at most each dot says which it is: more would hold the window. */
+const MOST_TOLD = 2000;
+/** So many standard deviations reach the bands behind the dots, and how much of them is seen. */
+const BANDS = [3, 1];
+const SEEN = 0.1;
 
 const INK = 'var(--ink)';
 const QUIET = 'var(--quiet)';
@@ -125,18 +130,25 @@ function panelsOf(/** @type {Residuals} */ { rows, sets, targets }) {
 const greatestUnits = (/** @type {Residuals} */ residuals) =>
   Math.abs(unitsOf(greatestOf(residuals)));
 
-/** What the picture shows, in two sentences. */
-function pictureTexts(/** @type {Residuals} */ residuals) {
+/**
+ * What the picture shows, in sentences.
+ * @param {Residuals} residuals
+ * @param {string} deviation
+ */
+function pictureTexts(residuals, deviation) {
   const { set, target, residual } = greatestOf(residuals), size = signedNumeral(residual);
   const greatest = sizeOf(residual) === 0
     ? text('pictureZero', { size }) : text('pictureGreatest', { size, set, target });
-  return [text('pictureHow'), greatest];
+  const bands = sizeOf(deviation) > 0 ? [text('pictureBands', { size: deviation })] : [];
+  return [text('pictureHow'), ...bands, greatest];
 }
 
 // ---------------------------------------------------------------- where it stands
 
-/** A residual in 0.001 mgon, as its three decimals say. */
-const unitsOf = (/** @type {Residual} */ { residual }) => Number(residual.replace('.', ''));
+/** A number in 0.001 mgon, as its three decimals say. */
+const thousandthsIn = (/** @type {string} */ number) => Number(number.replace('.', ''));
+
+const unitsOf = (/** @type {Residual} */ { residual }) => thousandthsIn(residual);
 
 /** The end of the axis, in 0.001 mgon: the least round number that is not below the greatest. */
 function endOf(/** @type {number} */ greatest) {
@@ -157,17 +169,19 @@ function stepTo(/** @type {number} */ end, /** @type {number} */ most) {
  * The axis of panels of this width, between the names and the numbers of their strips.
  * @param {Panel[]} panels
  * @param {number} greatest
+ * @param {string} deviation
  * @param {number} width
  * @returns {Axis}
  */
-function axisOf(panels, greatest, width) {
+function axisOf(panels, greatest, deviation, width) {
   const names = panels.flatMap(({ heading, strips }) =>
     [heading, ...strips.map(({ name }) => name)]);
   const longest = Math.max(...names.map(name => name.length));
   const left = GAP + longest * ADVANCE + EDGE, right = width - GAP - NUMBER - EDGE;
   const middle = (left + right) / 2, reach = (right - left) / 2;
   const end = endOf(greatest), step = stepTo(end, Math.floor(reach / STEP));
-  return { width, greatest, step, end, x: units => middle + units / end * reach };
+  const x = (/** @type {number} */ units) => middle + units / end * reach;
+  return { width, greatest, deviation: thousandthsIn(deviation), step, end, x };
 }
 
 // ---------------------------------------------------------------- drawing
@@ -193,20 +207,53 @@ function drawAxis({ width, step, end, x }, heading, bottom, parent) {
 }
 
 /**
- * Dots at these places: lines that are too short to be seen, with round ends.
- * @param {number[][]} places
- * @param {number} size
+ * The bands of the standard deviation and of 3 times that, as far as the axis goes.
+ * @param {Axis} axis
+ * @param {number} bottom
  * @param {Element} parent
  */
-function drawDots(places, size, parent) {
-  const d = places.map(([x, y]) => `M${written(x)} ${written(y)}h.01`).join('');
-  const round = { 'stroke-width': size, 'stroke-linecap': 'round' };
-  shape('path', { d, fill: 'none', stroke: DOT, ...round }, parent);
+function drawBands({ deviation, end, x }, bottom, parent) {
+  for (const times of deviation > 0 ? BANDS : []) {
+    const half = Math.min(times * deviation, end), [left, right] = [x(-half), x(half)];
+    const place = { x: left, y: ABOVE, width: right - left, height: bottom - ABOVE };
+    shape('rect', { ...place, fill: DOT, 'fill-opacity': SEEN }, parent);
+  }
 }
 
-function drawDiamond(/** @type {number[]} */ [x, y], /** @type {Element} */ parent) {
+/** Which residual it is, and how large. */
+function saidOfResidual(/** @type {Residual} */ { set, target, residual }) {
+  const label = text('setAndTarget', { set, target });
+  return text('labelled', { label, said: `${signedNumeral(residual)} mgon` });
+}
+
+/**
+ * Dots at the places of these residuals: lines that are too short to be seen, with round ends. Each
+ * says which it is, where they are not too many for that.
+ * @param {Residual[]} rows
+ * @param {(row: Residual) => number[]} placeOf
+ * @param {number} size
+ * @param {boolean} isTold
+ * @param {Element} parent
+ */
+function drawDots(rows, placeOf, size, isTold, parent) {
+  const round = { 'stroke-width': size, 'stroke-linecap': 'round' };
+  const dots = shape('g', { fill: 'none', stroke: DOT, ...round }, parent);
+  const ways = rows.map(row => `M${placeOf(row).map(written).join(' ')}h.01`);
+  if (!isTold) shape('path', { d: ways.join('') }, dots);
+  else ways.forEach((d, nth) =>
+    shape('title', {}, shape('path', { d }, dots), saidOfResidual(rows[nth])));
+}
+
+/**
+ * A diamond at the place of a residual, which says which it is.
+ * @param {Residual} row
+ * @param {number[]} place
+ * @param {Element} parent
+ */
+function drawDiamond(row, [x, y], parent) {
   const corners = [[x - DIAMOND, y], [x, y - DIAMOND], [x + DIAMOND, y], [x, y + DIAMOND]];
-  shape('polygon', { points: corners.flat().map(written).join(' '), fill: GREATEST }, parent);
+  const points = corners.flat().map(written).join(' ');
+  shape('title', {}, shape('polygon', { points, fill: GREATEST }, parent), saidOfResidual(row));
 }
 
 /**
@@ -217,12 +264,14 @@ function drawDiamond(/** @type {number[]} */ [x, y], /** @type {Element} */ pare
  * @returns {number} how high it is
  */
 function drawPanel({ heading, strips, levelOf }, axis, parent) {
+  const isTold = strips.flatMap(({ rows }) => rows).length <= MOST_TOLD;
   const { width, greatest } = axis;
   const isGreatest = (/** @type {Residual} */ row) =>
     greatest > 0 && Math.abs(unitsOf(row)) === greatest;
   const topOf = (/** @type {number} */ nth) => ABOVE + nth * STRIP, bottom = topOf(strips.length);
   for (let nth = 0; nth < strips.length; nth += 2)
     shape('rect', { x: 0, y: topOf(nth), width, height: STRIP, fill: STRIPE }, parent);
+  drawBands(axis, bottom, parent);
   drawAxis(axis, heading, bottom, parent);
   strips.forEach(({ name, rows }, nth) => {
     const middle = topOf(nth) + STRIP / 2, most = greatestOf({ rows });
@@ -233,8 +282,8 @@ function drawPanel({ heading, strips, levelOf }, axis, parent) {
     const letters = { y: middle + BELOW, ...look }, number = signedNumeral(most.residual);
     shape('text', { x: GAP, 'font-family': ONE_WIDTH, class: 'name', ...letters }, parent, name);
     shape('text', { x: width - GAP, 'text-anchor': 'end', ...letters }, parent, number);
-    drawDots(others.map(placeOf), isSparse ? LARGE_DOT : SMALL_DOT, parent);
-    for (const row of rows.filter(isGreatest)) drawDiamond(placeOf(row), parent);
+    drawDots(others, placeOf, isSparse ? LARGE_DOT : SMALL_DOT, isTold, parent);
+    for (const row of rows.filter(isGreatest)) drawDiamond(row, placeOf(row), parent);
   });
   return bottom;
 }
@@ -264,10 +313,15 @@ function pictureOf(title, description, width, draw) {
 const widthOf = (/** @type {Element} */ around) =>
   Math.floor(parseFloat(getComputedStyle(around).gridTemplateColumns)) || PRINTED;
 
-/** Shows the panels of the picture, and draws them anew where there is more room or less. */
-export function showPicture(/** @type {Residuals} */ residuals, /** @type {Element} */ parent) {
+/**
+ * Shows the panels of the picture, and draws them anew where there is more room or less.
+ * @param {Residuals} residuals
+ * @param {string} deviation the standard deviation in mgon, where it is known
+ * @param {Element} parent
+ */
+export function showPicture(residuals, deviation, parent) {
   const panels = panelsOf(residuals), greatest = greatestUnits(residuals);
-  const said = pictureTexts(residuals).join(' ');
+  const said = pictureTexts(residuals, deviation).join(' ');
   element('p', said, parent, { className: 'caption' });
   const around = element('div', '', parent, { className: 'picture' });
   let drawn = 0;
@@ -275,7 +329,7 @@ export function showPicture(/** @type {Residuals} */ residuals, /** @type {Eleme
     const width = widthOf(around);
     if (width === drawn) return;
     drawn = width;
-    const axis = axisOf(panels, greatest, width);
+    const axis = axisOf(panels, greatest, deviation, width);
     around.replaceChildren(...panels.map(panel =>
       pictureOf(panel.title, said, width, svg => drawPanel(panel, axis, svg))));
   };
@@ -303,10 +357,11 @@ function inLight(/** @type {Element} */ svg) {
  * @param {string} title
  * @param {string[]} origin
  * @param {Residuals} residuals
+ * @param {string} deviation
  */
-export function pictureFile(title, origin, residuals) {
-  const texts = pictureTexts(residuals), panels = panelsOf(residuals);
-  const axis = axisOf(panels, greatestUnits(residuals), FILED - 2 * MARGIN);
+export function pictureFile(title, origin, residuals, deviation) {
+  const texts = pictureTexts(residuals, deviation), panels = panelsOf(residuals);
+  const axis = axisOf(panels, greatestUnits(residuals), deviation, FILED - 2 * MARGIN);
   const svg = pictureOf(title, texts.join(' '), FILED, whole => {
     let y = MARGIN + LETTER;
     const large = { y, fill: INK, 'font-size': TITLE, 'font-weight': 700 };

@@ -8,6 +8,7 @@ import {
 } from './headlines.js';
 import { limitsLine } from './limits.js';
 import { notes } from './notes.js';
+import { overviewTable } from './overview.js';
 import { showFault, showMeaning } from './refusals.js';
 import { showResults } from './results.js';
 import { spoken, text } from './texts.js';
@@ -178,6 +179,7 @@ export function showProtocol(card, limits, parent, page = '', beside = []) {
   const title = station ? text('protocol', { name: station.listed.name })
     : text('checkOf', { name: card.title });
   if (!isBrief) nameItsPages(part, station ? `${title}, ${card.field.shown}` : title, page);
+  if (page) part.id = page;
   element('h1', title, part);
   const facts = element('dl', '', part, { className: 'facts' });
   showNotes(facts);
@@ -225,6 +227,9 @@ export function showProtocols(inputs, cards, limits, verdict, parent) {
   showNotes(facts);
   showDate(facts);
   row('answer', facts).textContent = verdict;
+  const link = (/** @type {Card} */ card, /** @type {Element} */ head) =>
+    element('a', card.title, head, { href: `#${pageOf(cards.indexOf(card))}` });
+  if (cards.length > 1) overviewTable(cards, link, part);
   const list = element('ul', '', part, { className: 'contents' });
   for (const file of inputs) {
     const item = element('li', '', list);
@@ -233,25 +238,47 @@ export function showProtocols(inputs, cards, limits, verdict, parent) {
       element('div', said, item, { className: `said ${mood}` });
   }
   element('p', text('madeBy', { ...made() }), part, { className: 'quiet foot' });
-  cards.forEach((card, nth) => showProtocol(card, limits, parent, `protocol${nth}`));
+  cards.forEach((card, nth) => showProtocol(card, limits, parent, pageOf(nth)));
 }
+
+/** By what the protocol of the nth card is called, where several stand below each other. */
+const pageOf = (/** @type {number} */ nth) => `protocol${nth}`;
 
 /** What a protocol is called as a file: by its field file and its station. */
 export const nameOfProtocol = (/** @type {Card} */ { field, station, title }) =>
   station ? `${stemOf(originalOf(field))}_${title}` : title;
 
 /**
- * The protocol as a file of its own, with the style of the page.
- * @param {Card} card
- * @param {import('./limits.js').Limits} limits
- * @param {string[]} [beside]
+ * A file of its own of this title, with the style of the page.
+ * @param {string} title
+ * @param {(body: Element) => void} fill
  */
-export function protocolFile(card, limits, beside) {
-  const whole = document.implementation.createHTMLDocument(nameOfProtocol(card));
+function fileOf(title, fill) {
+  const whole = document.implementation.createHTMLDocument(title);
   whole.documentElement.lang = spoken();
   element('meta', '', whole.head).setAttribute('charset', 'utf-8');
   element('style', document.querySelector('style').textContent, whole.head);
   whole.body.className = 'saved';
-  showProtocol(card, limits, whole.body, '', beside);
+  fill(whole.body);
   return `<!doctype html>\n${whole.documentElement.outerHTML}\n`;
 }
+
+/**
+ * The protocol of a card as a file of its own.
+ * @param {Card} card
+ * @param {import('./limits.js').Limits} limits
+ * @param {string[]} [beside]
+ */
+export const protocolFile = (card, limits, beside) => fileOf(nameOfProtocol(card), body =>
+  showProtocol(card, limits, body, '', beside));
+
+/**
+ * The protocols of all cards in one file, after the page that has each file and what came of it.
+ * @param {Input[]} inputs
+ * @param {Card[]} cards
+ * @param {import('./limits.js').Limits} limits
+ * @param {string} verdict
+ */
+export const protocolsFile = (inputs, cards, limits, verdict) =>
+  fileOf(text('contents', { n: inputs.length }), body =>
+    showProtocols(inputs, cards, limits, verdict, body));

@@ -209,6 +209,31 @@ export function accuracyIn(/** @type {string} */ report) {
   return { degrees: Number(degrees), deviation };
 }
 
+/** The standard deviation that a report says, in mgon; empty where there is none. */
+export function deviationIn(/** @type {string} */ report) {
+  const { degrees, deviation } = accuracyIn(report);
+  return degrees > 0 ? deviation : '';
+}
+
+/**
+ * A target that a set reads in both faces, as the report has it: in gon what was read in face I and
+ * in face II, and the mean of both counted from the first row of the set; in mgon 2c and 2i.
+ * @typedef {{ set: string, target: string, one: string, two: string, mean: string, twoC: string,
+ *   twoI: string }} Reading
+ */
+
+/** A row of the readings of a report, of which each column has its width. */
+const READING =
+  /^ *(\d+) {2}(.{16}) +(\d+\.\d{5}) +(\d+\.\d{5}) +(\d+\.\d{6}) +(-?\d+\.\d\d) +(-?\d+\.\d\d)$/gm;
+
+/**
+ * The readings of a report, in its order.
+ * @returns {Reading[]}
+ */
+export const readingsOf = (/** @type {string} */ report) =>
+  [...report.matchAll(READING)].map(([, set, target, one, two, mean, twoC, twoI]) =>
+    ({ set, target: target.trimEnd(), one, two, mean, twoC, twoI }));
+
 // ---------------------------------------------------------------- differences
 
 /**

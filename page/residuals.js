@@ -13,11 +13,11 @@ function showResiduals(/** @type {string} */ name) {
   const residuals = residualsIn(printed.textContent), title = text('residualsOf', { name });
   document.documentElement.lang = spoken();
   document.title = heading.textContent = title;
-  showPicture(residuals, element('section', '', shown, { className: 'across' }));
+  showPicture(residuals, '', element('section', '', shown, { className: 'across' }));
   residualsTable(residuals, element('section', '', shown));
   button(text('print'), buttons, () => print(), 'button primary');
   button(text('savePicture'), buttons, () =>
-    save(`${name}_residuals.svg`, pictureFile(title, [], residuals), 'image/svg+xml'));
+    save(`${name}_residuals.svg`, pictureFile(title, [], residuals, ''), 'image/svg+xml'));
   summary.textContent = text('printed');
   summary.parentElement.removeAttribute('open');
 }

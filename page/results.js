@@ -1,12 +1,12 @@
 // The results of a station, on its card and in its protocol.
 import { ACCEPTED } from './answers.js';
 import { element, ofProgram } from './elements.js';
-import { decimalsIn } from './files.js';
+import { decimalsIn, originalOf } from './files.js';
 import { showPicture } from './picture.js';
-import { accuracyIn, differencesIn, residualsIn } from './records.js';
+import { accuracyIn, deviationIn, differencesIn, readingsOf, residualsIn } from './records.js';
 import { showMeaning } from './refusals.js';
 import {
-  accuracyNote, differencesTable, directionsTable, facesTables, residualsTable,
+  accuracyNote, differencesTable, directionsTable, facesTables, readingsTables, residualsTable,
 } from './tables.js';
 import { text } from './texts.js';
 
@@ -28,16 +28,42 @@ function showRefused(/** @type {Answer} */ answer, /** @type {Element} */ parent
 }
 
 /**
- * A section of the results: its title, what fills it, and how it is laid out.
- * @typedef {{ title: string, fill: (part: Element) => void, className?: string }} Section
+ * A section of the results: its title, what fills it, and how it is laid out; whether the user
+ * unfolded it, where it is folded.
+ * @typedef {{ title: string, fill: (part: Element) => void, className?: string,
+ *   isUnfolded?: boolean, unfold?: (isOpen: boolean) => void }} Section
  */
+
+/**
+ * The readings of a station: folded in the window; on paper they have the face differences too.
+ * @param {Card} card
+ * @param {boolean} isOnPaper
+ * @returns {Section[]}
+ */
+function sectionsOfReadings({ station, results: { report } }, isOnPaper) {
+  /** @type {Section} */
+  const faces = { title: text('faces'), fill: part => facesTables(station, part) };
+  if (report.status !== ACCEPTED) return [faces];
+  const { listed: { name }, field } = station, unfolded = originalOf(field).unfolded ??= new Set();
+  /** @type {Section} */
+  const readings = {
+    title: text('readings'), className: 'across',
+    fill: part => readingsTables(readingsOf(report.line), part),
+  };
+  if (isOnPaper) return [readings];
+  readings.isUnfolded = unfolded.has(name);
+  readings.unfold = isOpen => { if (isOpen) unfolded.add(name); else unfolded.delete(name); };
+  return [faces, readings];
+}
 
 /**
  * The results of a station, section by section.
  * @param {Card} card
+ * @param {boolean} isOnPaper
  * @returns {Section[]}
  */
-function sectionsOf({ station, results, answers }) {
+function sectionsOf(card, isOnPaper) {
+  const { station, results, answers } = card;
   const { directions, residuals, report } = results;
   /** @type {Section[]} */
   const sections = answers.filter(one => one.differences).map(({ differences, other }) => ({
@@ -56,6 +82,7 @@ function sectionsOf({ station, results, answers }) {
   });
   if (residuals.status === ACCEPTED) {
     const read = residualsIn(residuals.line);
+    const deviation = report.status === ACCEPTED ? deviationIn(report.line) : '';
     /** @type {Section} */
     const table = {
       title: text('residuals'),
@@ -66,37 +93,49 @@ function sectionsOf({ station, results, answers }) {
     };
     /** @type {Section} */
     const picture = {
-      title: text('picture'), className: 'across', fill: part => showPicture(read, part),
+      title: text('picture'), className: 'across',
+      fill: part => showPicture(read, deviation, part),
     };
     const isFew = read.sets.length <= FEW_SETS, isBeside = isFew && sections.length === 2;
     if (isBeside) picture.className = 'across stacked';
     sections.push(...isFew ? [table, picture] : [picture, table]);
   }
-  sections.push({ title: text('faces'), fill: part => facesTables(station, part) });
-  return sections;
+  return [...sections, ...sectionsOfReadings(card, isOnPaper)];
 }
 
 /**
- * Shows a section of the results.
+ * Shows a section of the results: one that is folded is filled when it is first unfolded.
  * @param {Section} section
  * @param {Element} parent
  */
-function showSection({ title, fill, className = '' }, parent) {
+function showSection({ title, fill, className = '', isUnfolded, unfold }, parent) {
   const part = element('section', '', parent, { className });
-  element('h3', title, part);
-  fill(part);
+  if (!unfold) {
+    element('h3', title, part);
+    fill(part);
+    return;
+  }
+  const fold = /** @type {HTMLDetailsElement} */ (element('details', '', part));
+  element('h3', title, element('summary', '', fold));
+  const show = () => { if (fold.childElementCount === 1) fill(fold); };
+  fold.open = isUnfolded;
+  if (isUnfolded) show();
+  fold.ontoggle = () => {
+    unfold(fold.open);
+    if (fold.open) show();
+  };
 }
 
-/** Shows the results of a station. */
+/** Shows the results of a station in its protocol. */
 export function showResults(/** @type {Card} */ card, /** @type {Element} */ parent) {
   const around = element('div', '', parent, { className: 'beside' });
-  for (const section of sectionsOf(card)) showSection(section, around);
+  for (const section of sectionsOf(card, true)) showSection(section, around);
 }
 
 /** Shows them one after the other, so that no large station holds the window. */
 export async function showResultsInTurn(/** @type {Card} */ card, /** @type {Element} */ parent) {
   const around = element('div', '', parent, { className: 'beside' });
-  for (const section of sectionsOf(card)) {
+  for (const section of sectionsOf(card, false)) {
     showSection(section, around);
     await new Promise(done => setTimeout(done));
   }

@@ -18,10 +18,10 @@ HERE = Path(__file__).resolve().parent
 SCRIPTS = {
     "calls": ["calls.js", "numbers.js", "packed.js", "records.js", "worker.js"],
     "page": [
-        "texts.js", "numbers.js", "records.js", "files.js", "packed.js", "work.js", "stored.js",
+        "texts.js", "numbers.js", "records.js", "files.js", "packed.js", "stored.js", "work.js",
         "limits.js", "notes.js", "place.js", "answers.js", "elements.js", "tables.js", "picture.js",
-        "faults.js", "headlines.js", "results.js", "refusals.js", "protocol.js", "cards.js",
-        "page.js",
+        "faults.js", "headlines.js", "results.js", "refusals.js", "overview.js", "protocol.js",
+        "cards.js", "page.js",
     ],
     "residuals": [
         "texts.js", "numbers.js", "records.js", "elements.js", "tables.js", "picture.js",
@@ -56,10 +56,10 @@ NAME = re.compile(r"^[$\w]+|(?<=, )[A-Z_]+(?= = )")
 TEXT = re.compile(r"^  (\w+): \{(?:.*\},|\n(?:    .*\n)+  \},)\n", re.MULTILINE)
 WORD = re.compile(r"""['"](\w+)['"]""")
 
-# The words of a text in another language than English; and the texts that are said where nothing can
-# be unpacked, in the language of the reader.
-OTHER = re.compile(r"\s*\b(de|fr): '([^'\n]*)',?")
-AT_ONCE = {"cannotRun", "gettingReady"}
+# The words of a text in each language; and the texts that are said before anything is unpacked, and
+# where nothing can be.
+WORDS = re.compile(r"\b(en|de|fr): '([^'\n]*)'")
+AT_ONCE = {"cannotFinish", "cannotRun", "gettingReady"}
 
 
 def bare(module: str) -> str:
@@ -78,17 +78,18 @@ def joined(modules: list[str]) -> str:
 
 
 def apart(script: str) -> tuple[str, dict[str, dict[str, str]]]:
-    """A script with its texts in English alone, and those of the other languages by their names."""
-    others: dict[str, dict[str, str]] = {}
+    """A script without its texts, but for those that are said at once; and the others by their
+    names."""
+    texts: dict[str, dict[str, str]] = {}
 
-    def english(text: re.Match[str]) -> str:
-        found = OTHER.findall(text[0])
+    def left(text: re.Match[str]) -> str:
+        found = WORDS.findall(text[0])
         if not found or text[1] in AT_ONCE:
             return text[0]
-        others[text[1]] = dict(found)
-        return OTHER.sub("", text[0])
+        texts[text[1]] = dict(found)
+        return ""
 
-    return TEXT.sub(english, script), others
+    return TEXT.sub(left, script), texts
 
 
 def dense(text: str) -> str:

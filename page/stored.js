@@ -1,15 +1,17 @@
 // What stands in the page beside the module, packed too: what is read only after the page is there.
 import { bytesOfBase64, unpacked } from './packed.js';
 import { TEXTS } from './texts.js';
-import { part } from './work.js';
 
 /**
- * The texts of other languages than English by their names, the texts of faults by their languages
- * and names, and the files of the example by theirs.
+ * The texts of the page by their names, the texts of faults by their languages and names, the files
+ * of the example by theirs, and the script of the worker.
  * @typedef {{ texts: Record<string, Record<string, string>>,
  *   refusals: Record<string, Record<string, import('./faults.js').Texts>>,
- *   example: Record<string, string> }} Stored
+ *   example: Record<string, string>, calls: string }} Stored
  */
+
+/** What stands in a part of the page. */
+export const part = (/** @type {string} */ id) => document.getElementById(id)?.textContent ?? '';
 
 /** @type {Promise<Stored> | undefined} */
 let whole;
@@ -22,10 +24,10 @@ async function read() {
 /** All that is stored: unpacked once. */
 export const stored = () => whole ??= read();
 
-/** Has the texts of all languages at hand. */
+/** Has the texts of the page at hand. */
 export async function readTexts() {
   const { texts } = await stored();
-  for (const [name, others] of Object.entries(texts)) Object.assign(TEXTS[name], others);
+  Object.assign(TEXTS, texts);
 }
 
 /** The files of the example, as if they were dropped. */

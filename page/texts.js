@@ -557,6 +557,11 @@ export const TEXTS = {
     de: 'Punkte sind Verbesserungen in mgon, der Reihe nach von oben.',
     fr: 'Points : résidus en mgon, dans l’ordre de haut en bas.',
   },
+  pictureBands: {
+    en: 'Bands: standard deviation s = {size}, and 3 s.',
+    de: 'Bänder: Standardabweichung s = {size} und 3 s.',
+    fr: 'Bandes : écart-type s = {size} et 3 s.',
+  },
   pictureGreatest: {
     en: 'The diamond is the greatest: {size} mgon, set {set}, {target}.',
     de: 'Die Raute ist die größte: {size} mgon, Satz {set}, {target}.',
@@ -584,6 +589,19 @@ export const TEXTS = {
     de: '2i in mgon; der größte Wert, {size}, ist markiert',
     fr: '2i en mgon ; le plus grand, {size}, est marqué',
   },
+  readings: {
+    en: 'Readings in both faces',
+    de: 'Ablesungen in beiden Fernrohrlagen',
+    fr: 'Lectures CG et CD',
+  },
+  readingsCaption: {
+    en: 'In gon, the mean of both faces counted from the first target of its set; 2c and 2i in mgon, the greatest marked',
+    de: 'In gon, das Mittel beider Lagen auf das erste Ziel des Satzes reduziert; 2c und 2i in mgon, die größten markiert',
+    fr: 'En gon, moyenne CG/CD réduite au premier point visé de la série ; 2c et 2i en mgon, les plus grands marqués',
+  },
+  faceOne: { en: 'Face I', de: 'Lage I', fr: 'CG' },
+  faceTwo: { en: 'Face II', de: 'Lage II', fr: 'CD' },
+  mean: { en: 'Mean', de: 'Mittel', fr: 'Moyenne' },
   target: { en: 'Target', de: 'Ziel', fr: 'Point visé' },
   setNumber: { en: 'Set {set}', de: 'Satz {set}', fr: 'Série {set}' },
   setsOf: { en: 'sets {first} to {last}', de: 'Sätze {first} bis {last}', fr: 'séries {first} à {last}' },
@@ -600,6 +618,8 @@ export const TEXTS = {
   saveProtocol: { en: 'Save protocol', de: 'Protokoll speichern', fr: 'Enregistrer le procès-verbal' },
   print: { en: 'Print', de: 'Drucken', fr: 'Imprimer' },
   printProtocol: { en: 'Print protocol', de: 'Protokoll drucken', fr: 'Imprimer le procès-verbal' },
+  printAll: { en: 'Print all protocols', de: 'Alle Protokolle drucken', fr: 'Imprimer tous les procès-verbaux' },
+  saveAll: { en: 'Save all protocols', de: 'Alle Protokolle speichern', fr: 'Enregistrer tous les procès-verbaux' },
   reportLimit: {
     en: 'It was held to {most} mgon, the largest limit of residuals; with yours: {command}',
     de: 'Er gilt für {most} mgon, den größten Grenzwert der Verbesserungen; mit Ihrem: {command}',
@@ -619,9 +639,9 @@ export const TEXTS = {
   },
   handedIn: { en: 'Handed in with it', de: 'Mit übergeben', fr: 'Remis avec' },
   notOpened: {
-    en: 'Directions, residuals and face differences are printed where they were opened.',
-    de: 'Richtungen, Verbesserungen und Differenzen der Fernrohrlagen werden gedruckt, wo sie geöffnet wurden.',
-    fr: 'Les directions, les résidus et les écarts sont imprimés là où ils ont été ouverts.',
+    en: 'Directions, residuals and readings are printed where they were opened, and by “Print all protocols”.',
+    de: 'Richtungen, Verbesserungen und Ablesungen werden gedruckt, wo sie geöffnet wurden, und mit „Alle Protokolle drucken“.',
+    fr: 'Les directions, les résidus et les lectures sont imprimés là où ils ont été ouverts, et par « Imprimer tous les procès-verbaux ».',
   },
   answer: { en: 'Answer', de: 'Ergebnis', fr: 'Résultat' },
   date: { en: 'Date of the check', de: 'Datum der Prüfung', fr: 'Date de la vérification' },
@@ -657,6 +677,16 @@ export const TEXTS = {
     fr: 'station_check, version {commit} ; SHA-256 du module inclus : {digest}.',
   },
   answers: { en: 'Answers', de: 'Ergebnisse', fr: 'Résultats' },
+  overview: {
+    en: 'All stations; greatest residual and standard deviation s of one direction in mgon',
+    de: 'Alle Stationen; größte Verbesserung und Standardabweichung s einer Richtung in mgon',
+    fr: 'Toutes les stations ; plus grand résidu et écart-type s d’une direction en mgon',
+  },
+  stationOrFile: { en: 'Station', de: 'Station', fr: 'Station' },
+  fieldFile: { en: 'Field file', de: 'Messdatei', fr: 'Fichier de terrain' },
+  sets: { en: 'Sets', de: 'Sätze', fr: 'Séries' },
+  greatestResidual: { en: 'Residual', de: 'Verbesserung', fr: 'Résidu' },
+  s: { en: 's', de: 's', fr: 's' },
   about: {
     en: 'About: what is proved, and what isn’t',
     de: 'Über diese Seite: was bewiesen ist und was nicht',
@@ -732,13 +762,13 @@ const NUMBERS = new Set([
 ]);
 
 /**
- * The text of this name, with these values filled in; `n` chooses between one and more. It is
- * English as long as those of other languages are not yet unpacked.
+ * The text of this name, with these values filled in; `n` chooses between one and more. It is empty
+ * as long as the texts are not yet unpacked.
  * @param {string} name
  * @param {Record<string, string | number>} [values]
  */
 export function text(name, values = {}) {
-  const [one, more] = (TEXTS[name][language] ?? TEXTS[name].en).split('|');
+  const [one, more] = (TEXTS[name]?.[language] ?? '').split('|');
   const isOne = more === undefined || new Intl.PluralRules(language).select(Number(values.n)) === 'one';
   return typeset(isOne ? one : more).replace(/\{(\w+)\}/g, (_, word) => {
     const value = String(values[word]);

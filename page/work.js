@@ -1,5 +1,6 @@
 // The page's side of the worker: each call is a promise of its answer, and all can be stopped.
 import { bytesOfBase64 } from './packed.js';
+import { part, stored } from './stored.js';
 
 /**
  * What a call answered: its status, its text, and what it said beside it, where it has two texts.
@@ -9,12 +10,12 @@ import { bytesOfBase64 } from './packed.js';
 /** What a call ends with that was stopped. */
 export class Stopped extends Error {}
 
-/** What stands in a part of the page. */
-export const part = (/** @type {string} */ id) => document.getElementById(id)?.textContent ?? '';
 const bytesOf = (/** @type {string} */ text) => new TextEncoder().encode(text);
 
 /** @type {Worker | null} */
 let worker = null;
+/** The script of the worker, once it is unpacked. */
+let script = '';
 /** @type {Map<number, { resolve: Function, reject: Function }>} */
 const waiting = new Map();
 let count = 0;
@@ -27,9 +28,13 @@ function sent(/** @type {object} */ message) {
   });
 }
 
-/** Starts a worker with the module in it; fails where the browser can't run the module. */
+/**
+ * Starts a worker with the module in it, at once where its script is unpacked; fails where the
+ * browser can't run the module.
+ */
 export async function start() {
-  const address = URL.createObjectURL(new Blob([part('calls')], { type: 'text/javascript' }));
+  script ||= (await stored()).calls;
+  const address = URL.createObjectURL(new Blob([script], { type: 'text/javascript' }));
   worker = new Worker(address);
   worker.onmessage = ({ data: { id, answer, error } }) => {
     const { resolve, reject } = waiting.get(id) ?? {};

@@ -20,9 +20,10 @@ const text = fs.readFileSync(page, 'utf8');
 const part = id => text.match(new RegExp(`<script id="${id}"[^>]*>([^]*?)</script>`))[1];
 
 globalThis.onmessage = null; // what a worker hears by
-vm.runInThisContext(part('calls'));
+const unpacked = id => zlib.gunzipSync(Buffer.from(part(id), 'base64'));
+vm.runInThisContext(JSON.parse(String(unpacked('stored'))).calls);
 const calls = vm.runInThisContext('calls');
-const core = await WebAssembly.compile(zlib.gunzipSync(Buffer.from(part('module'), 'base64')));
+const core = await WebAssembly.compile(unpacked('module'));
 
 const options = { ...DEFAULTS }, operands = [];
 // What is stated to `mark`: texts, of which each stands on a line, and flags.

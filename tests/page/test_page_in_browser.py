@@ -283,7 +283,7 @@ class PageInBrowserTest(TimedTest):
         self.assertLess(page.js("document.querySelector('.headline').getBoundingClientRect().top"), 320)
         self.assertEqual(f"Station P7: {P7_HEADLINE}", page.text("#verdict"))
         self.assertEqual(P7_LINE, page.text(".exact samp"))
-        command = "station_check check --residual 2000 station_p7.gsi station_p7.csv"
+        command = "station_check check --residual 10mgon station_p7.gsi station_p7.csv"
         self.assertEqual(command, page.text(".exact code"))
         digest = hashlib.sha256(P7_FIELD.read_bytes()).hexdigest()
         self.assertIn(digest, page.text(".digests"))
@@ -411,6 +411,25 @@ class PageInBrowserTest(TimedTest):
                     for x, found in zip(expected, drawn):
                         self.assertAlmostEqual(x, found, delta=0.02)
 
+    def test_each_dot_says_which_it_is_and_bands_show_the_standard_deviation(self):
+        page = self.page(P7_FIELD)
+        told = page.js("[...document.querySelector('.results .picture svg').querySelectorAll('path title, polygon title')].map(one => one.textContent)")
+        signed = [one.replace("-", MINUS) if one[0] == "-" else f"+{one}" for _, _, one in self.residuals(page)]
+        labels = [f"set {number}, target {target}" for number, target, _ in self.residuals(page)]
+        self.assertEqual(sorted(f"{label}: {one} mgon" for label, one in zip(labels, signed)), sorted(told))
+        # The axis ends at 0.4 mgon: so far reach three standard deviations of 0.211.
+        axis, _, _ = page.js(PLACES % 0)
+        (_, left), (_, zero), (_, right) = axis[0], axis[2], axis[4]
+        bands = page.js(
+            "[...document.querySelector('.results .picture svg').querySelectorAll('rect[fill-opacity]')]"
+            ".map(one => [one.x.baseVal.value, one.x.baseVal.value + one.width.baseVal.value])"
+        )
+        part = (right - zero) * 0.211 / 0.4
+        for (start, end), half in zip(bands, (right - zero, part), strict=True):
+            self.assertAlmostEqual(zero - half, start, delta=0.05)
+            self.assertAlmostEqual(zero + half, end, delta=0.05)
+        self.assertIn("Bands: standard deviation s = 0.211, and 3 s.", page.text(".across .caption"))
+
     def test_an_axis_has_round_steps_up_to_a_round_end(self):
         """The end is the same in each panel, the steps are as many as there is room for."""
         page = self.page()
@@ -534,9 +553,9 @@ class PageInBrowserTest(TimedTest):
         digests = [hashlib.sha256(data).hexdigest() for data in ((self.folder / "plain.gsi").read_bytes(), copy)]
         for said in [recognized, command, *digests]:
             self.assertIn(said, facts)
-        # Another name may be stated.
+        # Another name may be stated: then the sheet is of no station.
         self.state_name(page, "P70")
-        self.assertEqual(["read", "Station P70"], self.cards(page)[0][:2])
+        self.assertEqual([["bad", "plain.csv"], ["read", "Station P70"]], [card[:2] for card in self.cards(page)])
 
     def test_each_station_of_a_job_is_recognized_by_its_set_up_line(self):
         detail = b"*110062+00000000000000P8 88..10+0000000000001500\n*110063+00000000000000P7 21.322"
@@ -757,7 +776,7 @@ class PageInBrowserTest(TimedTest):
         self.assertTrue(page.text(".todo").startswith("What to do: See below which target stands out"), page.text(".todo"))
         refused = "Refused. The directions are 0.025 mgon apart; the limit is 0.01 mgon."
         self.assertEqual([["bad", "Station P7", refused]], self.cards(page))
-        self.assertEqual("station_check compare --within 10 station_p7.gsi P7 four.csv", page.text(".exact code"))
+        self.assertEqual("station_check compare --within 0.01mgon station_p7.gsi P7 four.csv", page.text(".exact code"))
         self.assertIn("tables within 0.01 mgon", page.text("#in-force"))
 
     def test_the_differences_of_a_table_are_shown_by_target(self):
@@ -897,7 +916,7 @@ class PageInBrowserTest(TimedTest):
         # A table without any target of the stations waits until it has one by choice.
         page.empty()
         page.give(both, self.file("odd.csv", b"X,0\nY,1\n"))
-        self.assertEqual(["open", "odd.csv"], self.cards(page)[2][:2])
+        self.assertEqual(["open", "odd.csv"], self.cards(page)[0][:2])
         self.choose(page, "odd.csv", "job.gsi: S1")
         self.assertEqual("refused: table row 1: Unknown", page.text(".exact samp"))
 
@@ -908,6 +927,32 @@ class PageInBrowserTest(TimedTest):
             page.press(button)
             found = page.wait(IN_HAND)
             self.assertTrue(found[0].endswith(title) and 0 <= found[1] < SCREEN[1] - 100, (button, found))
+
+    def test_a_table_has_each_station_and_what_is_refused_comes_first(self):
+        fault = self.file("fault.gsi", FIELD.read_bytes().replace(b"25000010", b"2500001X", 1))
+        page = self.page(P7_FIELD, P7_SHEET, FIELD, self.plain(), fault)
+        rows = "[...document.querySelectorAll('#overview tr')].map(row => [...row.cells].map(cell => cell.textContent))"
+        none = ["\u2013"] * 5
+        self.assertEqual([
+            ["Station", "Answer", "Residual", "s", "Sets", "Targets", "Field file"],
+            ["fault.gsi", "Refused", *none],
+            ["plain.gsi", "To do", *none],
+            ["P7", "Computed rightly", "0.320", "0.211", "4", "6", P7_FIELD.name],
+            ["S1", "Not compared", "0.005", "0.010", "2", "2", FIELD.name],
+        ], page.js(rows))
+        self.assertEqual(["bad", "open", "good", "read"], [card[0] for card in self.cards(page)])
+        for title in ("S1", "fault.gsi"):
+            page.press(title)
+            self.assertIn(title, page.wait(IN_HAND)[0])
+        # A limit that refuses a station leads it to the front, and leaves the keyboard in its card.
+        page.js("[...document.querySelectorAll('.card')].at(-1).querySelector('.results summary').focus()")
+        page.fill("residual", "0")
+        self.assertEqual(["bad", "bad", "bad", "open"], [card[0] for card in self.cards(page)])
+        self.assertIn("Station S1", page.wait(IN_HAND)[0])
+        self.assertEqual([], page.js(CONTRASTS))
+        page.empty()
+        page.give(FIELD)
+        self.assertEqual("", page.text("#overview"))
 
     def test_a_station_that_was_named_stays_in_sight(self):
         page = self.page(*(self.file(f"{nth}.gsi", FIELD.read_bytes()) for nth in range(9)), self.plain())
@@ -921,8 +966,8 @@ class PageInBrowserTest(TimedTest):
         fields = [self.file(name, FIELD.read_bytes()) for name in ("2026.gsi", "2026.11.GSI")]
         page = self.page(*fields, self.file("2026.11.csv", SHEET.read_bytes()), self.file("week.csv", SHEET.read_bytes()))
         moods = [(card[0], card[1]) for card in self.cards(page)]
-        self.assertEqual([("read", "Station S1"), ("good", "Station S1"), ("open", "week.csv")], moods)
-        self.assertEqual(["2026.gsi", "2026.11.GSI", "week.csv"], page.texts(".card header .name"))
+        self.assertEqual([("open", "week.csv"), ("read", "Station S1"), ("good", "Station S1")], moods)
+        self.assertEqual(["week.csv", "2026.gsi", "2026.11.GSI"], page.texts(".card header .name"))
 
     def test_cancel_empties_nothing_and_a_file_can_be_taken_away(self):
         page = self.page(FIELD, SHEET)
@@ -947,24 +992,27 @@ class PageInBrowserTest(TimedTest):
             paths[-1].write_bytes(data)
         page = self.page(*paths, self.file("t.csv", FOUR_DECIMALS))
         self.assertEqual(["job.gsi (1)", "job.gsi (2)", "t.csv"], page.texts("#inputs .name"))
-        self.assertEqual(["read", "read", "open"], [card[0] for card in self.cards(page)])
+        self.assertEqual(["open", "read", "read"], [card[0] for card in self.cards(page)])
         for nth, mood in ((1, "good"), (2, "bad"), (1, "good")):
             self.choose(page, "t.csv", f"job.gsi ({nth}): P7")
             moods = [card[0] for card in self.cards(page)]
-            self.assertEqual([mood if at == nth else "read" for at in (1, 2)], moods)
+            # (one that is refused comes first)
+            self.assertEqual([mood, "read"], moods)
             digest = hashlib.sha256(paths[nth - 1].read_bytes()).hexdigest()
-            self.assertIn(digest, page.texts(".card .digests")[nth - 1])
-            self.assertIn("t.csv", page.texts(".card")[nth - 1])
+            self.assertIn(digest, page.texts(".card .digests")[0])
+            self.assertIn("t.csv", page.texts(".card")[0])
         page.empty()
         plain = b"".join(line for line in P7_FIELD.read_bytes().splitlines(True) if line[:3] != b"*41")
         job = self.file("job.gsi", b"*110000+00000000000000P7 88..10+0000000000001500\n" + plain)
         page.give(job, self.file("job_marked.gsi", paths[1].read_bytes()), self.file("t.csv", FOUR_DECIMALS))
-        of_copy = page.js("cards.findIndex(card => card.field.original)")
-        for chosen, mood in ((of_copy, "good"), (1 - of_copy, "bad")):
-            place = page.js(f"placeName(cards[{chosen}].station)")
+        stations = "cards.filter(card => card.station)"
+        places = "{0}.filter(card => {1}card.field.original).map(card => placeName(card.station))"
+        for of, mood in (("", "good"), ("!", "bad")):
+            (place,) = page.js(places.format(stations, of))
             self.choose(page, "t.csv", place)
-            self.assertEqual(mood, self.cards(page)[chosen][0])
-        self.assertEqual(2, len({*page.js("cards.map(card => placeName(card.station))")}))
+            chosen = f"cards.find(card => card.station && placeName(card.station) === {json.dumps(place)}).mood"
+            self.assertEqual(mood, page.js(chosen))
+        self.assertEqual(2, len({*page.js(f"{stations}.map(card => placeName(card.station))")}))
 
     def test_a_file_that_another_replaces_is_named(self):
         page = self.page(FIELD, SHEET)
@@ -993,7 +1041,7 @@ class PageInBrowserTest(TimedTest):
         table = self.file("of_it.csv", page.saved("Save directions (CSV)", "P7_directions.csv"))
         kept = "Greatest residual 3.401 mgon, set 2, P8: within the limit of 10 mgon."
         above = "Greatest residual 3.401 mgon, set 2, P8: above the limit of 1 mgon."
-        command = "station_check directions --residual 200 moved600.gsi P7"
+        command = "station_check directions --residual 1mgon moved600.gsi P7"
         agrees = "Agrees. 6 targets within 0.001 mgon of the least-squares directions; the limit is 0.01 mgon."
         read = "Read without a fault: 4 sets, 6 targets, 22 directions."
         for others, mood, said in [((), "read", read), ((table,), "good", agrees)]:
@@ -1034,7 +1082,7 @@ class PageInBrowserTest(TimedTest):
         page.fill("residual", "1")
         page.press(button)
         more = "It was held to 10 mgon, the largest limit of residuals; with yours: "
-        command = f"station_check report --residual 200 {P7_FIELD.name} P7"
+        command = f"station_check report --residual 1mgon {P7_FIELD.name} P7"
         self.assertEqual(f"Saved as {name}. {more}{command}", page.text(".results [role=status]"))
 
     def facts(self, page):
@@ -1149,7 +1197,7 @@ class PageInBrowserTest(TimedTest):
         self.assertEqual("refused: kernel: Residual 1", page.text(".exact samp"))
         page.fill("residual", "0,005")
         self.assertEqual("accepted S1: 2 sets, 2 targets, 4 directions, greatest residual 4/4", page.text(".exact samp"))
-        command = f"station_check check --residual 1 {FIELD.name} {SHEET.name}"
+        command = f"station_check check --residual 0.005mgon {FIELD.name} {SHEET.name}"
         self.assertEqual(command, page.text(".exact code"))
         page.fill("two-c", "0.07")
         self.assertEqual("refused: block 5: TwoC", page.text(".exact samp"))
@@ -1306,6 +1354,55 @@ class PageInBrowserTest(TimedTest):
         self.assertEqual(["Observer, instrument", "Checked by: place, date, signature"], page.texts(".signs p"))
         self.assertIn("Instrument, number", page.texts("#protocol .facts dt"))
 
+    def test_the_protocol_has_the_readings_of_the_report(self):
+        """Each row, set by set, the greatest 2c and 2i marked; in the window they are folded."""
+        page = self.page(P7_FIELD, P7_SHEET)
+        report = page.saved("Save report (TXT)", "P7_report.txt").decode()
+        rows = report.partition("2c         2i\n")[2].partition("\nAdjusted")[0].splitlines()
+        expected = [row.split() for row in rows if row]
+        self.assertEqual(22, len(expected))
+        page.js("onbeforeprint()")
+        read = (
+            "[...document.querySelectorAll('%s .sets table')].flatMap(table => [...table.tBodies[0].rows]"
+            ".map(row => [table.tHead.rows[0].cells[0].textContent, ...[...row.cells].map(cell => cell.textContent)]))"
+        )
+        plain = [[cell.replace("+", "").replace(MINUS, "-") for cell in row] for row in page.js(read % "#protocol")]
+        self.assertEqual([[f"Set {number}", *row] for number, *row in expected], plain)
+        self.assertEqual(["+1.67", "+2.16"], page.texts("#protocol .sets td.greatest"))
+        self.assertEqual([], page.js(read % "#answers"))
+        page.js("document.querySelector('.results section details').open = true")
+        page.wait("document.querySelectorAll('#answers .sets table').length === 4")
+        # They stay unfolded.
+        self.speak(page, "de")
+        self.assertEqual(4, page.js("document.querySelectorAll('#answers .sets table').length"))
+        # Of a station that is not adjusted there is no report, and 2c and 2i are printed as they are listed.
+        page.empty()
+        page.give(self.moved(6000))
+        page.js("onbeforeprint()")
+        self.assertEqual((0, 2), tuple(page.js(f"document.querySelectorAll('#protocol {one}').length") for one in (".sets", "section table")))
+
+    def test_all_protocols_are_printed_and_saved_together(self):
+        """Those that were not opened too; what is saved has a list of what is in it, which leads there."""
+        names = [f"{nth}.gsi" for nth in range(4)]
+        fault = self.file("fault.gsi", FIELD.read_bytes().replace(b"25000010", b"2500001X", 1))
+        page = self.page(*(self.file(name, FIELD.read_bytes()) for name in names), fault)
+        self.assertEqual([0, True], page.js("[document.querySelectorAll('.results section').length, $('print-all').checkVisibility()]"))
+        saved = page.saved("Save all protocols", "station_check_protocols.html")
+        self.assertNotIn(b"<script", saved)
+        page.js("print = () => { onbeforeprint(); printed = $('protocol').innerHTML }")
+        page.press("Print all protocols")
+        page.wait("'printed' in globalThis")
+        self.assertEqual(0, page.js("document.querySelectorAll('#protocol .brief:has(section)').length"))
+        self.assertEqual(4, page.js("[...document.querySelectorAll('#protocol .protocol')].filter(one => one.querySelector('.sets')).length"))
+        page.call("Page.navigate", url=self.file("saved.html", saved).as_uri())
+        page.wait("document.readyState === 'complete' && document.querySelector('.protocol') !== null")
+        links = page.js("[...document.querySelectorAll('a')].map(one => [one.textContent, document.querySelector(one.hash)?.querySelector('h1').textContent])")
+        self.assertEqual([["fault.gsi", "Check of fault.gsi"], *[["S1", "Protocol of sets: Station S1"]] * 4], links)
+        self.assertEqual(4, page.js("document.querySelectorAll('.protocol:has(.sets)').length"))
+        # Of one card there is no more to print than its own.
+        alone = self.page(FIELD)
+        self.assertFalse(alone.js("$('print-all').checkVisibility()"))
+
     def test_what_is_printed_is_called_by_its_field_file_and_its_station(self):
         page = self.page(P7_FIELD, P7_SHEET)
         names = [page.js("document.title"), page.js("(onbeforeprint(), document.title)"), page.js("(onafterprint(), document.title)")]
@@ -1350,10 +1447,11 @@ class PageInBrowserTest(TimedTest):
             self.assertIn(" ".join(said.split()), " ".join(first.split()))
         self.assertIn("A target is read in one face only before the next set begins.", " ".join(" ".join(rest).split()))
         # The protocol of one station, printed or saved alone, names what was refused, open or not used.
-        page.js("only = cards[0]; onbeforeprint(); only = null")
-        for alone in (page.text("#protocol"), page.js("protocolFile(cards[0], limits, desk.beside(cards[0]))")):
+        page.js("only = cards.find(card => card.mood === 'good'); onbeforeprint()")
+        for alone in (page.text("#protocol"), page.js("protocolFile(only, limits, desk.beside(only))")):
             for said in ("fault_hz.gsi: Refused. An angle is not digits alone.", f"{UNUSED[0][0]}: not used: ", f"rain.gsi: {NOTHING_RECOGNIZED}"):
                 self.assertIn(said, alone)
+        page.js("only = null")
         all_of = "".join(rest)
         titles = ["Protocol of sets: Station P7", "Protocol of sets: Station S1", "Check of fault_hz.gsi", "Check of rain.gsi", "Check of odd.csv"]
         for title in titles:

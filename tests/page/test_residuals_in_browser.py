@@ -54,7 +54,7 @@ class ResidualsInBrowserTest(TimedTest):
         page = self.shown(EXAMPLE, "S1")
         self.assertEqual("Residuals of station S1", page.text("h1"))
         self.assertEqual(["\u22120.005", "+0.005", "+0.005", "\u22120.005"], page.texts("td"))
-        self.assertEqual(["Residuals by target", "Residuals by set"], page.texts(".picture title"))
+        self.assertEqual(["Residuals by target", "Residuals by set"], page.texts(".picture svg > title"))
         self.assertEqual(RESIDUALS.decode(), page.text("#printed"))
         self.assertEqual(1, len(page.requests()))
         self.assertEqual([], page.complaints())
