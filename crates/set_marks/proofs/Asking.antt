@@ -274,14 +274,6 @@ next_again set left rest faces r k is =
     ap (λ l. list_any (is_again r) l)
     (ap (λ l. take (length k.read) l) k.split ∙ take-append_seam k.read left) ∙ sym (k.kept r)
 
-pub again_here : (set left rest : List Sight) (faces : Faces) (r : Sight)
-    → KeptSoFar set left faces → left ≡ r ∷ rest
-    → is_among (names_in r.second faces) r.target ≡ true → Some r ≡ again_in set
-again_here set left rest faces r k is e =
-    sym (ap (λ b. if b then Some r else again_from set (suc (length k.read)) rest)
-    (next_again set left rest faces r k is ∙ e))
-    ∙ sym (ap (λ l. again_from set (length k.read) l) is) ∙ k.found
-
 pub again_later : (set left rest : List Sight) (old new : Faces) (r : Sight)
     → KeptSoFar set left old → left ≡ r ∷ rest
     → is_among (names_in r.second old) r.target ≡ false

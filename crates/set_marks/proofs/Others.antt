@@ -1,15 +1,14 @@
 -- Targets of another station after the sets, without comparing each reading with all.
-use Rattle.std.proofs.Common.{◌≡◌, Bool, true, false, ◌&&◌, not, List, [], ◌∷◌, ◌++◌, length}
+use Rattle.std.proofs.Common.{◌≡◌, Bool, true, false, ◌&&◌, not, List, [], ◌∷◌, ◌++◌}
 use Rattle.std.proofs.Common.{refl, sym, ap, ◌∙◌, append_assoc, inl, inr}
 use Rattle.std.specs.Prelude.{filter}
 use Rattle.std.specs.List.{list_any}
 use Rattle.std.proofs.lemmas.Bool.{cases_Bool}
-use Rattle.std.proofs.lemmas.List.{append-nil}
 use Rattle.station_book.specs.Places.{is_among, with_new}
 use Rattle.set_marks.specs.declared.faces.Faces.{Faces}
 use Rattle.set_marks.specs.declared.known.Known.{Known}
 use Rattle.set_marks.specs.declared.sight.Sight.{Sight}
-use Rattle.set_marks.specs.Divisions.{is_of, is_again, is_pair}
+use Rattle.set_marks.specs.Divisions.{is_of, is_pair}
 use Rattle.set_marks.specs.Remarks.{seems_of_another}
 use Rattle.set_marks.specs.Searching.{knows, names_in, KnowsTargetsOf, KeepsFaces}
 use Rattle.set_marks.proofs.Asking.{faces_more, pairs_kept}
@@ -32,14 +31,6 @@ longer_front all left rest old new r k is added other = record {
   split = k.split ∙ ap (λ l. k.front ++ l) is ∙ sym (append_assoc k.front (r ∷ []) rest);
   kept = faces_more k.front old new r k.kept added other;
 }
-
--- Where none is left, the faces of all are kept.
-pub whole_front : (all left : List Sight) (faces : Faces) → KeepsFront all left faces
-    → length left ≡ 0 → KeepsFaces all faces
-whole_front all [] faces k e =
-    let whole : all ≡ k.front = k.split ∙ append-nil k.front in
-    λ r. k.kept r ∙ ap (λ l. list_any (is_again r) l) (sym whole)
-whole_front all (r ∷ left) faces k e = cc
 
 -- Where no reading is in face II, none is of another station.
 pub none_of_another : (in_sets all rs : List Sight) → list_any (λ s. s.second) rs ≡ false

@@ -289,9 +289,3 @@ pub file_refused : (beginnings : Beginnings) (stated : Said) (first : FileAnswer
 file_refused beginnings stated first t t' r f (file.At number kind) taken gives =
     file_fault beginnings stated first t t' r f number kind taken gives
 file_refused beginnings stated first t t' r f file.Memory taken gives = absurd gives
-
--- What is so of all answers that are told.
-pub for_told : (o : Option FileAnswers) (P : FileAnswers → Type 0)
-    → ((first : FileAnswers) → o ≡ Some first → P first) → IfSome o P
-for_told None P f = tt
-for_told (Some first) P f = f first refl

@@ -1,7 +1,7 @@
 -- The names of set-ups where a name that comes again is another set-up.
-use Rattle.std.proofs.Common.{◌≡◌, ℕ, ◌+◌, arith, true, false, ◌&&◌, List, [], ◌∷◌, length, Option}
-use Rattle.std.proofs.Common.{Some, None, refl, sym, ap, ◌∙◌, inl, inr, All}
-use Rattle.std.specs.Prelude.{if◌then◌else◌, nat_le, suc, unwrap_or}
+use Rattle.std.proofs.Common.{◌≡◌, ℕ, ◌+◌, arith, true, ◌&&◌, List, [], ◌∷◌, length, Option}
+use Rattle.std.proofs.Common.{refl, sym, ap, ◌∙◌, inl, inr, All}
+use Rattle.std.specs.Prelude.{nat_le, suc, unwrap_or}
 use Rattle.std.specs.Map.{lookup}
 use Rattle.indexmap.specs.IndexMap.{insert_entry}
 use Rattle.std.specs.List.{list_all}
@@ -63,39 +63,12 @@ name_is_read_so bytes is =
       all_pass bytes is.printable,
     ) refl
 
--- What is no name isn't read so.
-pub no_name_is_read_so : (bytes : List ℕ) → (IsName bytes → ⊥) → is_read_so bytes ≡ false
-no_name_is_read_so bytes not_one = elim (cases_Bool (is_read_so bytes)) [
-  | inl h ↦ absurd (not_one (read_so_is_name bytes h).is_name)
-  | inr h ↦ h
-]
-
 -- The name of a set-up is one that a content gives.
 pub bare_visit : (name : List ℕ) (earlier : ℕ) → IsBareName name
     → IsBareName (visit_name name earlier)
 bare_visit name earlier bare = elim (cases_Bool (is_read_so (numbered name earlier))) [
   | inl h ↦ rw h (read_so_is_name (numbered name earlier) h)
   | inr h ↦ rw h bare
-]
-
--- It is the bytes with their number, if they are read so, and else the name.
-abbrev or_name : List ℕ → Option (List ℕ) → List ℕ
-or_name name None = name
-or_name name (Some visit) = visit
-
-pub visit_or_name : (name bytes : List ℕ)
-    → or_name name (if is_read_so bytes then Some bytes else None)
-    ≡ (if is_read_so bytes then bytes else name)
-visit_or_name name bytes = elim (cases_Bool (is_read_so bytes)) [
-  | inl h ↦ rw h refl
-  | inr h ↦ rw h refl
-]
-
--- The first visit has the name as it is.
-pub first_visit : (name : List ℕ) → name ≡ visit_name name 0
-first_visit name = elim (cases_Bool (is_read_so name)) [
-  | inl h ↦ rw h refl
-  | inr h ↦ rw h refl
 ]
 
 -- What a name is found by is its bytes.
