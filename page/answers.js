@@ -2,9 +2,14 @@
 // file that belongs to none. Nothing here decides a verdict.
 import { ask, digestOf } from './work.js';
 import { readFaults } from './faults.js';
-import { fieldOfSheet, stationOfSheet, stationOfTable, stemOf, tellApart } from './files.js';
+import {
+  fieldOfSheet, stationOfSheet, stationOfTable, stemOf, tellApart, withTaken,
+} from './files.js';
 import { commandOf, isWithin } from './limits.js';
-import { each, greatestOf, recognizedIn, residualsIn, stationsOf } from './records.js';
+import {
+  each, greatestOf, readingsOf, recognizedIn, residualsIn, stationsOf,
+} from './records.js';
+import { zenithsOf } from './zeniths.js';
 
 /**
  * @typedef {import('./files.js').Input} Input
@@ -35,8 +40,9 @@ import { each, greatestOf, recognizedIn, residualsIn, stationsOf } from './recor
  *   answers: Answer[], waiting: Input[], isStopped?: boolean, readings?: number, unplaced?: string,
  *   marked?: Answer, recognized?: import('./records.js').Recognized[], judged?: Judged,
  *   results?: Results }} Card
- * The results of a station.
- * @typedef {{ directions: Answer, residuals: Answer, report: Answer }} Results
+ * The results of a station, and the zenith angles that the page itself takes of it.
+ * @typedef {{ directions: Answer, residuals: Answer, report: Answer,
+ *   zeniths: import('./zeniths.js').Zeniths[] }} Results
  */
 
 /** Statuses of a call: those of the program's command, and the call's own. */
@@ -47,6 +53,9 @@ export const ACCEPTED = 0, REFUSED = 1, OUT_OF_RANGE = 2, TOO_LITTLE_ROOM = 3;
  * field file that have no results to be checked: of more they are judged when they are opened.
  */
 const MOST_READ = 200_000_000;
+
+/** Of more bytes no zenith angles are taken: all words of a file are read for them. */
+const MOST_ANGLES = 2_000_000;
 
 /** The name by which it is tried whether a job lacks nothing else: no station has it. */
 const NAME_TO_TRY = '?';
@@ -69,10 +78,13 @@ async function answered({ status, text }, about) {
   return { ...about, status, line, explanation };
 }
 
-/** The files that a card speaks of: a marked copy stands after the field file that it is of. */
+/**
+ * The files that a card speaks of: a marked copy stands after the field file that it is of, and a
+ * table after its workbook.
+ */
 export const filesOf = (/** @type {Card} */ { field, answers }) =>
-  [field?.original, field, ...answers.map(answer => answer.other)]
-    .filter(file => file !== undefined);
+  [field, ...answers.map(answer => answer.other)].filter(file => file !== undefined)
+    .flatMap(file => file.original ? [file.original, file] : [file]);
 
 // ---------------------------------------------------------------- field files
 
@@ -189,7 +201,8 @@ function forgets({ numbers }, told) {
  * @returns {Promise<Answer>}
  */
 async function answerOfMark(field, station = '') {
-  const copy = `${stemOf(field)}_marked.gsi`, { code = '', again, others = false } = field;
+  const copyOf = (/** @type {string} */ name) => `${stemOf({ name })}_marked.gsi`;
+  const copy = copyOf(field.name), { code = '', again, others = false } = field;
   const [sets, targets] = [numbersOf(field, 'sets'), numbersOf(field, 'targets')];
   const isSame = again === 'same', isAnother = again === 'another';
   const texts = [station, code, sets.join('\n'), targets.join('\n')];
@@ -212,8 +225,9 @@ async function answerOfMark(field, station = '') {
   const answer = await answered({ status, text }, { asked: 'mark', command, field, told });
   if (status !== ACCEPTED) return answer;
   const digest = await digestOf({ name: copy, bytes });
-  const kind = /** @type {const} */ ('field');
-  return { ...answer, other: { name: copy, shown: copy, bytes, kind, digest, original: field } };
+  const kind = /** @type {const} */ ('field'), path = copyOf(field.path);
+  const other = { name: copy, path, shown: copy, bytes, kind, digest, original: field };
+  return { ...answer, other };
 }
 
 // ---------------------------------------------------------------- sheets and tables
@@ -324,7 +338,8 @@ function moodOf(/** @type {Card} */ { answers, isStopped, judged }) {
  * @param {(done: number, all: number, name: string) => void} told
  */
 export async function makeCards(inputs, limits, cards, told) {
-  const of = (/** @type {string} */ kind) => inputs.filter(input => input.kind === kind);
+  const given = withTaken(inputs);
+  const of = (/** @type {string} */ kind) => given.filter(input => input.kind === kind);
   const fields = of('field'), others = [...of('sheet'), ...of('table')];
   const left = new Set(fields.length > 0 ? [...fields, ...others] : []), all = left.size;
   const tell = (/** @type {Input} */ file) => told(all - left.size + 1, all, file.shown);
@@ -337,11 +352,12 @@ export async function makeCards(inputs, limits, cards, told) {
       cards.push(...await cardsOfField(field, limits));
       left.delete(field);
     }
-    tellApart([...inputs, ...read().filter(field => field.original)]);
+    tellApart([...given, ...read().filter(field => field.original)]);
     for (const file of others) {
       if (!left.has(file)) continue;
       tell(file);
-      file.digest ||= await digestOf(file);
+      for (const one of file.original ? [file.original, file] : [file])
+        one.digest ||= await digestOf(one);
       await placeFile(file, cards, read(), stations(), limits);
       left.delete(file);
     }
@@ -469,6 +485,13 @@ async function reportOf(/** @type {Station} */ station, /** @type {Limits} */ li
 export async function resultsOf({ station }, limits) {
   const faces = ['twoC', 'twoI'];
   const directions = await answerOfStation('directions', station, [...faces, 'decimals'], limits);
-  const report = await reportOf(station, limits);
-  return { directions, residuals: await residualsOf(station, limits), report };
+  const report = await reportOf(station, limits), residuals = await residualsOf(station, limits);
+  return { directions, residuals, report, zeniths: await zenithsIn(station) };
+}
+
+/** The zenith angles of a station, of which the report is there. */
+async function zenithsIn(/** @type {Station} */ { field, listed, report }) {
+  if (report.status !== ACCEPTED || field.bytes.length > MOST_ANGLES) return [];
+  const { text } = await ask('angles', field.bytes, listed.name);
+  return zenithsOf(text, readingsOf(report.line));
 }

@@ -165,8 +165,11 @@ def digest_of_script(page: str) -> str:
 
 
 def packed(data: bytes) -> str:
-    """Bytes as the page has them: as gzip packs them, in base64."""
-    return base64.b64encode(gzip.compress(data, mtime=0)).decode()
+    """Bytes as the page has them: as gzip packs them, in base 85, whose letters end no script."""
+    text = base64.b85encode(gzip.compress(data, mtime=0)).decode()
+    if "<!--" in text:
+        sys.exit("page: what is packed would begin a comment")
+    return text
 
 
 def stored(texts: dict[str, dict[str, str]]) -> dict[str, Any]:

@@ -4,7 +4,7 @@ import {
   mayLeaveOut, meansOf, moodOfAnswer,
 } from './answers.js';
 import { button, element, menuOf, ofProgram, save } from './elements.js';
-import { originalOf, stemOf } from './files.js';
+import { originalOf, stemOf, textOf } from './files.js';
 import {
   furthestOf, headlineOf, headlineOfCard, isApart, judgedText, recognizedTexts, titleOf,
   waitingText,
@@ -67,6 +67,7 @@ function showAnswer(answer, card, parent) {
   const { status, line, other, explanation } = answer;
   const part = element('div', '', parent, { className: `answer ${moodOfAnswer(answer, card)}` });
   if (other) element('p', other.shown, part, { className: 'label name' });
+  if (other?.original) showTaken(other, part);
   const headline = element('h3', headlineOf(answer), part, { className: 'headline' });
   if (status === REFUSED && !isApart(line) && explanation) {
     headline.append(' ');
@@ -76,6 +77,24 @@ function showAnswer(answer, card, parent) {
     element('p', furthestOf(answer.differences), part, { className: 'reason' });
   showFault(answer, part);
   showCommand(answer, part);
+}
+
+/** So many rows that were taken of a workbook are shown at once. */
+const FEW_ROWS = 12;
+
+/**
+ * What was taken of a workbook, before anything is said of it: nothing of that is proved.
+ * @param {Input} table
+ * @param {Element} parent
+ */
+function showTaken({ original, name, bytes }, parent) {
+  const rows = textOf(bytes), part = element('div', '', parent, { className: 'marked' });
+  element('p', text('takenFrom', { name: original.shown }), part);
+  const open = rows.split('\n').length <= FEW_ROWS, fold = element('details', '', part, { open });
+  element('summary', text('taken'), fold);
+  element('pre', rows, fold);
+  const buttons = element('div', '', part, { className: 'buttons' });
+  button(text('saveTaken'), buttons, () => save(name, bytes, 'text/csv'));
 }
 
 /**
@@ -145,7 +164,8 @@ function showButtons(card, desk, parent) {
     const { line } = results.residuals, title = text('residualsOf', { name });
     const origin = [field.name, text('digest', { digest: field.digest })];
     offer('saveResiduals', `${name}_residuals.csv`, () => `${line}\n`);
-    const { report } = results, deviation = report.status === ACCEPTED ? deviationIn(report.line) : '';
+    const { status, line: report } = results.report;
+    const deviation = status === ACCEPTED ? deviationIn(report) : '';
     const picture = () => pictureFile(title, origin, residualsIn(line), deviation);
     offer('savePicture', `${name}_residuals.svg`, picture, 'image/svg+xml');
   }

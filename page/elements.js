@@ -71,8 +71,8 @@ function cellOf(/** @type {Cell} */ { text: content, mark = '', bar }, /** @type
 }
 
 /**
- * Makes a table with these headings and rows, whose first cells are headings too. It can be scrolled
- * where it is wider than the page.
+ * Makes a table with these headings and rows, whose first cells are headings too. It can be
+ * scrolled where it is wider than the page.
  * @param {string} caption
  * @param {string[]} headings
  * @param {[string, ...Cell[]][]} rows

@@ -2,21 +2,25 @@
 import { each, recordsOf } from './records.js';
 
 /**
- * What a file is: a field file, a sheet or a table; or why it is none of them.
- * @typedef {'field' | 'sheet' | 'table' | 'spreadsheet' | 'utf16' | 'empty' | 'unread' |
- *   'other'} Kind
- * A file that was handed in: `shown` is its name as the page shows it, `choice` the station that
- * the user chose for it, `station` the name that the user gave to a field file without one, `typed`
- * the name that is being typed, and `original` the field file that a marked copy is of. `numbers`
- * are those of sets and of targets that the user stated of a station by its name, or of a job's
+ * What a file is: a field file, a sheet or a table, or a workbook of which a table is taken; or why
+ * it is none of them.
+ * @typedef {'field' | 'sheet' | 'table' | 'workbook' | 'spreadsheet' | 'utf16' | 'empty' |
+ *   'unread' | 'other'} Kind
+ * A file that was handed in: `path` is where it lies in a folder that was, or else its name,
+ * `handle` that by which it is read again, where there is one, `shown` its name as the page shows
+ * it, `choice` the station that the user chose for it, `station` the name that the user gave to a
+ * field file without one, `typed` the name that is being typed, `original` the field file that a
+ * marked copy is of, or the workbook of a table, and `taken` the table of a workbook. `numbers` are
+ * those of sets and of targets that the user stated of a station by its name, or of a job's
  * only one by no name, and `typing` what is being typed of them. `code` is the one whose blocks
  * begin stations, `again` what a name that comes again is; `others` says whether stations that
  * aren't recognized stay outside.
  * `opened` says of the stations of a field file by their names whether the user opened or closed
  * their results, and `unfolded` has those whose readings are. The digest is there once the file was
  * judged.
- * @typedef {{ name: string, shown: string, bytes: Uint8Array, kind: Kind, digest: string,
- *   choice?: { field: Input, name: string }, station?: string, typed?: string, original?: Input,
+ * @typedef {{ name: string, path: string, handle?: any, shown: string, bytes: Uint8Array,
+ *   kind: Kind, digest: string, choice?: { field: Input, name: string }, station?: string,
+ *   typed?: string, original?: Input, taken?: Input,
  *   numbers?: Map<string, Numbers>, typing?: Map<string, Record<string, string>>, code?: string,
  *   typedCode?: string, again?: Again, others?: boolean,
  *   opened?: Map<string, boolean>, unfolded?: Set<string> }} Input
@@ -31,7 +35,7 @@ import { each, recordsOf } from './records.js';
  */
 
 /** So many bytes at the beginning of a file tell what it is. */
-const HEAD = 4096;
+export const HEAD = 4096;
 
 /** The first two bytes of a text in UTF-16, in either order. */
 const UTF16_MARKS = [0xfffe, 0xfeff];
@@ -61,11 +65,16 @@ function escaped(/** @type {string} */ sign) {
 }
 
 /**
- * Says how files are shown: by their names, those of one name each with a number of its own, so
- * that they are told apart. What is not seen in a name is shown as an escape.
+ * Says how files are shown, so that they are told apart: by their names, those of one name by their
+ * paths, and those of one path each with a number of its own. What is not seen is shown as an
+ * escape.
  */
 export function tellApart(/** @type {Input[]} */ files) {
-  const names = files.map(file => file.name.replace(UNSEEN, escaped)), taken = new Set(names);
+  const all = files.map(file => file.name);
+  const isAlone = (/** @type {string} */ name) => all.indexOf(name) === all.lastIndexOf(name);
+  const names = files.map(({ name, path }) =>
+    (isAlone(name) ? name : path).replace(UNSEEN, escaped));
+  const taken = new Set(names);
   files.forEach((file, at) => {
     const name = names[at], before = names.slice(0, at).filter(one => one === name).length;
     file.shown = name;
@@ -75,11 +84,25 @@ export function tellApart(/** @type {Input[]} */ files) {
   });
 }
 
-/** Whether a file plays a part: it is a field file, a sheet or a table. */
-export const isUsed = (/** @type {Input} */ { kind }) => ['field', 'sheet', 'table'].includes(kind);
+/** Whether a file plays a part: it is a field file, a sheet or a table, or has one in it. */
+export const isUsed = (/** @type {{ kind: Kind }} */ { kind }) =>
+  ['field', 'sheet', 'table', 'workbook'].includes(kind);
 
-/** The file that was handed in, of a file that may be a marked copy of it. */
+/** The file that was handed in, of a file that may be a marked copy of it, or its table. */
 export const originalOf = (/** @type {Input} */ file) => file.original ?? file;
+
+/** Files with the tables that are taken of them. */
+export const withTaken = (/** @type {Input[]} */ files) =>
+  files.flatMap(file => [file, ...file.taken ? [file.taken] : []]);
+
+/** The folder of a file, as far as it is known. */
+const folderOf = (/** @type {Input} */ { path }) => path.slice(0, path.lastIndexOf('/') + 1);
+
+/** The field files that lie where a file does, or all where none does. */
+function besideFile(/** @type {Input} */ file, /** @type {Input[]} */ fields) {
+  const near = fields.filter(field => folderOf(field) === folderOf(file));
+  return near.length > 0 ? near : fields;
+}
 
 /** The name of a file without what stands after its last point. */
 export const stemOf = (/** @type {{ name: string }} */ file) => file.name.replace(EXTENSION, '');
@@ -131,8 +154,10 @@ export const placeName = (/** @type {Station} */ { field, listed }) =>
  * a copy of it, and not one of the same name.
  * @param {Input} file
  */
-export const isChosen = ({ choice }, /** @type {Station} */ { field, listed }) =>
-  choice?.field === originalOf(field) && choice.name === listed.name;
+export function isChosen(file, /** @type {Station} */ { field, listed }) {
+  const { choice } = originalOf(file);
+  return choice?.field === originalOf(field) && choice.name === listed.name;
+}
 
 /**
  * Those that pass, or all where none does: a hint narrows the choice, and never empties it.
@@ -145,20 +170,22 @@ function narrowed(all, passes) {
 }
 
 /**
- * The field file that a sheet is checked against: by its name, else by its station, else the only
- * one.
+ * The field file that a sheet is checked against: of those in its folder by its name, else by its
+ * station, else the only one.
  * @param {Input} sheet
- * @param {Input[]} fields
+ * @param {Input[]} all
  * @param {Station[]} stations
  * @returns {Input | undefined}
  */
-export function fieldOfSheet(sheet, fields, stations) {
+export function fieldOfSheet(sheet, all, stations) {
   const chosen = stations.find(station => isChosen(sheet, station));
   if (chosen) return chosen.field;
+  const fields = besideFile(sheet, all);
   const byName = fieldsByName(sheet.name, fields);
   if (byName.length === 1) return byName[0];
   const name = stationOfSheet(sheet);
-  const byStation = each(stations.filter(one => one.listed.name === name).map(one => one.field));
+  const named = stations.filter(one => one.listed.name === name && fields.includes(one.field));
+  const byStation = each(named.map(one => one.field));
   const left = byStation.filter(field => byName.length === 0 || byName.includes(field));
   if (left.length === 1) return left[0];
   return fields.length === 1 ? fields[0] : undefined;
@@ -193,18 +220,20 @@ function shared(/** @type {Station} */ station, /** @type {Set<string>} */ names
 }
 
 /**
- * The station that a table is compared with: that which was chosen; else by the names of the files,
- * then by the station's name in that of the table, then by the targets; none where more are left.
+ * The station that a table is compared with: that which was chosen; else of the field files in its
+ * folder by the names of the files, then by the station's name in that of the table, then by the
+ * targets; none where more are left.
  * @param {Input} table
- * @param {Input[]} fields
+ * @param {Input[]} all
  * @param {Station[]} stations
  * @returns {Station | undefined}
  */
-export function stationOfTable(table, fields, stations) {
+export function stationOfTable(table, all, stations) {
   const chosen = stations.find(station => isChosen(table, station));
   if (chosen) return chosen;
-  const byName = fieldsByName(table.name, fields);
-  let left = narrowed(stations, station => byName.includes(station.field));
+  const fields = besideFile(table, all), byName = fieldsByName(table.name, fields);
+  let left = narrowed(stations, station => fields.includes(station.field));
+  left = narrowed(left, station => byName.includes(station.field));
   left = narrowed(left, station => hasPart(stemOf(table), station.listed.name));
   if (left.length > 1) {
     const names = namesIn(table);

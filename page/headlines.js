@@ -151,8 +151,9 @@ export function waitingText(/** @type {Card} */ { mood, marked, isStopped, waiti
 /** What a file is, in words. */
 export function kindText(/** @type {Input} */ file) {
   const names = {
-    field: 'kindField', sheet: 'kindSheet', table: 'kindTable', spreadsheet: 'kindSpreadsheet',
-    utf16: 'kindUtf16', empty: 'kindEmpty', unread: 'kindUnread', other: 'kindOther',
+    field: 'kindField', sheet: 'kindSheet', table: 'kindTable', workbook: 'kindWorkbook',
+    spreadsheet: 'kindSpreadsheet', utf16: 'kindUtf16', empty: 'kindEmpty', unread: 'kindUnread',
+    other: 'kindOther',
   };
   return text(names[file.kind], { station: file.kind === 'sheet' ? stationOfSheet(file) : '' });
 }
@@ -189,12 +190,13 @@ export function saidOfFile(file, cards, limits) {
     text('labelled', { label: titleOf(card), said: words });
   for (const card of cards) {
     const { field, answers, mood, waiting } = card;
-    if (card.file === file && !field) said.push([mood, headlineOfCard(card)]);
+    if (originalOf(card.file) === file && !field) said.push([mood, headlineOfCard(card)]);
     else if (field && originalOf(field) === file && (card.station || !answers[0]?.other))
       said.push([mood, of(card, saidOfCard(card, limits))]);
-    for (const one of answers.filter(({ other }) => other === file))
+    for (const one of answers.filter(({ other }) => other && originalOf(other) === file))
       said.push([one.status === ACCEPTED ? mood : 'bad', of(card, saidOf(one))]);
-    if (waiting.includes(file)) said.push(['open', of(card, waitingText(card))]);
+    if (waiting.some(one => originalOf(one) === file))
+      said.push(['open', of(card, waitingText(card))]);
   }
   return said.length > 0 ? said : [['open', isUsed(file) ? text('notReached') : kindText(file)]];
 }

@@ -2,6 +2,8 @@
 
 /** The fields, and by what name the browser keeps them. */
 const NOTED = ['project', 'instrument', 'observer'], KEPT_AS = 'station_check';
+/** The field that says whether zenith angles are to stand in protocols. */
+const ANGLES = 'zeniths';
 
 const fieldOf = (/** @type {string} */ name) =>
   /** @type {HTMLInputElement} */ (document.getElementById(name));
@@ -9,6 +11,9 @@ const fieldOf = (/** @type {string} */ name) =>
 /** What is typed of the job, by the names of the fields; those that are empty have no text. */
 export const notes = () =>
   Object.fromEntries(NOTED.map(name => [name, fieldOf(name).value.trim()]));
+
+/** Whether zenith angles are to stand in protocols. */
+export const hasZeniths = () => fieldOf(ANGLES).checked;
 
 /** What the browser kept: nothing, where it keeps nothing of a page in a folder. */
 function kept() {
@@ -21,7 +26,7 @@ function kept() {
 
 function keep() {
   try {
-    localStorage.setItem(KEPT_AS, JSON.stringify(notes()));
+    localStorage.setItem(KEPT_AS, JSON.stringify({ ...notes(), [ANGLES]: hasZeniths() }));
   } catch {
     // (they stay as long as the page)
   }
@@ -34,4 +39,6 @@ export function recallNotes() {
     fieldOf(name).value = String(before[name] ?? '');
     fieldOf(name).oninput = keep;
   }
+  fieldOf(ANGLES).checked = before[ANGLES] === true;
+  fieldOf(ANGLES).onchange = keep;
 }

@@ -35,8 +35,8 @@ export function overviewTable(cards, fill, parent) {
     const numbers = [...accuracyOf(card), ...counts].map(one => ({ text: one }));
     return ['', said, ...numbers, { text: station ? originalOf(field).shown : NONE }];
   });
-  const names = ['stationOrFile', 'answer', 'greatestResidual', 's', 'sets', 'targetsRead', 'fieldFile'];
-  const headings = names.map(name => text(name));
-  const table = tableOf(text('overview'), headings, /** @type {any} */ (rows), parent, 'overview');
+  const names = ['stationOrFile', 'answer', 'greatestResidual', 's', 'sets', 'targetsRead'];
+  const heads = [...names, 'fieldFile'].map(name => text(name));
+  const table = tableOf(text('overview'), heads, /** @type {any} */ (rows), parent, 'overview');
   table.querySelectorAll('tbody th').forEach((head, nth) => fill(cards[nth], head));
 }

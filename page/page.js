@@ -2,17 +2,19 @@
 import { judge, makeCards, resultsOf } from './answers.js';
 import { showCard } from './cards.js';
 import { button, element, save } from './elements.js';
-import { isChosen, isUsed, kindOf, originalOf, placeName, tellApart } from './files.js';
+import { HEAD, isChosen, isUsed, kindOf, originalOf, placeName, tellApart } from './files.js';
+import { dropped, givenBy } from './gather.js';
 import { kindText, saidOfCard, titleOf } from './headlines.js';
 import { limitsLine, limitsNow, LIMITS, showLimit, wrongLimit } from './limits.js';
 import { recallNotes } from './notes.js';
 import { overviewTable } from './overview.js';
 import {
-  besideOf, nameOfProtocol, protocolsFile, showProtocol, showProtocols,
+  DATES, besideOf, nameOfProtocol, protocolsFile, showProtocol, showProtocols,
 } from './protocol.js';
 import { exampleFiles, readTexts } from './stored.js';
 import { LANGUAGES, languageOf, speak, spoken, text } from './texts.js';
 import { Stopped, start, stop } from './work.js';
+import { withTable } from './workbook.js';
 
 /**
  * @typedef {import('./files.js').Input} Input
@@ -95,15 +97,25 @@ const SUMMARIES = {
  */
 const ORDER = { bad: 0, open: 1, read: 2, good: 2 };
 
+/** Of more stations a choice is filled when it is turned to: all of each would hold the window. */
+const FEW_STATIONS = 20;
+
 /** Where a sheet or a table belongs, to be chosen where there are several stations. */
 function showChoice(/** @type {Input} */ input, /** @type {Element} */ parent) {
   const stations = cards.flatMap(card => card.station ?? []);
-  if (stations.length < 2 || !['sheet', 'table'].includes(input.kind)) return;
+  if (stations.length < 2 || !['sheet', 'table', 'workbook'].includes(input.kind)) return;
   const choice = /** @type {HTMLSelectElement} */ (element('select', '', parent));
   choice.setAttribute('aria-label', text('belongsTo', { name: input.shown }));
   element('option', text('byName'), choice, { value: '' });
-  stations.forEach((station, nth) => element('option', placeName(station), choice,
-    { value: String(nth), selected: isChosen(input, station) }));
+  const offer = (/** @type {import('./files.js').Station[]} */ some) => {
+    choice.length = 1;
+    for (const station of some) element('option', placeName(station), choice,
+      { value: String(stations.indexOf(station)), selected: isChosen(input, station) });
+  };
+  offer(stations.filter(one => stations.length <= FEW_STATIONS || isChosen(input, one)));
+  choice.onfocus = choice.onpointerdown = () => {
+    if (choice.length <= stations.length) offer(stations);
+  };
   choice.onchange = () => {
     const station = choice.value ? stations[Number(choice.value)] : undefined;
     input.choice = station && { field: originalOf(station.field), name: station.listed.name };
@@ -124,7 +136,7 @@ function showInputs() {
     element('span', kindText(input), item, { className: 'kind' });
     showChoice(input, item);
     const gone = button('×', item, () => {
-      replaced = [];
+      [replaced, skipped] = [[], []];
       inputs = inputs.filter(one => one !== input);
       checkAll();
       if (inputs.length === 0) choose.focus();
@@ -133,7 +145,13 @@ function showInputs() {
   }
   const names = replaced.join(', ');
   $('replaced').textContent = names && text('replaced', { names });
+  const few = skipped.slice(0, MOST_SKIPPED).join(', ');
+  const all = few + (skipped.length > MOST_SKIPPED ? ', …' : '');
+  $('skipped').textContent = few && text('skipped', { names: all });
   $('remove-all').hidden = inputs.length === 0;
+  $('read-again').hidden = !inputs.some(input => input.handle);
+  const time = readAt.toLocaleTimeString(DATES[spoken()]);
+  $('read-again').textContent = text('readAgain', { time });
 }
 
 // ---------------------------------------------------------------- the keyboard's place
@@ -144,8 +162,9 @@ const REACHED = 'button, input, select, summary';
 const RESULT = '.results > :not(summary), .results > :not(summary) *';
 
 /**
- * Where the keyboard is: in the nth part of a kind, which has a key by which it is known, within its
- * results or not, at the nth of what it reaches there; nowhere once it is turned to something else.
+ * Where the keyboard is: in the nth part of a kind, which has a key by which it is known, within
+ * its results or not, at the nth of what it reaches there; nowhere once it is turned to something
+ * else.
  * @type {{ kind: string, part: number, key?: string, isResult: boolean, at: number } | null}
  */
 let inHand = null;
@@ -178,8 +197,8 @@ function keepFocus() {
 }
 
 /**
- * Leaves the keyboard in the part where it was, or in the one that has its place, as soon as that is
- * there.
+ * Leaves the keyboard in the part where it was, or in the one that has its place, as soon as that
+ * is there.
  */
 function giveFocus() {
   if (!inHand || document.activeElement !== document.body) return;
@@ -397,39 +416,68 @@ onafterprint = () => { document.title = UNPRINTED; };
 // ---------------------------------------------------------------- files
 
 /**
- * Reads a file and says what it is.
- * @param {File} file
+ * Reads a file and says what it is: of one that holds nothing for the page no more than its head.
+ * @param {import('./gather.js').Given} given
  * @returns {Promise<Input>}
  */
-async function inputOf(file) {
-  const { name } = file, about = { name, shown: name, digest: '' };
+async function inputOf({ file, path, handle }) {
+  const { name } = file, about = { name, path, handle, shown: name, digest: '' };
   try {
-    const bytes = new Uint8Array(await file.arrayBuffer());
-    return { ...about, bytes, kind: kindOf(name, bytes) };
+    const head = new Uint8Array(await file.slice(0, HEAD).arrayBuffer()), kind = kindOf(name, head);
+    if (!isUsed({ kind }) && kind !== 'spreadsheet') return { ...about, bytes: head, kind };
+    const input = { ...about, bytes: new Uint8Array(await file.arrayBuffer()), kind };
+    return kind === 'spreadsheet' ? await withTable(input) : input;
   } catch {
     return { ...about, bytes: new Uint8Array(), kind: 'unread' };
   }
 }
 
 /**
- * How the files were shown whose place others of the same names took.
+ * How the files were shown whose place others of the same paths took.
  * @type {string[]}
  */
 let replaced = [];
 
 /**
- * Adds files to those that are there; one of the same name takes the place of the older, and it is
+ * The paths of what lay in folders and holds nothing for the page: so many are named at most.
+ * @type {string[]}
+ */
+let skipped = [];
+const MOST_SKIPPED = 8;
+
+/** When the files were read last. */
+let readAt = new Date();
+
+/** Whether a file is told of in a line alone: it came in a folder, and is none of the page's. */
+const isSkipped = (/** @type {Input} */ { path, kind }) =>
+  path.includes('/') && ['other', 'empty', 'unread'].includes(kind);
+
+/**
+ * Adds files to those that are there; one of the same path takes the place of the older, and it is
  * said. Those that come together all stay.
  */
-async function add(/** @type {Iterable<File>} */ given) {
-  const files = Array.from(given);
-  if (files.length === 0) return;
+async function add(/** @type {import('./gather.js').Given[]} */ given) {
+  if (given.length === 0) return;
   busy(true);
   await worded;
-  const read = await Promise.all(files.map(inputOf));
-  const isGone = (/** @type {Input} */ one) => read.some(more => more.name === one.name);
+  const all = await Promise.all(given.filter(({ file }) => file).map(inputOf));
+  const read = all.filter(one => !isSkipped(one)), bare = given.filter(({ file }) => !file);
+  skipped = [...all.filter(isSkipped), ...bare].map(({ path }) => path);
+  const isGone = (/** @type {Input} */ one) => read.some(more => more.path === one.path);
   replaced = inputs.filter(isGone).map(one => one.shown);
   inputs = [...inputs.filter(one => !isGone(one)), ...read];
+  readAt = new Date();
+  await checkAll();
+}
+
+/** Reads all files again of which the browser has a handle; what was stated of them stays. */
+async function readAgain() {
+  busy(true);
+  for (const input of inputs.filter(one => one.handle)) {
+    const { path, handle } = input, file = await handle.getFile().catch(() => new File([], path));
+    Object.assign(input, { taken: undefined }, await inputOf({ file, path, handle }));
+  }
+  readAt = new Date();
   await checkAll();
 }
 
@@ -438,6 +486,8 @@ let over = 0;
 const showOver = () => document.body.classList.toggle('over', over > 0);
 
 document.ondragenter = event => {
+  // (a text that is dragged is no file)
+  if (!event.dataTransfer.types.includes('Files')) return;
   event.preventDefault();
   over++;
   showOver();
@@ -447,20 +497,24 @@ document.ondragleave = () => {
   showOver();
 };
 document.ondragover = event => event.preventDefault();
-document.ondrop = event => {
+document.ondrop = async event => {
   event.preventDefault();
   over = 0;
   showOver();
-  add(event.dataTransfer.files);
+  add(await dropped(event.dataTransfer));
 };
 
 const choose = /** @type {HTMLInputElement} */ ($('choose'));
-// A file that has changed meanwhile may be chosen again. Where none is chosen, nothing is changed.
-choose.onclick = () => { choose.value = ''; };
-choose.onchange = () => add(choose.files);
-$('try').onclick = async () => add(await exampleFiles());
+for (const id of ['choose', 'choose-folder']) {
+  const button = /** @type {HTMLInputElement} */ ($(id));
+  // A file that has changed meanwhile may be chosen again. Where none is chosen, nothing is changed.
+  button.onclick = () => { button.value = ''; };
+  button.onchange = () => add(givenBy(button.files));
+}
+$('try').onclick = async () => add(givenBy(await exampleFiles()));
+$('read-again').onclick = () => readAgain();
 $('remove-all').onclick = () => {
-  [inputs, replaced] = [[], []];
+  [inputs, replaced, skipped] = [[], [], []];
   checkAll();
 };
 $('stop').onclick = () => stop();

@@ -15,13 +15,16 @@ import { text } from './texts.js';
 /** So many lines are shown before the one that is meant, and after it. */
 const AROUND = 2;
 
+/** So many bytes of a line are shown at most: longer ones are refused for that. */
+const MOST_SHOWN = 1024;
+
 const LF = 10, CR = 13, BLANK = 32;
 
 const signOf = (/** @type {number} */ byte) =>
   byte < 0x20 ? 0x2400 + byte : byte < 0x7f ? byte : 0xfffd;
 /** A line's bytes as letters, those outside 20 to 7E (hex) as signs that are seen. */
 const seen = (/** @type {Uint8Array} */ bytes) =>
-  Array.from(bytes, byte => String.fromCharCode(signOf(byte))).join('');
+  Array.from(bytes.subarray(0, MOST_SHOWN), byte => String.fromCharCode(signOf(byte))).join('');
 
 /**
  * The lines of a field file as an editor counts them, up to some after that of a block: that line's

@@ -17,7 +17,7 @@ import { spoken, text } from './texts.js';
  * How each language writes a date; English as it does where angles are in gon.
  * @type {Record<string, string>}
  */
-const DATES = { en: 'en-GB', de: 'de', fr: 'fr' };
+export const DATES = { en: 'en-GB', de: 'de', fr: 'fr' };
 
 /**
  * @typedef {import('./answers.js').Card} Card
@@ -85,6 +85,8 @@ function showAnswers(card, limits, parent) {
   }
   for (const answer of card.answers) {
     const said = saidOf(answer), label = answer.other?.shown;
+    const workbook = answer.other?.original;
+    if (workbook) element('div', text('takenFrom', { name: workbook.shown }), parent);
     say(label ? text('labelled', { label, said }) : said, moodOfAnswer(answer, card));
     if (answer.status <= REFUSED) ofProgram('samp', answer.line, element('div', '', parent));
     ofProgram('code', answer.command, element('div', '', parent));

@@ -2,11 +2,13 @@
 import { ACCEPTED } from './answers.js';
 import { element, ofProgram } from './elements.js';
 import { decimalsIn, originalOf } from './files.js';
+import { hasZeniths } from './notes.js';
 import { showPicture } from './picture.js';
 import { accuracyIn, deviationIn, differencesIn, readingsOf, residualsIn } from './records.js';
 import { showMeaning } from './refusals.js';
+import { readingsTables, zenithsTables } from './readings.js';
 import {
-  accuracyNote, differencesTable, directionsTable, facesTables, readingsTables, residualsTable,
+  accuracyNote, differencesTable, directionsTable, facesTables, residualsTable,
 } from './tables.js';
 import { text } from './texts.js';
 
@@ -35,25 +37,29 @@ function showRefused(/** @type {Answer} */ answer, /** @type {Element} */ parent
  */
 
 /**
- * The readings of a station: folded in the window; on paper they have the face differences too.
+ * The readings of a station: folded in the window; on paper they have the face differences too, and
+ * the zenith angles where the user wants them.
  * @param {Card} card
  * @param {boolean} isOnPaper
  * @returns {Section[]}
  */
-function sectionsOfReadings({ station, results: { report } }, isOnPaper) {
+function sectionsOfReadings({ station, results: { report, zeniths } }, isOnPaper) {
   /** @type {Section} */
   const faces = { title: text('faces'), fill: part => facesTables(station, part) };
   if (report.status !== ACCEPTED) return [faces];
   const { listed: { name }, field } = station, unfolded = originalOf(field).unfolded ??= new Set();
-  /** @type {Section} */
-  const readings = {
-    title: text('readings'), className: 'across',
-    fill: part => readingsTables(readingsOf(report.line), part),
+  /** @type {(title: string, fill: (part: Element) => void) => Section} */
+  const folded = (title, fill) => {
+    const key = `${title} ${name}`, about = { title: text(title), fill, className: 'across whole' };
+    const unfold = (/** @type {boolean} */ isOpen) => {
+      if (isOpen) unfolded.add(key); else unfolded.delete(key);
+    };
+    return isOnPaper ? about : { ...about, isUnfolded: unfolded.has(key), unfold };
   };
-  if (isOnPaper) return [readings];
-  readings.isUnfolded = unfolded.has(name);
-  readings.unfold = isOpen => { if (isOpen) unfolded.add(name); else unfolded.delete(name); };
-  return [faces, readings];
+  const readings = folded('readings', part => readingsTables(readingsOf(report.line), part));
+  const angles = folded('zeniths', part => zenithsTables(zeniths, part));
+  const isWanted = zeniths.length > 0 && (hasZeniths() || !isOnPaper);
+  return [...isOnPaper ? [] : [faces], readings, ...isWanted ? [angles] : []];
 }
 
 /**

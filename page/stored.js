@@ -1,5 +1,5 @@
 // What stands in the page beside the module, packed too: what is read only after the page is there.
-import { bytesOfBase64, unpacked } from './packed.js';
+import { bytesOfText, unpacked } from './packed.js';
 import { TEXTS } from './texts.js';
 
 /**
@@ -17,7 +17,7 @@ export const part = (/** @type {string} */ id) => document.getElementById(id)?.t
 let whole;
 
 async function read() {
-  const bytes = await unpacked(bytesOfBase64(part('stored')));
+  const bytes = await unpacked(bytesOfText(part('stored')));
   return JSON.parse(new TextDecoder().decode(bytes));
 }
 

@@ -149,39 +149,12 @@ export function facesTables(/** @type {Station} */ station, /** @type {Element} 
   }
 }
 
-/**
- * The readings in both faces, a table for each set, the greatest 2c and the greatest 2i marked.
- * @param {import('./records.js').Reading[]} readings
- * @param {Element} parent
- */
-export function readingsTables(readings, parent) {
-  element('p', text('readingsCaption'), parent, { className: 'caption' });
-  const around = element('div', '', parent, { className: 'sets' });
-  const headings = ['faceOne', 'faceTwo', 'mean'].map(name => text(name));
-  const greatest = {
-    twoC: Math.max(...readings.map(({ twoC }) => sizeOf(twoC))),
-    twoI: Math.max(...readings.map(({ twoI }) => sizeOf(twoI))),
-  };
-  for (const set of each(readings.map(one => one.set))) {
-    const rows = readings.filter(one => one.set === set).map(reading => {
-      const cell = (/** @type {'twoC' | 'twoI'} */ name) => {
-        const mark = sizeOf(reading[name]) === greatest[name] ? 'greatest' : '';
-        return { text: signedNumeral(reading[name]), mark };
-      };
-      const { target, one, two, mean } = reading;
-      const gon = [one, two, mean].map(number => ({ text: numeral(number) }));
-      return [target, ...gon, cell('twoC'), cell('twoI')];
-    });
-    const title = text('setNumber', { set }), heads = [title, ...headings, '2c', '2i'];
-    tableOf(title, heads, /** @type {any} */ (rows), around, 'numbers');
-  }
-}
-
 // ---------------------------------------------------------------- as files
 
 const fieldText = (/** @type {string} */ field) =>
   /[",\r\n]/.test(field) ? `"${field.replaceAll('"', '""')}"` : field;
-const csv = (/** @type {string[][]} */ rows) =>
+/** Records as comma-separated text. */
+export const csv = (/** @type {string[][]} */ rows) =>
   rows.map(row => `${row.map(fieldText).join(',')}\n`).join('');
 
 /** The face differences as a file: in mgon. */

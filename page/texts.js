@@ -33,11 +33,22 @@ export const TEXTS = {
     fr: 'Lâchez : les fichiers sont triés d’après leur contenu',
   },
   dropKinds: {
-    en: 'A field file (GSI) alone gives adjusted directions, residuals and the protocol. With the table of directions (CSV: target, gon) or the sheet of your program these are checked.',
-    de: 'Eine Messdatei (GSI) allein ergibt ausgeglichene Richtungen, Verbesserungen und das Protokoll. Mit der Richtungstabelle (CSV: Ziel, gon) oder dem Ergebnisblatt (CSV mit exakten Brüchen) Ihres Programms werden diese geprüft.',
-    fr: 'Un fichier de terrain (GSI) seul donne les directions compensées, les résidus et le procès-verbal. Avec la table de directions (CSV : point visé, gon) ou le résultat exact (CSV) de votre programme, ceux-ci sont vérifiés.',
+    en: 'A field file (GSI) alone gives adjusted directions, residuals and the protocol. With the table of directions (CSV or .xlsx: target, gon) or the sheet of your program these are checked.',
+    de: 'Eine Messdatei (GSI) allein ergibt ausgeglichene Richtungen, Verbesserungen und das Protokoll. Mit der Richtungstabelle (CSV oder .xlsx: Ziel, gon) oder dem Ergebnisblatt (CSV mit exakten Brüchen) Ihres Programms werden diese geprüft.',
+    fr: 'Un fichier de terrain (GSI) seul donne les directions compensées, les résidus et le procès-verbal. Avec la table de directions (CSV ou .xlsx : point visé, gon) ou le résultat exact (CSV) de votre programme, ceux-ci sont vérifiés.',
   },
   choose: { en: 'Choose files', de: 'Dateien wählen', fr: 'Choisir des fichiers' },
+  chooseFolder: { en: 'Choose a folder', de: 'Ordner wählen', fr: 'Choisir un dossier' },
+  readAgain: {
+    en: 'Read again (as of {time})',
+    de: 'Neu einlesen (Stand {time})',
+    fr: 'Relire (état de {time})',
+  },
+  skipped: {
+    en: 'Not used, of folders: {names}.',
+    de: 'Aus Ordnern nicht verwendet: {names}.',
+    fr: 'Non utilisé, des dossiers : {names}.',
+  },
   tryExample: { en: 'Try an example', de: 'Beispiel ausprobieren', fr: 'Essayer un exemple' },
   addMore: { en: 'Add files', de: 'Dateien hinzufügen', fr: 'Ajouter des fichiers' },
   files: { en: 'Files', de: 'Dateien', fr: 'Fichiers' },
@@ -51,11 +62,23 @@ export const TEXTS = {
   kindField: { en: 'field file', de: 'Messdatei', fr: 'fichier de terrain' },
   kindSheet: { en: 'sheet of {station}', de: 'Ergebnisblatt von {station}', fr: 'résultat exact de {station}' },
   kindTable: { en: 'table of directions', de: 'Richtungstabelle', fr: 'table de directions' },
-  kindSpreadsheet: {
-    en: 'not used: a spreadsheet; save its two columns as CSV',
-    de: 'nicht verwendet: eine Arbeitsmappe; speichern Sie die zwei Spalten als CSV',
-    fr: 'non utilisé : un classeur ; enregistrez ses deux colonnes en CSV',
+  kindWorkbook: {
+    en: 'table of directions, of the first sheet',
+    de: 'Richtungstabelle, vom ersten Blatt',
+    fr: 'table de directions, de la première feuille',
   },
+  kindSpreadsheet: {
+    en: 'not used: a spreadsheet whose first sheet hasn’t two columns, target and direction; save these as CSV',
+    de: 'nicht verwendet: eine Arbeitsmappe, deren erstes Blatt nicht zwei Spalten hat, Ziel und Richtung; speichern Sie diese als CSV',
+    fr: 'non utilisé : un classeur dont la première feuille n’a pas deux colonnes, point visé et direction ; enregistrez-les en CSV',
+  },
+  takenFrom: {
+    en: 'Taken from the first sheet of {name} by the page alone, which is not proved: compare it.',
+    de: 'Vom ersten Blatt von {name} übernommen, von der Seite allein und ohne Beweis: Vergleichen Sie es.',
+    fr: 'Repris de la première feuille de {name} par la page seule, sans preuve : comparez-le.',
+  },
+  taken: { en: 'What was taken', de: 'Was übernommen wurde', fr: 'Ce qui a été repris' },
+  saveTaken: { en: 'Save it as CSV', de: 'Als CSV speichern', fr: 'L’enregistrer en CSV' },
   kindUtf16: {
     en: 'not used: text in UTF-16; save it as UTF-8',
     de: 'nicht verwendet: Text in UTF-16; speichern Sie ihn als UTF-8',
@@ -67,9 +90,9 @@ export const TEXTS = {
     fr: 'non utilisé : le fichier est vide',
   },
   kindUnread: {
-    en: 'not used: it can’t be read; a folder is no file, drop what is in it',
-    de: 'nicht verwendet: nicht lesbar; ein Ordner ist keine Datei, legen Sie seinen Inhalt ab',
-    fr: 'non utilisé : illisible ; un dossier n’est pas un fichier, déposez son contenu',
+    en: 'not used: it can’t be read; drop it again',
+    de: 'nicht verwendet: nicht lesbar; legen Sie sie noch einmal ab',
+    fr: 'non utilisé : illisible ; déposez-le de nouveau',
   },
   kindOther: {
     en: 'not used: neither a field file, nor a sheet, nor a table of directions',
@@ -599,6 +622,18 @@ export const TEXTS = {
     de: 'In gon, das Mittel beider Lagen auf das erste Ziel des Satzes reduziert; 2c und 2i in mgon, die größten markiert',
     fr: 'En gon, moyenne CG/CD réduite au premier point visé de la série ; 2c et 2i en mgon, les plus grands marqués',
   },
+  zeniths: { en: 'Zenith angles', de: 'Zenitwinkel', fr: 'Angles zénithaux' },
+  zenithsCaption: {
+    en: 'In gon. The page alone takes and averages them, which is not proved; of the same lines it gets each direction and each 2i as the report has them.',
+    de: 'In gon. Die Seite allein entnimmt und mittelt sie, ohne Beweis; aus denselben Zeilen erhält sie jede Richtung und jedes 2i wie der Bericht.',
+    fr: 'En gon. La page seule les reprend et en fait la moyenne, sans preuve ; des mêmes lignes elle tire chaque direction et chaque 2i comme le rapport.',
+  },
+  zenithsToo: {
+    en: 'Zenith angles in protocols',
+    de: 'Zenitwinkel in Protokollen',
+    fr: 'Angles zénithaux dans les procès-verbaux',
+  },
+  allSets: { en: 'All sets', de: 'Alle Sätze', fr: 'Toutes les séries' },
   faceOne: { en: 'Face I', de: 'Lage I', fr: 'CG' },
   faceTwo: { en: 'Face II', de: 'Lage II', fr: 'CD' },
   mean: { en: 'Mean', de: 'Mittel', fr: 'Moyenne' },
@@ -706,9 +741,9 @@ export const TEXTS = {
   },
   aboutNot: { en: 'Not proved', de: 'Nicht bewiesen', fr: 'Non prouvé' },
   aboutNotSaid: {
-    en: 'That the page shows what the module answered, and which files it takes together: this is tested. That the greatest residual, with its three decimals, is held to your limit where no sheet is: tested too. The tools that make the module of what was proved, and the browser, are trusted. What was read in the field nobody can prove: see the residuals.',
-    de: 'Dass die Seite zeigt, was das Modul antwortet, und welche Dateien sie zusammenfügt: Das ist getestet. Dass die größte Verbesserung mit ihren drei Dezimalen, wo kein Ergebnisblatt vorliegt, Ihren Grenzwert einhält: ebenso getestet. Den Werkzeugen, die aus dem Bewiesenen das Modul machen, und dem Browser wird vertraut. Ob im Feld richtig gemessen wurde, kann niemand beweisen: Das zeigen die Verbesserungen.',
-    fr: 'Que la page montre ce que le module répond, et quels fichiers elle réunit : cela est testé. Que le plus grand résidu, avec ses trois décimales, respecte votre limite là où il n’y a pas de résultat exact : testé aussi. On se fie aux outils qui font le module de ce qui est prouvé, et au navigateur. Ce qui a été lu sur le terrain, personne ne peut le prouver : voyez les résidus.',
+    en: 'That the page shows what the module answered, which files it takes together, and what it takes of a workbook (.xlsx): this is tested. That the greatest residual, with its three decimals, is held to your limit where no sheet is: tested too. The tools that make the module of what was proved, and the browser, are trusted. What was read in the field nobody can prove: see the residuals.',
+    de: 'Dass die Seite zeigt, was das Modul antwortet, welche Dateien sie zusammenfügt, und was sie einer Arbeitsmappe (.xlsx) entnimmt: Das ist getestet. Dass die größte Verbesserung mit ihren drei Dezimalen, wo kein Ergebnisblatt vorliegt, Ihren Grenzwert einhält: ebenso getestet. Den Werkzeugen, die aus dem Bewiesenen das Modul machen, und dem Browser wird vertraut. Ob im Feld richtig gemessen wurde, kann niemand beweisen: Das zeigen die Verbesserungen.',
+    fr: 'Que la page montre ce que le module répond, quels fichiers elle réunit, et ce qu’elle reprend d’un classeur (.xlsx) : cela est testé. Que le plus grand résidu, avec ses trois décimales, respecte votre limite là où il n’y a pas de résultat exact : testé aussi. On se fie aux outils qui font le module de ce qui est prouvé, et au navigateur. Ce qui a été lu sur le terrain, personne ne peut le prouver : voyez les résidus.',
   },
   aboutWho: { en: 'By whom', de: 'Von wem', fr: 'Par qui' },
   aboutWhoSaid: {

@@ -1,5 +1,5 @@
 // The page's side of the worker: each call is a promise of its answer, and all can be stopped.
-import { bytesOfBase64 } from './packed.js';
+import { bytesOfText } from './packed.js';
 import { part, stored } from './stored.js';
 
 /**
@@ -45,7 +45,7 @@ export async function start() {
   worker.onerror = event => {
     for (const { reject } of waiting.values()) reject(new Error(event.message));
   };
-  await sent({ module: bytesOfBase64(part('module')) });
+  await sent({ module: bytesOfText(part('module')) });
 }
 
 /** Ends what is under way; the next calls go to a new worker. */

@@ -2,6 +2,7 @@
 import { calls } from './calls.js';
 import { unpacked } from './packed.js';
 import { readingsIn } from './records.js';
+import { anglesIn } from './zeniths.js';
 
 /** @type {Promise<WebAssembly.Module>} */
 let core;
@@ -15,8 +16,20 @@ async function readings(/** @type {WebAssembly.Module} */ module, /** @type {Uin
   return { status, shown: [new TextEncoder().encode(count)] };
 }
 
+/**
+ * The angles in the sets of a station, of the words of a field file.
+ * @param {WebAssembly.Module} module
+ * @param {Uint8Array} gsi
+ * @param {Uint8Array} name
+ */
+async function angles(module, gsi, name) {
+  const { status, shown: [words] } = await calls.words(module, gsi);
+  const [all, station] = [words, name].map(bytes => new TextDecoder().decode(bytes));
+  return { status, shown: [new TextEncoder().encode(anglesIn(all, station))] };
+}
+
 /** @type {typeof calls} */
-const asked = { ...calls, readings };
+const asked = { ...calls, readings, angles };
 
 onmessage = async ({ data: { module, id, name, inputs } }) => {
   try {

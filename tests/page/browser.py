@@ -140,11 +140,11 @@ class Page:
             time.sleep(0.02)
         return found
 
-    def give(self, *paths: Path) -> None:
-        """Chooses files by the button; the page has answered when this returns."""
-        self.js("$('choose').onclick()")
+    def give(self, *paths: Path, button: str = "choose") -> None:
+        """Chooses files by a button; the page has answered when this returns."""
+        self.js(f"$('{button}').onclick()")
         root = self.call("DOM.getDocument")["root"]["nodeId"]
-        field = self.call("DOM.querySelector", nodeId=root, selector="#choose")["nodeId"]
+        field = self.call("DOM.querySelector", nodeId=root, selector=f"#{button}")["nodeId"]
         with self.answered():
             self.call("DOM.setFileInputFiles", nodeId=field, files=[str(path) for path in paths])
 

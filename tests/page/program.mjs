@@ -20,7 +20,13 @@ const text = fs.readFileSync(page, 'utf8');
 const part = id => text.match(new RegExp(`<script id="${id}"[^>]*>([^]*?)</script>`))[1];
 
 globalThis.onmessage = null; // what a worker hears by
-const unpacked = id => zlib.gunzipSync(Buffer.from(part(id), 'base64'));
+const LETTERS = '0123456789ABCDEFGHIJKLMNOPQRSTUVWXYZabcdefghijklmnopqrstuvwxyz!#$%&()*+-;<=>?@^_`{|}~';
+const bytesOfGroup = ([letters]) => {
+  const four = Buffer.alloc(4);
+  four.writeUInt32BE([...letters.padEnd(5, '~')].reduce((sum, one) => 85 * sum + LETTERS.indexOf(one), 0));
+  return four.subarray(0, letters.length - 1);
+};
+const unpacked = id => zlib.gunzipSync(Buffer.concat([...part(id).matchAll(/[^]{1,5}/g)].map(bytesOfGroup)));
 vm.runInThisContext(JSON.parse(String(unpacked('stored'))).calls);
 const calls = vm.runInThisContext('calls');
 const core = await WebAssembly.compile(unpacked('module'));

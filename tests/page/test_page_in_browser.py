@@ -15,6 +15,7 @@ import subprocess
 import sys
 import tempfile
 import unittest
+import zipfile
 from collections import Counter
 from fractions import Fraction
 from pathlib import Path
@@ -756,6 +757,24 @@ class PageInBrowserTest(TimedTest):
                 self.assertFalse([text for text in paragraphs if "\n" in text or text.startswith("refused:")])
             page.empty()
 
+    def test_of_a_line_that_is_too_long_as_much_is_shown_as_a_line_may_have(self):
+        reading = b"110001+0000000A 21.102+00000000 22.102+10000000"
+        for blanks, line, marked in [(900, "refused: block 1: Byte 948", TAB), (15_000_000, "refused: block 1: LineTooLong", None)]:
+            page = self.page(self.file("long.gsi", reading + blanks * b" " + b"\t\n"))
+            self.assertEqual(line, page.text(".exact samp"))
+            self.assertEqual(marked or reading.decode() + 977 * " ", page.text("mark"))
+
+    def test_of_many_stations_a_choice_is_filled_when_it_is_turned_to(self):
+        fields = [self.file(f"{nth}.gsi", FIELD.read_bytes()) for nth in range(21)]
+        page = self.page(*fields, self.file("odd.csv", b"X,0\nY,1\n"))
+        options = "document.querySelector('#inputs select').length"
+        self.assertEqual(1, page.js(options))
+        page.js("document.querySelector('#inputs select').focus()")
+        self.assertEqual(22, page.js(options))
+        self.choose(page, "odd.csv", "7.gsi: S1")
+        self.assertEqual("refused: table row 1: Unknown", page.text(".exact samp"))
+        self.assertEqual("7.gsi: S1", page.text("#inputs option:checked"))
+
     def test_on_a_phone_what_is_meant_is_in_sight(self):
         text = FIELD.read_text().replace("25000010 22.102+30000000", "25000010 22.102+3000000X")
         page = self.page(self.file("fault.gsi", text.encode()), size=PHONE)
@@ -874,7 +893,8 @@ class PageInBrowserTest(TimedTest):
         self.assertEqual("field file", kinds[P7_FIELD.name])
         self.assertEqual("sheet of P7", kinds[P7_SHEET.name])
         self.assertEqual("table of directions", kinds[P7_TABLE.name])
-        for name, _, said in [*UNUSED, ("week", None, "a folder is no file")]:
+        self.assertEqual("Not used, of folders: week/.", page.text("#skipped"))
+        for name, _, said in UNUSED:
             self.assertTrue(kinds[name].startswith("not used: ") and said in kinds[name], kinds[name])
         agrees = "Agrees. 6 targets within 0.004 mgon of the least-squares directions; the limit is 0.01 mgon."
         self.assertEqual([["good", "Station P7", P7_HEADLINE, agrees]], self.cards(page))
@@ -1021,6 +1041,129 @@ class PageInBrowserTest(TimedTest):
         self.assertEqual(f"Replaced by a file of the same name: {FIELD.name}.", page.text("#replaced"))
         page.give(P7_TABLE)
         self.assertEqual("", page.text("#replaced"))
+
+    def week(self):
+        """A folder with two days, of which each has a job and a table of the same names, and other files."""
+        week = self.folder / "week"
+        for day, station in (("mon", "p7"), ("tue", "s1")):
+            (week / day).mkdir(parents=True)
+            for name, end in (("job.gsi", ".gsi"), ("t.csv", "_directions.csv")):
+                shutil.copy(EXAMPLES / f"station_{station}{end}", week / day / name)
+        (week / "mon" / "photo.jpg").write_bytes(UNUSED[-1][1])
+        (week / ".hidden.gsi").write_bytes(FIELD.read_bytes())
+        return week
+
+    def test_the_files_of_a_folder_belong_together_by_their_folders(self):
+        """Of a folder that is dropped, and of one that is chosen."""
+        week = self.week()
+        for way in ("drop", "choose"):
+            page = self.page()
+            if way == "drop":
+                page.drop(week)
+            else:
+                page.give(week, button="choose-folder")
+            with self.subTest(way):
+                names = [f"week/{day}/{name}" for day in ("mon", "tue") for name in ("job.gsi", "t.csv")]
+                self.assertEqual(names, sorted(page.texts("#inputs .name")))
+                self.assertEqual("Not used, of folders: week/mon/photo.jpg.", page.text("#skipped"))
+                self.assertEqual("2 computed rightly", page.text("#verdict"))
+                self.assertEqual({"good"}, {card[0] for card in self.cards(page)})
+        # One that lies elsewhere replaces none of them, and stands beside.
+        page.give(week / "mon" / "job.gsi")
+        self.assertEqual("", page.text("#replaced"))
+        self.assertIn("job.gsi", page.texts("#inputs .name"))
+        self.assertEqual("", page.text("#skipped"))
+
+    def test_a_job_that_changes_on_disk_is_read_again(self):
+        """What was stated of it stays."""
+        page, plain = self.page(), self.plain()
+        page.drop(plain)
+        self.state_name(page, "P7")
+        before = page.text(".digests")
+        plain.write_bytes(plain.read_bytes().replace(b"39999942", b"39999342"))
+        page.fill("two-c", "19")
+        self.assertEqual(before, page.text(".digests"))
+        with page.answered():
+            page.js("$('read-again').click()")
+        self.assertIn(hashlib.sha256(plain.read_bytes()).hexdigest(), page.text(".digests"))
+        self.assertEqual(["read", "Station P7"], self.cards(page)[0][:2])
+        self.assertRegex(page.text("#read-again"), r"^Read again \(as of \d\d:\d\d:\d\d\)$")
+        plain.unlink()
+        with page.answered():
+            page.js("$('read-again').click()")
+        self.assertTrue(page.text("#inputs .kind").startswith("not used: "), page.text("#inputs .kind"))
+        # A file without a handle is dropped again: the newer takes its place.
+        page.empty()
+        page.give(P7_FIELD)
+        self.assertFalse(page.js("$('read-again').checkVisibility()"))
+
+    def workbook(self, name, rows, prefix="", packed=True):
+        """A workbook as a spreadsheet writes it: names are shared texts, and numbers as it keeps them."""
+        shared = sorted({cell for row in rows for cell in row if isinstance(cell, str)})
+        open_, close = f"<{prefix}", f"</{prefix}"
+
+        def cell(column, at, value):
+            place = f'r="{column}{at}"'
+            if isinstance(value, str):
+                return f'{open_}c {place} t="s">{open_}v>{shared.index(value)}{close}v>{close}c>'
+            return f"{open_}c {place}>{open_}v>{value!r}{close}v>{close}c>"
+
+        body = "".join(
+            f'{open_}row r="{at}">{"".join(cell(column, at, value) for column, value in zip("BCDE", row))}{close}row>'
+            for at, row in enumerate(rows, 3)
+        )
+        space = f'xmlns{":" + prefix[:-1] if prefix else ""}="http://schemas.openxmlformats.org/spreadsheetml/2006/main"'
+        link = "http://schemas.openxmlformats.org/officeDocument/2006/relationships"
+        texts = "".join(f"{open_}si>{open_}t>{one}{close}t>{open_}rPh>{open_}t>no{close}t>{close}rPh>{close}si>" for one in shared)
+        parts = {
+            "xl/workbook.xml": f'{open_}workbook {space} xmlns:r="{link}">{open_}sheets>'
+            f'{open_}sheet name="Second in the zip" sheetId="7" r:id="rId2"/>{open_}sheet name="x" sheetId="1" r:id="rId1"/>'
+            f"{close}sheets>{close}workbook>",
+            "xl/_rels/workbook.xml.rels": '<Relationships xmlns="http://schemas.openxmlformats.org/package/2006/relationships">'
+            '<Relationship Id="rId1" Target="worksheets/sheet1.xml"/><Relationship Id="rId2" Target="/xl/worksheets/sheet2.xml"/>'
+            "</Relationships>",
+            "xl/worksheets/sheet1.xml": f"{open_}worksheet {space}/>",
+            "xl/worksheets/sheet2.xml": f"{open_}worksheet {space}>{open_}sheetData>{body}{close}sheetData>{close}worksheet>",
+            "xl/sharedStrings.xml": f"{open_}sst {space}>{texts}{close}sst>",
+        }
+        path = self.folder / name
+        with zipfile.ZipFile(path, "w", zipfile.ZIP_DEFLATED if packed else zipfile.ZIP_STORED) as book:
+            for part, text in parts.items():
+                book.writestr(part, f'<?xml version="1.0" encoding="UTF-8"?>{text}')
+        return path
+
+    def test_two_columns_of_a_workbook_are_a_table_and_what_was_taken_is_shown(self):
+        rows = [row.split(",") for row in FOUR_DECIMALS.decode().splitlines()]
+        typed = [["Ziel", "Hz"], *([name, float(gon)] for name, gon in rows)]
+        # As a computer keeps 64.5213, and a number that was computed.
+        typed[2][1], typed[3][1] = 64.521299999999997, 139.40449999999998
+        taken = "Ziel,Hz\nTOWER,0\nP3,64.5213\nMAST,139.4045\nP8,212.7572\nCHURCH,278.8606\nP12,345.2092\n"
+        agrees = "Agrees. 6 targets within 0.025 mgon of the least-squares directions; the limit is 0.055 mgon."
+        for nth, how in enumerate([{}, {"prefix": "x:"}, {"packed": False}]):
+            book = self.workbook(f"{nth}.xlsx", typed, **how)
+            page = self.page(P7_FIELD, book)
+            with self.subTest(how):
+                self.assertEqual([["good", "Station P7", agrees]], self.cards(page))
+                self.assertEqual("table of directions, of the first sheet", page.texts("#inputs .kind")[1])
+                self.assertEqual(taken, page.text(".answer .marked pre"))
+                said = f"Taken from the first sheet of {nth}.xlsx by the page alone, which is not proved: compare it."
+                self.assertEqual(said, page.text(".answer .marked p"))
+                self.assertEqual(taken.encode(), page.saved("Save it as CSV", f"{nth}.csv"))
+                self.assertEqual(f"station_check compare station_p7.gsi P7 {nth}.csv", page.text(".exact code"))
+                printed = self.printed_text(page)
+                for one in (said, hashlib.sha256(book.read_bytes()).hexdigest(), hashlib.sha256(taken.encode()).hexdigest()):
+                    self.assertIn(one, printed)
+        # Three columns are no table; nor is what is no workbook.
+        page = self.page(P7_FIELD, self.workbook("three.xlsx", [["A", 0.5, 1.5], ["B", 1.5, 2.5]]), self.file("none.xlsx", b"PK\3\4"))
+        kinds = dict(zip(page.texts("#inputs .name"), page.texts("#inputs .kind")))
+        for name in ("three.xlsx", "none.xlsx"):
+            self.assertTrue(kinds[name].startswith("not used: a spreadsheet"), kinds)
+        # A station is chosen for one as for a table.
+        both = self.file("both.gsi", P7_FIELD.read_bytes() + FIELD.read_bytes())
+        page = self.page(both, self.workbook("odd.xlsx", [["X", 0.5], ["Y", 1.5]]))
+        self.assertEqual(["open", "odd.csv"], self.cards(page)[0][:2])
+        self.choose(page, "odd.xlsx", "both.gsi: S1")
+        self.assertEqual("refused: table row 1: Unknown", page.text(".exact samp"))
 
     # ------------------------------------------------------------ limits
 
@@ -1380,6 +1523,63 @@ class PageInBrowserTest(TimedTest):
         page.give(self.moved(6000))
         page.js("onbeforeprint()")
         self.assertEqual((0, 2), tuple(page.js(f"document.querySelectorAll('#protocol {one}').length") for one in (".sets", "section table")))
+
+    def zeniths(self):
+        """By set, and of all sets, the mean zenith angles of P7 by target, of the lines of its field file."""
+        means, number = {}, None
+        for line in P7_FIELD.read_text().splitlines():
+            words = {word.lstrip("*")[:2]: word.lstrip("*")[7:] for word in line.split()}
+            if "41" in words:
+                number = int(words["42"]) if int(words["41"]) == 20 else None
+            elif number:
+                angle, target = int(words["22"]), words["11"].lstrip("0")
+                means.setdefault((number, target), []).append(angle if angle < 20_000_000 else 40_000_000 - angle)
+        by_set = {place: Fraction(sum(both), 200_000) for place, both in means.items()}
+        targets = dict.fromkeys(target for _, target in by_set)
+        of = {target: [one for (_, name), one in by_set.items() if name == target] for target in targets}
+        return by_set, {target: sum(some) / len(some) for target, some in of.items()}
+
+    def test_zenith_angles_are_shown_where_their_lines_give_what_the_report_has(self):
+        """In the window folded, and said not to be proved; on paper where the user wants them."""
+        by_set, of_all = self.zeniths()
+        self.assertEqual(22, len(by_set))
+        page = self.page(P7_FIELD)
+        page.js("document.querySelectorAll('.results section details').forEach(part => { part.open = true })")
+        page.wait("document.querySelectorAll('#answers .sets').length === 2")
+        rows = page.js(
+            "[...[...document.querySelectorAll('#answers .sets')][1].querySelectorAll('table')].flatMap(table =>"
+            " [...table.tBodies[0].rows].map(row => [table.tHead.rows[0].cells[0].textContent, row.cells[0].textContent,"
+            " row.cells[row.cells.length - 1].textContent]))"
+        )
+
+        def rounded(one):
+            return f"{math.floor(one * 10**6 + Fraction(1, 2)) / 10**6:.6f}"
+
+        self.assertEqual(
+            [["All sets", target, rounded(one)] for target, one in of_all.items()]
+            + [[f"Set {number}", target, rounded(one)] for (number, target), one in by_set.items()],
+            rows,
+        )
+        self.assertIn("which is not proved", page.texts("#answers .whole p.caption")[1])
+        self.assertEqual(["98.12404", "301.87674", "98.123650"], page.js("[...[...document.querySelectorAll('#answers .sets')][1].querySelectorAll('td')].slice(6, 9).map(cell => cell.textContent)"))
+        self.assertNotIn("Zenith angles", self.printed_text(page))
+        page.js("$('zeniths').checked = true; $('zeniths').onchange()")
+        self.assertIn("Zenith angles", self.printed_text(page))
+        page.call("Page.reload")
+        page.wait("document.readyState === 'complete' && typeof state !== 'undefined' && state > 0")
+        self.assertTrue(page.js("$('zeniths').checked"))
+        # Of lines that give another direction or another 2i, or none, nothing is shown.
+        page.give(P7_FIELD)
+        angles = page.js("ask('angles', cards[0].field.bytes, 'P7').then(({ text }) => text)")
+        self.assertTrue(angles.startswith("1\tTOWER\t0000000039999942\t0000000020000090\t0000000009812404\t0000000030187674\n"))
+        readings = "readingsOf(cards[0].results.report.line)"
+        for text in (angles.replace("39999942", "39999943"), angles.replace("09812404", "09812405"), "", angles.partition("\n")[2]):
+            self.assertEqual([], page.js(f"zenithsOf({json.dumps(text)}, {readings})"))
+        self.assertEqual(22, page.js(f"zenithsOf({json.dumps(angles)}, {readings}).length"))
+        # In a job without codes they are those of the copy.
+        page.empty()
+        page.give(JOB)
+        self.assertEqual([22, 6], page.js("cards.map(card => card.results.zeniths.length)"))
 
     def test_all_protocols_are_printed_and_saved_together(self):
         """Those that were not opened too; what is saved has a list of what is in it, which leads there."""
@@ -1773,8 +1973,8 @@ class PageInBrowserTest(TimedTest):
         self.assertEqual(LARGE[0] + 1, len(page.texts(".card")))
 
     def test_a_browser_that_cannot_run_the_module_is_told_so(self):
-        text, module = PAGE.read_text(), base64.b64encode(gzip.compress(b"\0asm\1\0\0\0\5\3\1\4")).decode()
-        start = text.index('base64">') + len('base64">')
+        text, module = PAGE.read_text(), base64.b85encode(gzip.compress(b"\0asm\1\0\0\0\5\3\1\4")).decode()
+        start = text.index('base85">') + len('base85">')
         broken = text[:start] + module + text[text.index("</script>", start) :]
         page = browser.Page(self.file("broken.html", broken.encode()))
         self.addCleanup(page.close)
@@ -1787,7 +1987,7 @@ class PageInBrowserTest(TimedTest):
 
     def test_the_page_names_the_module_that_is_in_it(self):
         page = self.page()
-        module = gzip.decompress(base64.b64decode(page.text("#module")))
+        module = gzip.decompress(base64.b85decode(page.text("#module")))
         self.assertIn(hashlib.sha256(module).hexdigest(), page.text("footer small"))
 
 
