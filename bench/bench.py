@@ -44,7 +44,7 @@ PAGE = ROOT / "bench" / "MEASURED.md"
 HEAD = """\
 # Measured
 
-This page is made by `make bench BENCH='--page ..'`: [PERFORMANCE](../docs/PERFORMANCE.md) says what is measured and how, and what the marks are. A mark that is not kept is in bold. Each table has the commit of its code, its machine, and how busy other work kept that meanwhile: where that is more than a tenth of a thread, times are too long, and their ratios uncertain.
+This page is made by `make bench BENCH='--page ..'`: [README](README.md) says what is measured and how, and what the marks are. A mark that is not kept is in bold. Each table has the commit of its code, its machine, and how busy other work kept that meanwhile: where that is more than a tenth of a thread, times are too long, and their ratios uncertain.
 """
 BEGIN = "Commit "
 

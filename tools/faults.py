@@ -26,7 +26,7 @@ HEADINGS = [
 INTRODUCTION = """\
 # Faults
 
-A refusal is one line on standard error, and names the first fault: `refused: block 4: TwoC`. This is what each means, as `station_check explain` lists them. `station_check explain FAULT`, or the whole line of a refusal after `explain`, says when the fault comes, with an example, and what to do; so does the page in a browser at a refusal, in English, German and French. [FORMATS](FORMATS.md) says exactly when each comes, and which comes first; [the guide](GUIDE.md#when-it-is-refused) has the way on from those of `mark`. This page is made by `tools/faults.py` from what the program prints.
+A refusal is one line on standard error, and names the first fault: `refused: block 4: TwoC`. This is what each means, as `station_check explain` lists them. `station_check explain FAULT` says when it comes, with an example, and what to do; so does the page in a browser, in English, German and French. [FORMATS](FORMATS.md) says exactly when each comes, and which first; [the guide](GUIDE.md#when-it-is-refused) has the way on from those of `mark`. `tools/faults.py` makes this page from what the program prints.
 """
 
 

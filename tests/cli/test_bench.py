@@ -125,7 +125,7 @@ class BenchTest(ProgramTest):
                 self.assertEqual(made, bench.tables_of(page.read_text()))
 
     def test_the_page_of_speed_has_the_marks(self):
-        page = (ROOT / "docs" / "PERFORMANCE.md").read_text()
+        page = (ROOT / "bench" / "README.md").read_text()
         said = re.findall(r"^\| .* \| ([\d.]+) (times|ms) \| .*\|$", page, re.MULTILINE)
         adjusted = dict.fromkeys((most, of) for _, most, of in bench.ADJUSTED)
         marks = [

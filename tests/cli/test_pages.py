@@ -1,8 +1,9 @@
 """What README.md, the guide and the pages beside it show is what the program does: each command that
 they show, in one copy of examples/; the faults and options of the guide's table of refusals; the
-numbers of the table of rounding, by `compare` itself; the bounds in the formats; the links of all pages; the picture of the
-crates, and the files to which a change goes; the limits of the library; the heads of tests. And that
-the proof of `find` alone opens the seal of what the solver said."""
+numbers of the table of rounding, by `compare` itself; the bounds and the printed texts in the formats;
+the links of all pages; the picture of the crates, and the files to which a change goes; the limits of
+the library; the heads of tests. And that the proof of `find` alone opens the seal of what the solver
+said."""
 
 import ast
 import importlib
@@ -32,6 +33,12 @@ POWER = re.compile(r"10(0+)")
 
 # Bounds of what nobody reads or writes: of numbers within the program.
 WITHIN = {"LONGEST_FAULT_NAME", "LARGEST_RESIDUAL"}
+
+# A text that definitions say is printed; crates whose texts are none of a run (lines that are read, the
+# command line's, explanations, the page's own); and what is too short to tell.
+PRINTED = re.compile(r'codes "((?:[^"\\]|\\.)*)"')
+OF_NO_RUN = {"gsi_word", "command_line", "command_run", "station_explain", "page_calls"}
+SHORT = 6
 
 # A row of the page of tables: how directions are printed, what rounding explains in mgon, the limit if
 # none is stated, and the least to state. A second of arc and a degree have so many mgon.
@@ -63,6 +70,7 @@ LINKED = [
     *sorted(ROOT.glob("docs/*.md")),
     *sorted(ROOT.glob("crates/*/README.md")),
     ROOT / "bench" / "MEASURED.md",
+    ROOT / "bench" / "README.md",
     ROOT / "conformance" / "README.md",
     ROOT / "examples" / "README.md",
     ROOT / "page" / "README.md",
@@ -169,6 +177,19 @@ class PagesTest(TimedTest):
                 power = POWER.fullmatch(str(bound))
                 forms = [str(bound), f"{bound:,}", *([f"10^{len(power[1]) + 1}"] if power else [])]
                 self.assertRegex(text, rf"(?<![\d,^])(?:{'|'.join(map(re.escape, forms))})(?!,?\d)")
+
+    def test_the_formats_or_a_case_have_each_text_that_is_printed(self):
+        cases = [path.read_text(errors="replace") for path in ROOT.glob("conformance/*/**/std[eo]*")]
+        known = "".join([FORMATS.read_text(), *cases])
+        texts = set()
+        for path in ROOT.glob("crates/*/specs/**/*.antt"):
+            if path.relative_to(ROOT / "crates").parts[0] not in OF_NO_RUN:
+                texts |= {ast.literal_eval(f'"{text}"').strip() for text in PRINTED.findall(path.read_text())}
+        texts = {text for text in texts if len(text) >= SHORT}
+        self.assertGreater(len(texts), 100)
+        for text in texts:
+            with self.subTest(text):
+                self.assertIn(text, known)
 
     def test_the_time_of_the_gate_is_one(self):
         if measured := gate.MEASURED.search(TESTS.read_text()):
