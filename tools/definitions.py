@@ -33,6 +33,7 @@ PRINTED = {
     "`residuals`": ("station_residuals", "Stating"),
     "`report`": ("station_report", "Stating"),
     "`report --table`": ("table_report", "Stating"),
+    "what `compare`, `differences` and `report --table` say of a field file and a table": ("table_answers", "Answers"),
     "`report --csv`": ("report_rows", "Stating"),
     "what `directions`, `residuals` and `report` say of a field file": ("station_answers", "Answers"),
 }

@@ -27,8 +27,6 @@ use Rattle.station_check.specs.Runs.{IsCheckRun, IsMeansRun, IsNotedListRun, IsW
 use Rattle.station_check.specs.VerdictLines.{refusal_line}
 use Rattle.station_check.specs.declared.fault.Fault.TheVariants.{Memory}
 use Rattle.station_compare.specs.FaultTexts.{refusal_line as compare_refusal_line}
-use Rattle.station_compare.specs.Runs.{IsCompareRun}
-use Rattle.station_differences.specs.Runs.{IsDifferencesRun}
 use Rattle.station_explain.specs.Table.{Explanation}
 use Rattle.station_mark.specs.FaultTexts.{refusal_text as mark_refusal_text}
 use Rattle.station_mark.specs.Runs.{IsMarkRun, notes_in}
@@ -46,7 +44,10 @@ use Rattle.job_statements.specs.Numbers.{Said, said_in}
 use Rattle.station_record.specs.Recorded.{IsRecordedCheck, IsRecordedCompare, IsRecordedReport}
 use Rattle.station_record.specs.Recorded.{IsRecordedTableReport}
 use Rattle.station_record.specs.declared.named.NamedReader.{NamedReader}
-use Rattle.table_report.specs.Runs.{IsTableReportRun}
+use Rattle.table_answers.specs.Comparisons.{IsCompareRun}
+use Rattle.table_answers.specs.Printing.{PrintsReport, PrintsText}
+use Rattle.table_answers.specs.Runs.{IsTableRun}
+use Rattle.table_answers.specs.Saying.{SaysDifferences, SaysTableReport}
 use Rattle.table_report.specs.Stating.{ReportAsked}
 
 -- A sheet was checked against a field file with this exit status, and this is what the run made of
@@ -85,14 +86,12 @@ ReportsFile files out err gsi station limits digests.Printed status =
     (IsRecordedReport gsi.name.now limits gsi_change station) status out err)
 
 -- what is asked of a report with a table: its files by the names that they have
-abbrev pub asked_of : {F : Type 0} → NamedReader F → List ℕ → NamedReader F → AngleUnit
-    → ResultLimits → Option ℕ → ReportAsked
-asked_of gsi station table unit limits within = record {
+abbrev pub asked_of : {F : Type 0} → NamedReader F → NamedReader F → AngleUnit → Option ℕ
+    → ReportAsked
+asked_of gsi table unit within = record {
   path = gsi.name.now;
   table_path = table.name.now;
   unit = unit;
-  station = station;
-  limits = limits;
   within = within;
 }
 
@@ -101,12 +100,12 @@ abbrev pub ReportsFiles : {F : Type 0} → Readers F → WriterChange → Writer
     → List ℕ → NamedReader F → AngleUnit → ResultLimits → Option ℕ → Digests → ℕ → Type 0
 ReportsFiles {F} files out err gsi station table unit limits within digests.Omitted status =
     (table' : F) × IsTakenIn files gsi.reader (λ gsi_change. Run {A = ⊤} compare_refusal_line
-    (IsTableReportRun (asked_of gsi station table unit limits within) gsi_change
-    (change_of files table.reader table')) status out err)
+    (IsTableRun (SaysTableReport (asked_of gsi table unit within) limits) PrintsReport unit limits
+    gsi_change (change_of files table.reader table') station) status out err)
 ReportsFiles files out err gsi station table unit limits within digests.Printed status =
     IsTakenIn files gsi.reader (λ gsi_change. IsTakenIn files table.reader (λ table_change.
     Run {A = ⊤} compare_refusal_line
-    (IsRecordedTableReport (asked_of gsi station table unit limits within) gsi_change table_change)
+    (IsRecordedTableReport (asked_of gsi table unit within) limits gsi_change table_change station)
     status out err))
 
 -- A copy with codes was made of a field file with this exit status: it went to `out`; or to a new
@@ -153,8 +152,8 @@ IsRun files new_files inputs input faults out err
 IsRun {F} files new_files inputs input faults out err (request.Differences gsi station table unit limits)
     status =
     (table' : F) × IsTakenIn files gsi.reader (λ gsi. Run {A = ⊤} compare_refusal_line
-    (IsDifferencesRun unit limits gsi (change_of files table.reader table') station.now)
-    status out err)
+    (IsTableRun (SaysDifferences unit) PrintsText unit limits gsi
+    (change_of files table.reader table') station.now) status out err)
 IsRun files new_files inputs input faults out err
     (request.Mark gsi copy beginnings sets targets again others) status =
     MarksFile files new_files out err gsi copy beginnings

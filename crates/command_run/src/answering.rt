@@ -23,8 +23,6 @@ use list_rows::run_list_rows;
 use station_answers::{Directions, Report, ReportRows, Residuals, run_answer};
 use station_book::{Limits, ResultLimits};
 use station_check::{run_check, run_list, run_means, run_words};
-use station_compare::run_compare;
-use station_differences::run_differences;
 use station_explain::Explanation;
 use station_mark::run_mark;
 use station_record::{
@@ -32,7 +30,8 @@ use station_record::{
     run_table_report_recorded,
 };
 use std::alloc::Global;
-use table_report::{Asked, run_table_report};
+use table_answers::{Differences, run_compare, run_table_answer};
+use table_report::Asked;
 
 /// The exit status of a request. All its files are opened before any is read, the field file first. A
 /// new file is made at the first byte that is written to it, where none is there.
@@ -405,16 +404,19 @@ fn run_request<'a, H: Host, W: Sink, E: Sink>(
             mut table,
             unit,
             limits,
-        } => run_differences(
-            alloc,
-            gsi.reader,
-            &mut table.reader,
-            unit,
-            station.as_bytes(),
-            limits,
-            out,
-            err,
-        ),
+        } => {
+            let asked = Differences { unit };
+            run_table_answer(
+                alloc,
+                gsi.reader,
+                &mut table.reader,
+                station.as_bytes(),
+                limits,
+                &asked,
+                out,
+                err,
+            )
+        }
         Request::Mark {
             gsi,
             copy,
@@ -594,20 +596,33 @@ fn report_files<F: Source, W: Sink, E: Sink>(
         (writer_change E.Sink err.old err.new)
         gsi.entry station.now table.entry unit limits within digests result }
 {
+    let name = station.as_bytes();
     let asked = Asked {
         path: gsi.name,
         table_path: table.name,
         unit,
-        station: station.as_bytes(),
-        limits,
         within,
     };
     match digests {
-        Digests::Omitted => {
-            run_table_report(alloc, gsi.reader, &mut table.reader, &asked, out, err)
-        }
-        Digests::Printed => {
-            run_table_report_recorded(alloc, gsi.reader, table.reader, &asked, out, err)
-        }
+        Digests::Omitted => run_table_answer(
+            alloc,
+            gsi.reader,
+            &mut table.reader,
+            name,
+            limits,
+            &asked,
+            out,
+            err,
+        ),
+        Digests::Printed => run_table_report_recorded(
+            alloc,
+            gsi.reader,
+            table.reader,
+            name,
+            limits,
+            &asked,
+            out,
+            err,
+        ),
     }
 }

@@ -36,8 +36,9 @@ use Rattle.station_check.specs.declared.verdict_line.TheConstants.{LONGEST_VERDI
 use Rattle.station_compare.specs.Answers.{Compares}
 use Rattle.station_compare.specs.declared.agreement.Agreement.{Agreement}
 use Rattle.station_compare.specs.declared.fault.CompareFault.{CompareFault}
-use Rattle.station_differences.specs.Answers.{TellsDifferences}
 use Rattle.station_explain.specs.Table.{Explanation, IsTheTable}
+use Rattle.table_answers.specs.Answers.{TellsBeside}
+use Rattle.table_answers.specs.Saying.{SaysDifferences}
 use Rattle.station_mark.specs.FaultTexts.{refusal_line}
 use Rattle.station_mark.specs.declared.fault.PrintFault.TheVariants.{Mark}
 use Rattle.page_calls.specs.Explained.{AnswersLine, explanation_or_refusal}
@@ -143,8 +144,8 @@ pub record IsDifferencesOf (two_c two_i : ℕ) (gsi table name : List ℕ) (room
   pub limits : FaceLimits
   pub states : States two_c two_i limits
   pub answer : Result (List ℕ) CompareFault
-  pub tells : TellsDifferences Gon (of_faces limits) (file_answers (source_of gsi))
-      (source_of table) name answer
+  pub tells : TellsBeside (SaysDifferences Gon) Gon (of_faces limits)
+      (file_answers (source_of gsi)) (source_of table) name answer
   pub hands_out : HandsOut (status_of answer) (table_or_refusal answer) room answered shown
 
 -- The status, the copy and what is told of it, or the text of the refusal, are those of putting

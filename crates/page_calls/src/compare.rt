@@ -17,8 +17,9 @@ use crate::hand_out::{OUT_OF_RANGE, hand_out};
 use direction_table::{AngleUnit, LARGEST_WITHIN};
 use station_book::{Limits, ResultLimits};
 use station_check::{ACCEPTED, REFUSED, source_of};
-use station_compare::{Agreement, CompareFault, agreement_line, compare_bytes, refusal_line};
+use station_compare::{Agreement, CompareFault, agreement_line, refusal_line};
 use std::alloc::Global;
+use table_answers::compare_bytes;
 
 /// Compares the directions that a table states, in gon, with those of the station of this name in a
 /// field file, both whole, and hands out the line of the agreement or of the refusal.

@@ -5,8 +5,9 @@ ghost use Rattle.direction_table.specs.declared.unit.AngleUnit.TheVariants.{Gon}
 ghost use Rattle.gsi_file.specs.FileAnswers.{file_answers};
 ghost use Rattle.station_book.specs.ResultLimits.{of_faces};
 ghost use Rattle.station_check.specs.Came.{source_of};
-ghost use Rattle.station_differences.specs.Answers.{HasNoDifferences};
-ghost use Rattle.station_differences.specs.Stating.{StatesDifferences};
+ghost use Rattle.table_answers.specs.Answers.{StatesBeside};
+ghost use Rattle.table_answers.specs.Refusing.{HasNoAnswer};
+ghost use Rattle.table_answers.specs.Saying.{SaysDifferences};
 ghost use Rattle.page_calls.specs.Answers.{IsDifferencesOf};
 ghost use Rattle.page_calls.specs.HandedOut.{ShowsInRange};
 ghost use Rattle.page_calls.specs.Limits.{AreFaceLimits};
@@ -16,8 +17,8 @@ use direction_table::AngleUnit;
 use station_book::{Limits, ResultLimits};
 use station_check::{ACCEPTED, REFUSED, source_of};
 use station_compare::{CompareFault, refusal_line};
-use station_differences::differences_text;
 use std::alloc::Global;
+use table_answers::{Differences, table_answer_of};
 
 /// Hands out the differences of a table of directions in gon from the station of this name in a
 /// field file, both whole: a row of titles, and a row for each target, with what the table states,
@@ -60,18 +61,22 @@ fn differences_of(
     limits: Limits,
 ) -> Result<Vec<u8>, CompareFault>
     ensures { MatchResult result
-        (λ text. StatesDifferences Gon (of_faces limits) (file_answers (source_of gsi.now))
-        (source_of table.now) name.now text.items)
-        (HasNoDifferences Gon (of_faces limits) (file_answers (source_of gsi.now))
+        (λ text. StatesBeside (SaysDifferences Gon) (of_faces limits)
+        (file_answers (source_of gsi.now)) (source_of table.now) name.now text.items)
+        (HasNoAnswer Gon (of_faces limits) (file_answers (source_of gsi.now))
         (source_of table.now) name.now) }
 {
     let limits = ResultLimits::of_faces(limits);
-    differences_text(
+    let asked = Differences {
+        unit: AngleUnit::Gon,
+    };
+    let (answer, _gsi) = table_answer_of(
         alloc,
         source_of(gsi),
         &mut source_of(table),
-        AngleUnit::Gon,
         name,
         limits,
-    )
+        &asked,
+    );
+    answer
 }

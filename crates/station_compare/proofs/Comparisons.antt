@@ -1,17 +1,15 @@
 -- From the parts of a comparison to what it answers.
-use Rattle.std.proofs.Common.{◌≡◌, ℕ, List, Result, Ok, Err, refl, subst, inl, inr, Option}
-use Rattle.std.proofs.Common.{Some}
+use Rattle.std.proofs.Common.{◌≡◌, ℕ, List, Result, Ok, Err, refl, inl, inr, Option}
 use Rattle.adjust_kernel.specs.Stations.{StationValue}
 use Rattle.byte_ends.specs.Input.{Input, Ended, BrokeOff, RanPast, input_within}
-use Rattle.byte_ends.specs.Came.{IsLeftAs, IsReadOut, IsUnasked, Leaves}
-use Rattle.byte_ends.proofs.Coming.{given_as_told, some_left}
-use Rattle.byte_ends.specs.Source.{Told, ReaderChange, given_then}
+use Rattle.byte_ends.specs.Came.{IsLeftAs, IsUnasked, Leaves}
+use Rattle.byte_ends.specs.Source.{Told, ReaderChange}
 use Rattle.direction_table.specs.declared.reading.TheConstants.{LONGEST_TABLE}
 use Rattle.exact_adjustment.proofs.LawLemmas.{never_held}
 use Rattle.exact_adjustment.specs.Faults.{IsAdjustFault, IsOfStation}
 use Rattle.exact_adjustment.specs.LeastOf.{HasResidualsWithin}
 use Rattle.exact_adjustment.specs.declared.fault.AdjustFault.{AdjustFault}
-use Rattle.gsi_file.specs.FileAnswers.{FileAnswers, file_answers}
+use Rattle.gsi_file.specs.FileAnswers.{FileAnswers}
 use Rattle.least_directions.specs.LeastDirections.{IsAdjustable}
 use Rattle.station_book.specs.declared.result_limits.ResultLimits.{ResultLimits}
 use Rattle.station_book.specs.Stations.{SurveyedStation}
@@ -21,7 +19,7 @@ use Rattle.station_check.specs.Surveys.{Surveys}
 use Rattle.station_check.specs.declared.fault.Fault.{Fault}
 use Rattle.station_check.specs.declared.fault.Fault.TheVariants as file
 use Rattle.station_compare.specs.Agreeing.{Agrees}
-use Rattle.station_compare.specs.Answers.{Compares, IsComparison, field_file_left, table_left}
+use Rattle.station_compare.specs.Answers.{Compares, field_file_left, table_left}
 use Rattle.station_compare.specs.Comparing.{ByInput, IsAgreement, IsComparedWith}
 use Rattle.station_compare.specs.Faults.{of_file}
 use Rattle.station_compare.specs.declared.agreement.Agreement.{Agreement}
@@ -113,17 +111,6 @@ module _ (unit : AngleUnit) (limits : ResultLimits) (lines : FileAnswers) (state
   compares_by_file file.Memory o h = tt
   compares_by_file fault o h = h
 
--- An answer from the table on leaves the field file's reader read to its end.
-pub left_by_table : (unit : AngleUnit) (its : SurveyedStation) (residual : ℕ) (within : Option ℕ)
-    (r : Result Agreement CompareFault) (input : Input) (gsi : ReaderChange)
-    → ByInput unit its.station residual within input r → IsReadOut gsi
-    → Leaves field_file_left r gsi
-left_by_table unit its residual within (Ok a) input gsi h out = out
-left_by_table unit its residual within (Err (File fault)) input gsi h out =
-    absurd (no_file_fault unit its residual within fault input h)
-left_by_table unit its residual within (Err Memory) input gsi h out = out.unfailed
-left_by_table unit its residual within (Err fault) input gsi h out = out
-
 -- A fault of the field file leaves the table's reader as it was, and its own as it says.
 pub left_alone : (A : Type 0) (fault : Fault) (table : ReaderChange) → IsUnasked table
     → Leaves {A = A} table_left (Err (of_file fault)) table
@@ -139,20 +126,3 @@ pub left_by_file : {A B : Type 0} (s : Result A Fault) (fault : Fault) (r : Resu
     (gsi : ReaderChange) → s ≡ Err fault → r ≡ Err (of_file fault) → Leaves file_left s gsi
     → Leaves field_file_left r gsi
 left_by_file s fault r gsi e f h = rw f (left_with fault gsi (rw e at h))
-
--- Of two readers that tell, the answer is of what they tell.
-pub comparison_as_told : (unit : AngleUnit) (limits : ResultLimits) (within : Option ℕ)
-    (gsi table : ReaderChange)
-    (name : List ℕ) (r : Result Agreement CompareFault)
-    → IsComparison unit limits within gsi table name r → (file stated : Told)
-    → gsi.told ≡ Some file → table.told ≡ Some stated
-    → Compares unit limits (file_answers file) stated name within r
-comparison_as_told unit limits within gsi table name r a file stated e f =
-    let gsi_left = some_left gsi.told' in
-    let table_left = some_left table.told' in
-    subst (λ (t : Told). Compares unit limits (file_answers file) t name within r)
-    (given_as_told table a.table_bytes a.table_reads stated f table_left.0 table_left.1)
-    (subst (λ (t : Told). Compares unit limits (file_answers t)
-    (given_then a.table_bytes table_left.0) name within r)
-    (given_as_told gsi a.gsi_bytes a.gsi_reads file e gsi_left.0 gsi_left.1)
-    (a.compares gsi_left.0 table_left.0 gsi_left.1 table_left.1))

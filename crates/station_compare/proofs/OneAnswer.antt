@@ -119,7 +119,7 @@ module _ (unit : AngleUnit) (station : StationValue) (residual : ℕ) (bytes : L
     one_greatest (Err fault) (Ok b) p h = (b.greatest, tt, refl)
     one_greatest (Err f) (Err g) p h = (0, tt, tt)
 
-    one_by_table : (r s : Result Agreement CompareFault) → IsSettled r → IsSettled s
+    pub one_by_table : (r s : Result Agreement CompareFault) → IsSettled r → IsSettled s
         → ByTable unit station residual within bytes r
         → ByTable unit station residual within bytes s → r ≡ s
     one_by_table r s set also p h =

@@ -1,11 +1,11 @@
 -- What is answered of a field file and of a table of directions, and how their readers are left.
 use Rattle.std.specs.Prelude.{ℕ, List, Option, Result, Ok, Err, ⊤}
-use Rattle.byte_ends.specs.Came.{Leaves, Leaving, Unasked, ReadOut, BrokenOff, Unfailed}
+use Rattle.byte_ends.specs.Came.{Leaving, Unasked, ReadOut, BrokenOff, Unfailed}
 use Rattle.byte_ends.specs.Input.{input_within}
-use Rattle.byte_ends.specs.Source.{Told, ReaderChange, MayGive, HasGiven, given_then}
+use Rattle.byte_ends.specs.Source.{Told}
 use Rattle.direction_table.specs.declared.fault.TableFault.TheVariants as table
 use Rattle.direction_table.specs.declared.reading.TheConstants.{LONGEST_TABLE}
-use Rattle.gsi_file.specs.FileAnswers.{FileAnswers, file_answers}
+use Rattle.gsi_file.specs.FileAnswers.{FileAnswers}
 use Rattle.station_book.specs.declared.result_limits.ResultLimits.{ResultLimits}
 use Rattle.station_book.specs.Stations.{SurveyedStation}
 use Rattle.station_check.specs.Answerable.{file_left}
@@ -63,23 +63,3 @@ abbrev pub field_file_left : CompareFault → Leaving
 field_file_left (File fault) = file_left fault
 field_file_left Memory = Unfailed
 field_file_left fault = ReadOut
-
--- The answer on what two readers gave, whatever they are, and how both are left.
-pub record IsComparison (unit : AngleUnit) (limits : ResultLimits) (within : Option ℕ)
-    (gsi table : ReaderChange)
-    (name : List ℕ) (r : Result Agreement CompareFault) : Type 0 where
-  -- The field file's reader gave these bytes, and the table's reader these.
-  pub gsi_bytes : List ℕ
-  pub gsi_reads : HasGiven gsi gsi_bytes
-  pub table_bytes : List ℕ
-  pub table_reads : HasGiven table table_bytes
-  -- Of these bytes, and whatever may be left in the readers after them, this is the answer.
-  pub compares : (gsi_left table_left : Told) → MayGive gsi.told' gsi_left
-      → MayGive table.told' table_left
-      → Compares unit limits (file_answers (given_then gsi_bytes gsi_left))
-      (given_then table_bytes table_left) name within r
-  -- A failed read is never passed over; the table's reader is not asked where the field file has a
-  -- fault or no such station; and where a table agrees both readers have ended, so that nothing is
-  -- left of them and the bytes that they gave are all.
-  pub gsi_reader : Leaves field_file_left r gsi
-  pub table_reader : Leaves table_left r table

@@ -1,13 +1,13 @@
-//! Any program's directions of a station, beside the least-squares ones of its field file.
+//! Any program's directions of a station, beside the least-squares ones of its field file: what an
+//! agreement says, why there is none, and the line of each.
 //!
-//! `compare_bytes` reads a field file and a table of directions, and tells whether the stated
-//! directions agree with the least-squares directions of the station: least over all directions,
-//! orientations and full turns. `run_compare` does the same as a command: the line of an agreement,
-//! the line of a refusal, and the exit status.
+//! A table of directions agrees with a station, where one rotation brings the stated directions so
+//! near to the least-squares ones as a limit says: least over all directions, orientations and full
+//! turns. `table_answers` reads the files and compares them. `refuse` writes the line of a refusal,
+//! whatever is asked of the station.
 #![tactic(auto)]
 
 mod agreement;
-mod compare;
 mod fault;
 mod how_far;
 pub mod laws;
@@ -15,8 +15,7 @@ mod refused;
 mod runs;
 
 pub use agreement::{Agreement, agreement_line};
-pub use compare::{compare_bytes, compare_sources};
 pub use fault::CompareFault;
 pub use how_far::HowFar;
 pub use refused::refusal_line;
-pub use runs::{refuse, run_compare};
+pub use runs::refuse;

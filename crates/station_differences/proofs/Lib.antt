@@ -4,7 +4,7 @@ pub mod MiddleLaws
 pub mod DifferenceLaws
 pub mod RowLaws
 pub mod LeastLaws
-pub mod AnswerLaws
+pub mod TextLaws
 pub mod StatedTexts
 pub mod Medians
 pub mod MedianLaws

@@ -6,8 +6,5 @@ pub mod Medians
 pub mod ByAdjustment
 pub mod DifferenceTexts
 pub mod Stating
-pub mod Answers
-pub mod Runs
 -- The inside.
 pub mod Angles
-pub mod OfInput

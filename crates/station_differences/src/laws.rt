@@ -1,34 +1,22 @@
 //! Laws of the definitions that contracts cite. The functions do nothing.
-ghost use Rattle.std.specs.Prelude.{◌≡◌, ◌≤◌, ℕ, List, All, ℤ, length, pos, true, Result};
+ghost use Rattle.std.specs.Prelude.{◌≡◌, ◌≤◌, ℕ, List, All, ℤ, length, pos, true};
 ghost use Rattle.adjust_kernel.specs.Stations.{StationValue};
 ghost use Rattle.adjust_kernel.specs.Within.{IsWithin};
-ghost use Rattle.byte_ends.specs.Source.{Told};
 ghost use Rattle.direction_table.specs.declared.unit.AngleUnit.{AngleUnit};
 ghost use Rattle.directions_apart.specs.Apart.{stated_by};
-ghost use Rattle.gsi_file.specs.FileAnswers.{FileAnswers};
 ghost use Rattle.least_directions.specs.LeastDirections.{AreApart};
-ghost use Rattle.station_book.specs.Limits.{AreLimits};
-ghost use Rattle.station_book.specs.declared.result_limits.ResultLimits.{ResultLimits};
-ghost use Rattle.station_compare.specs.OneAnswer.{IsSettled};
-ghost use Rattle.station_compare.specs.declared.fault.CompareFault.{CompareFault};
-ghost use Rattle.station_differences.specs.Answers.{TellsDifferences};
 ghost use Rattle.station_differences.specs.Differences.{AreCompared, differences_of};
 ghost use Rattle.station_differences.specs.Medians.{is_median, median_of};
+ghost use Rattle.station_differences.specs.Stating.{IsDifferencesText};
 ghost use Rattle.station_differences.specs.declared.compared.TargetDifference.{TargetDifference};
 
-/// Stated directions beside a station are one list of rows. What came of two readers has one answer
-/// of `differences`: the fault that stands first is one, and so is each printed digit. Two answers
-/// alone may stand in the place of another: out of memory in that of any, and that no adjustment
-/// was found in that of those from the adjustment on.
-pub fn one_answer()
+/// Stated directions beside a station are one list of rows, and the bytes of a table are one text of
+/// differences: so each printed digit follows from the station and the bytes.
+pub fn one_list()
     ensures compared { (station : StationValue) (stated : List ℤ) (a b : List TargetDifference)
         → AreCompared station stated a → AreCompared station stated b → a ≡ b }
-    ensures answer { (unit : AngleUnit) (limits : ResultLimits) (file : FileAnswers)
-        (stated : Told) (name : List ℕ) (r s : Result (List ℕ) CompareFault)
-        → AreLimits limits.faces
-        → IsSettled r → IsSettled s
-        → TellsDifferences unit limits file stated name r
-        → TellsDifferences unit limits file stated name s → r ≡ s }
+    ensures text { (unit : AngleUnit) (station : StationValue) (bytes a b : List ℕ)
+        → IsDifferencesText unit station bytes a → IsDifferencesText unit station bytes b → a ≡ b }
 {}
 
 /// No difference is larger in size than the directions are apart, as `compare` tells it: both in

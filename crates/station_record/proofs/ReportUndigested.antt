@@ -17,12 +17,15 @@ use Rattle.station_compare.specs.Answers.{field_file_left, table_left}
 use Rattle.station_compare.specs.Runs.{ReadsFieldFile}
 use Rattle.station_compare.specs.declared.fault.CompareFault.{CompareFault}
 use Rattle.station_compare.specs.declared.fault.CompareFault.TheVariants.{Write}
-use Rattle.station_differences.specs.Answers.{HasNoDifferences, ReadsBoth}
 use Rattle.station_record.proofs.Alike.{leaves_too}
 use Rattle.station_record.specs.Recorded.{IsRecordedReport, IsRecordedTableReport}
 use Rattle.station_record.specs.Recorded.{recorded_both_text, recorded_report_text}
-use Rattle.table_report.specs.Runs.{PrintsReport}
-use Rattle.table_report.specs.Stating.{ReportAsked, ReportValue, StatesTableReport}
+use Rattle.table_answers.specs.Answers.{ReadsBoth, StatesBeside}
+use Rattle.table_answers.specs.Printing.{PrintsVerdict}
+use Rattle.table_answers.specs.Refusing.{HasNoAnswer}
+use Rattle.table_answers.specs.Runs.{PrintsBeside}
+use Rattle.table_answers.specs.Saying.{SaysTableReport}
+use Rattle.table_report.specs.Stating.{ReportAsked, ReportValue}
 
 -- What is so of a digesting reader of a field file is so of the reader that it asks, of the same
 -- bytes.
@@ -110,16 +113,18 @@ recorded_report items path limits gsi station (Err fault) a d is_d r out p = rec
 
 -- The same of two digests.
 pub recorded_both : {T A : Type 0} (value : T → ReportValue) (asked : ReportAsked)
-    (gsi table : ReaderChange) (answer : Result T CompareFault)
+    (limits : ResultLimits) (gsi table : ReaderChange) (station : List ℕ)
+    (answer : Result T CompareFault)
     (a : ReadsBoth gsi table answer (λ file stated. MatchResult answer
-    (λ report. StatesTableReport asked file stated (value report))
-    (HasNoDifferences asked.unit asked.limits file stated asked.station))) (d e : List ℕ)
+    (λ report. StatesBeside (SaysTableReport asked limits) limits file stated station
+    (value report))
+    (HasNoAnswer asked.unit limits file stated station))) (d e : List ℕ)
     → d ≡ sha256 a.gsi_bytes → e ≡ sha256 a.table_bytes
     → (r : Result A CompareFault) (out : WriterChange)
-    → PrintsReport (λ report. recorded_both_text (value report).text d asked.path e
-    asked.table_path) (λ report. (value report).beyond) answer r out
-    → IsRecordedTableReport asked gsi table r out
-recorded_both value asked gsi table (Ok report) a d e is_d is_e r out p = record {
+    → PrintsBeside (λ report. PrintsVerdict (recorded_both_text (value report).text d asked.path e
+    asked.table_path) (value report).beyond) answer r out
+    → IsRecordedTableReport asked limits gsi table station r out
+recorded_both value asked limits gsi table station (Ok report) a d e is_d is_e r out p = record {
   answer = Ok (value report);
   tells = record {
     gsi_bytes = a.gsi_bytes;
@@ -130,14 +135,12 @@ recorded_both value asked gsi table (Ok report) a d e is_d is_e r out p = record
     gsi_reader = a.gsi_reader;
     table_reader = a.table_reader;
   };
-  printed = subst (λ (t : List ℕ). PrintsReport {T = ReportValue}
-      (λ report. recorded_both_text report.text (sha256 a.gsi_bytes) asked.path t asked.table_path)
-      (λ report. report.beyond) (Ok (value report)) r out) is_e
-      (subst (λ (t : List ℕ). PrintsReport {T = ReportValue}
-      (λ report. recorded_both_text report.text t asked.path e asked.table_path)
-      (λ report. report.beyond) (Ok (value report)) r out) is_d p);
+  printed = subst (λ (t : List ℕ). PrintsVerdict (recorded_both_text (value report).text
+      (sha256 a.gsi_bytes) asked.path t asked.table_path) (value report).beyond r out) is_e
+      (subst (λ (t : List ℕ). PrintsVerdict (recorded_both_text (value report).text t asked.path e
+      asked.table_path) (value report).beyond r out) is_d p);
 }
-recorded_both value asked gsi table (Err fault) a d e is_d is_e r out p = record {
+recorded_both value asked limits gsi table station (Err fault) a d e is_d is_e r out p = record {
   answer = Err fault;
   tells = record {
     gsi_bytes = a.gsi_bytes;

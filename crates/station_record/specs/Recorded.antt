@@ -16,14 +16,15 @@ use Rattle.station_check.specs.VerdictLines.{accepted_line}
 use Rattle.station_check.specs.declared.fault.Fault.{Fault}
 use Rattle.station_check.specs.declared.fault.Fault.TheVariants as check
 use Rattle.station_compare.specs.AgreementTexts.{agreement_line}
-use Rattle.station_compare.specs.Answers.{IsComparison}
 use Rattle.station_compare.specs.Runs.{ReadsFieldFile}
 use Rattle.station_compare.specs.declared.agreement.Agreement.{Agreement}
 use Rattle.station_compare.specs.declared.fault.CompareFault.{CompareFault}
 use Rattle.station_compare.specs.declared.fault.CompareFault.TheVariants as compare
-use Rattle.station_differences.specs.Answers.{ReadsBoth}
-use Rattle.table_report.specs.Answers.{TellsTableReport}
-use Rattle.table_report.specs.Runs.{PrintsReport}
+use Rattle.table_answers.specs.Answers.{ReadsBoth, TellsBeside}
+use Rattle.table_answers.specs.Comparisons.{IsComparison}
+use Rattle.table_answers.specs.Printing.{PrintsVerdict}
+use Rattle.table_answers.specs.Runs.{PrintsBeside}
+use Rattle.table_answers.specs.Saying.{SaysTableReport}
 use Rattle.table_report.specs.Stating.{ReportAsked, ReportValue}
 
 -- The line of an answer, and then one for each of its two files: a digest and a name.
@@ -80,11 +81,12 @@ pub record IsRecordedReport {A : Type 0} (path : List ℕ) (limits : ResultLimit
       compare.Write answer r out
 
 -- The same of a run of the report with a table.
-pub record IsRecordedTableReport {A : Type 0} (asked : ReportAsked) (gsi table : ReaderChange)
-    (r : Result A CompareFault) (out : WriterChange) : Type 0 where
+pub record IsRecordedTableReport {A : Type 0} (asked : ReportAsked) (limits : ResultLimits)
+    (gsi table : ReaderChange) (station : List ℕ) (r : Result A CompareFault) (out : WriterChange)
+    : Type 0 where
   pub answer : Result ReportValue CompareFault
   pub tells : ReadsBoth gsi table answer (λ file stated.
-      TellsTableReport asked file stated answer)
-  pub printed : PrintsReport (λ report. recorded_both_text report.text
+      TellsBeside (SaysTableReport asked limits) asked.unit limits file stated station answer)
+  pub printed : PrintsBeside (λ report. PrintsVerdict (recorded_both_text report.text
       (sha256 tells.gsi_bytes) asked.path (sha256 tells.table_bytes) asked.table_path)
-      (λ report. report.beyond) answer r out
+      report.beyond) answer r out

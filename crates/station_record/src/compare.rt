@@ -16,8 +16,9 @@ use byte_ends::{Sink, Source};
 use direction_table::AngleUnit;
 use station_book::ResultLimits;
 use station_check::ACCEPTED;
-use station_compare::{Agreement, CompareFault, agreement_line, compare_sources, refuse};
+use station_compare::{Agreement, CompareFault, agreement_line, refuse};
 use std::alloc::Global;
+use table_answers::compare_sources;
 
 /// Compares a table with the station of this name as `run_compare` does, and answers its exit
 /// status. After the line of an agreement it writes one line for the field file and one for the

@@ -6,18 +6,21 @@ ghost use Rattle.byte_ends.specs.Source.{UntilDropped};
 ghost use Rattle.station_check.specs.RunEndings.{Run};
 ghost use Rattle.station_compare.specs.FaultTexts.{refusal_line};
 ghost use Rattle.station_record.specs.Recorded.{IsRecordedTableReport, recorded_both_text};
-ghost use Rattle.table_report.specs.Runs.{PrintsReport};
+ghost use Rattle.table_answers.specs.Printing.{PrintsVerdict};
+ghost use Rattle.table_answers.specs.Runs.{PrintsBeside};
 ghost use Rattle.table_report.specs.Values.{asked_of};
 
 use crate::compare::report;
 use crate::lines::write_recorded_both;
 use byte_digests::Digesting;
 use byte_ends::{Sink, Source};
+use station_book::ResultLimits;
 use station_compare::CompareFault;
 use std::alloc::Global;
-use table_report::{Asked, TableReport, table_report_of_sources, verdict};
+use table_answers::{table_answer_of, verdict};
+use table_report::{Asked, TableReport};
 
-/// Writes the report of a station with a table as `run_table_report` does, and answers its exit
+/// Writes the report of a station with a table as `run_table_answer` does, and answers its exit
 /// status. After the text it writes one line for the field file and one for the table, as
 /// `sha256sum` prints them: the digest of the bytes that were read, and the name.
 // Out of line, so that runs without it need no room for it on the stack.
@@ -26,6 +29,8 @@ pub fn run_table_report_recorded<R: Source, Q: Source, W: Sink, E: Sink>(
     alloc: Global,
     gsi: R,
     table: Q,
+    station: &[u8],
+    limits: ResultLimits,
     asked: &Asked<'_>,
     out: &mut W,
     err: &mut E,
@@ -33,16 +38,18 @@ pub fn run_table_report_recorded<R: Source, Q: Source, W: Sink, E: Sink>(
     ensures { UntilDropped R.told R.failed R.gave gsi (λ gsi_change.
         UntilDropped Q.told Q.failed Q.gave table (λ table_change.
         Run {A = ⊤} refusal_line
-        (IsRecordedTableReport (asked_of asked.now) gsi_change table_change)
+        (IsRecordedTableReport (asked_of asked.now) limits gsi_change table_change station.now)
         result (writer_change W.Sink out.old out.new)
         (writer_change E.Sink err.old err.new))) }
 {
     let digested_gsi = Digesting::new(gsi);
     let mut digested_table = Digesting::new(table);
-    let (answer, digested_gsi) = table_report_of_sources(
+    let (answer, digested_gsi) = table_answer_of(
         alloc,
         digested_gsi,
         &mut digested_table,
+        station,
+        limits,
         asked,
     );
     let gsi_digest = digested_gsi.digest();
@@ -60,9 +67,9 @@ fn print_report<W: Sink>(
     asked: &Asked<'_>,
     out: &mut W,
 ) -> Result<(), CompareFault>
-    ensures { PrintsReport (λ report. recorded_both_text report.text.items gsi asked.now.path.now
-        table asked.now.table_path.now) (λ report. report.beyond) answer result
-        (writer_change W.Sink out.old out.new) }
+    ensures { PrintsBeside (λ report. PrintsVerdict
+        (recorded_both_text report.text.items gsi asked.now.path.now table asked.now.table_path.now)
+        report.beyond) answer result (writer_change W.Sink out.old out.new) }
 {
     let report = answer?;
     write_recorded_both(

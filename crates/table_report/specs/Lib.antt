@@ -3,7 +3,3 @@
 pub mod Sections
 pub mod Stating
 pub mod Values
-pub mod Answers
-pub mod Runs
--- The inside.
-pub mod OfInput

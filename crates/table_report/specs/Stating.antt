@@ -1,23 +1,16 @@
--- What a report with a table says, in the order of the sentence: it is the report of the station of
--- this name in the field file, whose residuals keep their limit; and of the table, which states a
--- direction of each of its targets, it has, after the adjusted directions, each stated direction
--- with its difference from the least-squares one after the rotation that makes the largest
--- difference smallest, and that difference less the lower median of all; and how far the directions
--- are apart: within the limit in force, or beyond it.
+-- What a report with a table says, in the order of the sentence: it is the report of a station; and
+-- of the table, which states a direction of each of its targets, it has, after the adjusted
+-- directions, each stated direction with its difference from the least-squares one after the
+-- rotation that makes the largest difference smallest, and that difference less the lower median of
+-- all; and how far the directions are apart: within the limit in force, or beyond it.
 use Rattle.std.specs.Prelude.{◌≡◌, ℕ, List, Option, Some, None, ℤ, if◌then◌else◌, nat_le}
 use Rattle.adjust_kernel.specs.Stations.{StationValue}
-use Rattle.byte_ends.specs.Input.{input_within, Ended}
-use Rattle.byte_ends.specs.Source.{Told}
 use Rattle.direction_table.specs.Tables.{IsTableText}
-use Rattle.direction_table.specs.declared.reading.TheConstants.{LONGEST_TABLE}
 use Rattle.direction_table.specs.declared.unit.AngleUnit.{AngleUnit}
 use Rattle.directions_apart.specs.Apart.{stated_by}
-use Rattle.exact_adjustment.specs.LeastOf.{HasResidualsWithin}
-use Rattle.gsi_file.specs.FileAnswers.{FileAnswers}
 use Rattle.least_directions.specs.LeastDirections.{AreApart}
 use Rattle.station_book.specs.declared.result_limits.ResultLimits.{ResultLimits}
 use Rattle.station_book.specs.Stations.{SurveyedStation}
-use Rattle.station_check.specs.StationOfFile.{IsStationOfFile}
 use Rattle.station_compare.specs.LimitInForce.{limit_in_force}
 use Rattle.station_compare.specs.declared.how_far.HowFar.{HowFar}
 use Rattle.station_differences.specs.Differences.{AreCompared}
@@ -27,15 +20,12 @@ use Rattle.station_results.specs.Greatest.{IsGreatestSize}
 use Rattle.table_report.specs.Sections.{section_text}
 
 -- What is asked of a report with a table: the paths of the field file and of the table, as they are
--- named in it; the unit in which the table states its directions; the name of the station; the
--- limits of face differences and of residuals; and the limit of the comparison, in units of
--- 0.000001 gon, where one is stated.
+-- named in it; the unit in which the table states its directions; and the limit of the comparison,
+-- in units of 0.000001 gon, where one is stated.
 pub record ReportAsked : Type 0 where
   pub path : List ℕ
   pub table_path : List ℕ
   pub unit : AngleUnit
-  pub station : List ℕ
-  pub limits : ResultLimits
   pub within : Option ℕ
 
 -- A report with a table: its text; and how far the directions are apart, where that is beyond the
@@ -66,34 +56,18 @@ pub record IsSection (station : StationValue) (path : List ℕ) (directions : Li
   pub section_is : section ≡ section_text path station rows how_far greatest
   pub beyond_is : beyond ≡ beyond_of how_far
 
--- This is the report of a station with these stated directions.
-pub record IsReportBeside (asked : ReportAsked) (its : SurveyedStation) (directions : List ℤ)
-    (limit : ℕ) (report : ReportValue) : Type 0 where
+-- This is the report of a station with these stated directions, which states these limits.
+pub record IsReportBeside (asked : ReportAsked) (limits : ResultLimits) (its : SurveyedStation)
+    (directions : List ℤ) (limit : ℕ) (report : ReportValue) : Type 0 where
   pub section : List ℕ
   pub is_section : IsSection its.station asked.table_path directions limit section report.beyond
-  pub is_report : IsReportText asked.path asked.limits its section report.text
+  pub is_report : IsReportText asked.path limits its section report.text
 
 -- This is the report of a station with the directions that a table's bytes state. The limit is the
 -- one in force: the stated one, or the usual one for the steps to which the table rounds.
-pub record IsReportOfTable (asked : ReportAsked) (its : SurveyedStation) (bytes : List ℕ)
-    (report : ReportValue) : Type 0 where
+pub record IsReportOfTable (asked : ReportAsked) (limits : ResultLimits) (its : SurveyedStation)
+    (bytes : List ℕ) (report : ReportValue) : Type 0 where
   pub directions : List ℤ
   pub states : IsTableText asked.unit its.station.targets bytes directions
-  pub beside : IsReportBeside asked its directions
+  pub beside : IsReportBeside asked limits its directions
       (limit_in_force asked.unit asked.within its.station.targets bytes) report
-
--- Of these lines of a field file, and of these bytes of a table and how they end, this is the
--- report.
-pub record StatesTableReport (asked : ReportAsked) (file : FileAnswers) (stated : Told)
-    (report : ReportValue) : Type 0 where
-  -- The station of this name: its observations are exactly its two-face directions, and every face
-  -- difference is within the limits.
-  pub its : SurveyedStation
-  pub station : IsStationOfFile asked.limits.faces file asked.station its
-  -- The table was read to its end.
-  pub bytes : List ℕ
-  pub whole : input_within LONGEST_TABLE stated ≡ Ended bytes
-  -- No residual is above the limit of residuals, whichever choice is least.
-  pub held : HasResidualsWithin its.station asked.limits.residual
-  -- The report with it.
-  pub of_table : IsReportOfTable asked its bytes report

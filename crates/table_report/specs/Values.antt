@@ -9,8 +9,6 @@ asked_of asked = record {
   path = asked.path.now;
   table_path = asked.table_path.now;
   unit = asked.unit;
-  station = asked.station.now;
-  limits = asked.limits;
   within = asked.within;
 }
 

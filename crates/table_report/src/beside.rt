@@ -1,20 +1,18 @@
 //! The report of a station beside stated directions.
-ghost use Rattle.std.specs.Prelude.{◌≡◌, IfErr, IfOk, MatchResult, OnOk, length};
+ghost use Rattle.std.specs.Prelude.{◌≡◌, IfErr, IfOk, OnOk, length};
 ghost use Rattle.adjust_kernel.specs.declared.bounds.TheConstants.{LARGEST_RESIDUAL_LIMIT};
 ghost use Rattle.exact_adjustment.specs.Exact.{IsExact, KeepsLimit};
 ghost use Rattle.exact_adjustment.specs.Faults.{IsAdjustError};
 ghost use Rattle.exact_adjustment.specs.LeastOf.{AreTied, HasResidualsWithin};
-ghost use Rattle.station_differences.specs.OfInput.{HasNoneOf};
-ghost use Rattle.table_report.specs.Stating.{IsReportBeside, IsReportOfTable, beyond_of};
+ghost use Rattle.table_report.specs.Stating.{IsReportBeside, beyond_of};
 ghost use Rattle.table_report.specs.Values.{asked_of, value_of};
 
 use crate::asked::Asked;
 use crate::section::section_text;
-use direction_table::read_stated_table;
 use directions_apart::apart_of;
 use exact_adjustment::{AdjustError, Adjustment, adjust};
-use station_book::Surveyed;
-use station_compare::{CompareFault, HowFar};
+use station_book::{ResultLimits, Surveyed};
+use station_compare::HowFar;
 use station_differences::differences_by;
 use station_report::{computed_by, text_by};
 use station_results::size_at;
@@ -30,48 +28,42 @@ pub struct TableReport {
     pub beyond: Option<HowFar>,
 }
 
-/// The report of a station with the directions that a table's bytes state.
-pub(crate) fn report_of_table(
+/// The report of a station with these directions, one for each of its targets, and this limit: the
+/// text of `station_report`, with a section after the adjusted directions. That has each stated
+/// direction, its difference from the adjusted one after the rotation that makes the largest
+/// difference smallest, as it is and less the lower median of all, the limit, and whether they agree.
+///
+/// All is exactly rounded, the middle of two upwards, but that differences from the median are of
+/// the printed ones; and it is of the least-squares directions: least over all directions,
+/// orientations and full turns. No residual is above the limit of residuals.
+///
+/// # Errors
+///
+/// Those of `exact_adjustment::adjust`: its `AdjustFault`, and `Memory`.
+pub fn report_beside(
     alloc: Global,
     asked: &Asked<'_>,
-    surveyed: &Surveyed,
-    bytes: &[u8],
-) -> Result<TableReport, CompareFault>
-    ensures tells { MatchResult result
-        (λ report. IsReportOfTable (asked_of asked.now) surveyed.now bytes.now (value_of report))
-        (HasNoneOf asked.now.unit surveyed.now.station asked.now.limits.residual bytes.now) }
-    ensures held { OnOk result
-        (HasResidualsWithin surveyed.now.station asked.now.limits.residual) }
-{
-    let stated = read_stated_table(alloc, asked.unit, surveyed.station().targets(), bytes)?;
-    let limit = asked.within.unwrap_or(stated.usual_within);
-    Ok(report_beside(alloc, asked, surveyed, &stated.directions, limit)?)
-}
-
-/// The report of a station with these directions, one for each of its targets, and this limit.
-fn report_beside(
-    alloc: Global,
-    asked: &Asked<'_>,
+    limits: ResultLimits,
     surveyed: &Surveyed,
     stated: &[i64],
     limit: u32,
 ) -> Result<TableReport, AdjustError>
     requires { length stated.now ≡ length surveyed.now.station.targets }
     ensures beside { IfOk result (λ report.
-        IsReportBeside (asked_of asked.now) surveyed.now stated.now limit (value_of report)) }
-    ensures held { OnOk result
-        (HasResidualsWithin surveyed.now.station asked.now.limits.residual) }
-    ensures fault { IfErr result
-        (IsAdjustError surveyed.now.station asked.now.limits.residual) }
+        IsReportBeside (asked_of asked.now) limits surveyed.now stated.now limit
+        (value_of report)) }
+    ensures held { OnOk result (HasResidualsWithin surveyed.now.station limits.residual) }
+    ensures fault { IfErr result (IsAdjustError surveyed.now.station limits.residual) }
 {
-    let adjustment = adjust(alloc, surveyed.station(), asked.limits.residual)?;
-    Ok(report_by(alloc, asked, surveyed, &adjustment, stated, limit)?)
+    let adjustment = adjust(alloc, surveyed.station(), limits.residual)?;
+    Ok(report_by(alloc, asked, limits, surveyed, &adjustment, stated, limit)?)
 }
 
 /// The report of `report_beside`, by an adjustment of the station.
 fn report_by(
     alloc: Global,
     asked: &Asked<'_>,
+    limits: ResultLimits,
     surveyed: &Surveyed,
     adjustment: &Adjustment,
     stated: &[i64],
@@ -82,7 +74,8 @@ fn report_by(
     requires tied { AreTied surveyed.now.station }
     requires each { length stated.now ≡ length surveyed.now.station.targets }
     ensures { IfOk result (λ report.
-        IsReportBeside (asked_of asked.now) surveyed.now stated.now limit (value_of report)) }
+        IsReportBeside (asked_of asked.now) limits surveyed.now stated.now limit
+        (value_of report)) }
 {
     let station = surveyed.station();
     let rows = differences_by(alloc, station.targets(), adjustment, stated)?;
@@ -93,14 +86,7 @@ fn report_by(
     let computed = computed_by(alloc, station, adjustment)?;
     let greatest = size_at(&computed.rows, computed.greatest);
     let section = section_text(alloc, asked.table_path, station, &rows, how_far, greatest)?;
-    let text = text_by(
-        alloc,
-        asked.path,
-        asked.limits,
-        surveyed,
-        &computed,
-        &section,
-    )?;
+    let text = text_by(alloc, asked.path, limits, surveyed, &computed, &section)?;
     Ok(TableReport {
         text,
         beyond: beyond(how_far),

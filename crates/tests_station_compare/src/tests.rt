@@ -9,12 +9,11 @@ use exact_adjustment::AdjustFault;
 use station_answers::{Directions, answer_of};
 use station_book::{Limits, ResultLimits};
 use station_check::Fault;
-use station_compare::{
-    Agreement, CompareFault, HowFar, agreement_line, compare_bytes, refusal_line, run_compare,
-};
+use station_compare::{Agreement, CompareFault, HowFar, agreement_line, refusal_line};
 use std::alloc::Global;
 use std::process::Abort;
 use std::test::Fail;
+use table_answers::{compare_bytes, run_compare};
 use test_support::{S1, TIE, TWO_PARTS};
 
 fn limits(rt: &impl Abort) -> ResultLimits {

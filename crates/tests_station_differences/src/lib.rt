@@ -1,7 +1,8 @@
-//! The tests of `station_differences`, by its public calls alone.
+//! The tests of `station_differences` and of what `table_answers` prints by it, by their public calls
+//! alone.
 //!
-//! They stand apart from it, since a check of a crate's tests proves the crate's own functions once
-//! more.
+//! They stand apart from these, since a check of a crate's tests proves the crate's own functions
+//! once more.
 #![tactic(auto)]
 
 #[cfg(test)]

@@ -8,16 +8,20 @@ use exact_adjustment::{AdjustError, AdjustFault};
 use station_book::{Limits, ResultLimits};
 use station_check::Fault;
 use station_compare::CompareFault;
-use station_differences::{
-    differences_text, run_differences, target_differences, text_of, write_differences,
-};
+use station_differences::{target_differences, text_of};
 use std::alloc::Global;
 use std::process::Abort;
 use std::test::Fail;
+use table_answers::{Differences, run_table_answer, table_answer_of, write_table_answer};
 use test_support::{Observed, S1, TIE, TWO_PARTS, station_of};
 
 /// A table of S1, its rows in another order than the station's targets, turned by 100 gon.
 const STATED: &[u8] = b"B;150,0001\nA;100,0001\n";
+
+/// What is asked of a table in gon.
+const IN_GON: Differences = Differences {
+    unit: AngleUnit::Gon,
+};
 
 /// What is printed of it.
 const DIFFERENCES: &[u8] = b"target,stated,least squares,difference,from the median\n\
@@ -281,13 +285,13 @@ fn a_table_beside_a_residual_above_the_limit_has_no_differences(
             residual: residual(&rt, half_units),
             ..limits(&rt)
         };
-        let answer = run_differences(
+        let answer = run_table_answer(
             rt.alloc(),
             gsi,
             &mut table,
-            AngleUnit::Gon,
             b"S1",
             limits,
+            &IN_GON,
             &mut out,
             &mut err,
         );
@@ -331,13 +335,13 @@ fn a_table_has_differences_or_the_first_fault(rt: HostRuntime) -> Result<(), Fai
     for (gsi, name, table, want) in cases {
         let gsi = Script::new(gsi, usize::MAX, false);
         let mut table = Script::new(table, usize::MAX, false);
-        let answer = differences_text(
+        let (answer, _gsi) = table_answer_of(
             rt.alloc(),
             gsi,
             &mut table,
-            AngleUnit::Gon,
             name,
             limits(&rt),
+            &IN_GON,
         );
         match (answer, want) {
             (Ok(text), Ok(want)) => assert_eq!(rt; text.as_slice(), want),
@@ -376,8 +380,17 @@ B,50.000030000,50.000030,0.000,0.000\n",
     for (table, want) in cases {
         let gsi = Script::new(S1, usize::MAX, false);
         let mut table = Script::new(table, usize::MAX, false);
-        let unit = AngleUnit::Degrees;
-        let answer = differences_text(rt.alloc(), gsi, &mut table, unit, b"S1", limits(&rt));
+        let asked = Differences {
+            unit: AngleUnit::Degrees,
+        };
+        let (answer, _gsi) = table_answer_of(
+            rt.alloc(),
+            gsi,
+            &mut table,
+            b"S1",
+            limits(&rt),
+            &asked,
+        );
         match answer {
             Ok(text) => assert_eq!(rt; text.as_slice(), want),
             Err(fault) => assert!(rt; false, "{fault:?}"),
@@ -400,13 +413,13 @@ fn a_run_prints_its_text_and_answers_its_status(rt: HostRuntime) -> Result<(), F
         let mut out = Held::new(rt.alloc(), 400, 400, false).map_err(|_| "no memory")?;
         let mut err = Held::new(rt.alloc(), 100, 100, false).map_err(|_| "no memory")?;
         let limits = limits(&rt);
-        let answer = run_differences(
+        let answer = run_table_answer(
             rt.alloc(),
             gsi,
             &mut table,
-            AngleUnit::Gon,
             name,
             limits,
+            &IN_GON,
             &mut out,
             &mut err,
         );
@@ -423,13 +436,13 @@ fn a_writer_without_room_or_whose_flush_fails_is_told(rt: HostRuntime) -> Result
         let gsi = Script::new(S1, usize::MAX, false);
         let mut table = Script::new(STATED, usize::MAX, false);
         let mut out = Held::new(rt.alloc(), room, 7, flush_fails).map_err(|_| "no memory")?;
-        let answer = write_differences(
+        let answer = write_table_answer(
             rt.alloc(),
             gsi,
             &mut table,
-            AngleUnit::Gon,
             b"S1",
             limits(&rt),
+            &IN_GON,
             &mut out,
         );
         assert_eq!(rt; answer, Err(CompareFault::Write));

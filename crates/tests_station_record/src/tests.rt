@@ -14,7 +14,8 @@ use station_record::{
 use std::alloc::Global;
 use std::process::Abort;
 use std::test::Fail;
-use table_report::{Asked, run_table_report};
+use table_answers::run_table_answer;
+use table_report::Asked;
 use test_support::S1;
 
 /// Bytes that a sink has room for where no test wants less.
@@ -199,21 +200,12 @@ fn compared(
 
 impl Report {
     /// What is asked of it, if it has a table.
-    fn asked<'a>(
-        self,
-        rt: &impl Abort,
-        gsi: File<'a>,
-        table: File<'a>,
-        station: &'a [u8],
-        half_units: u32,
-    ) -> Option<Asked<'a>> {
+    fn asked<'a>(self, gsi: File<'a>, table: File<'a>) -> Option<Asked<'a>> {
         let (_, unit, within) = self.table?;
         Some(Asked {
             path: gsi.name,
             table_path: table.name,
             unit,
-            station,
-            limits: held_to(rt, half_units),
             within: Some(within),
         })
     }
@@ -230,15 +222,22 @@ impl Report {
         room: usize,
     ) -> Result<Printed, Fail> {
         let (mut out, mut err) = (held(alloc, room)?, held(alloc, AMPLE)?);
-        let status = match self.asked(rt, gsi, table, station, half_units) {
+        let limits = held_to(rt, half_units);
+        let status = match self.asked(gsi, table) {
             None => {
-                let (gsi, limits) = (gsi.reader(), held_to(rt, half_units));
+                let gsi = gsi.reader();
                 run_report_recorded(alloc, gsi, station, limits, &mut out, &mut err)
             }
-            Some(asked) => {
-                let (gsi, table) = (gsi.bytes(), table.bytes());
-                run_table_report_recorded(alloc, gsi, table, &asked, &mut out, &mut err)
-            }
+            Some(asked) => run_table_report_recorded(
+                alloc,
+                gsi.bytes(),
+                table.bytes(),
+                station,
+                limits,
+                &asked,
+                &mut out,
+                &mut err,
+            ),
         };
         Ok(Printed { status, out, err })
     }
@@ -253,16 +252,18 @@ impl Report {
         digests: &[u8],
     ) -> Result<Vec<u8>, Fail> {
         let (mut out, mut err) = (held(alloc, AMPLE)?, held(alloc, AMPLE)?);
-        match self.asked(rt, gsi, table, b"S1", LARGEST_RESIDUAL_LIMIT) {
+        let limits = ResultLimits::of_faces(limits(rt));
+        match self.asked(gsi, table) {
             None => {
                 let (path, gsi) = (gsi.name, gsi.bytes());
-                let limits = ResultLimits::of_faces(limits(rt));
                 let asked = station_answers::Report { path };
                 run_answer(alloc, gsi, b"S1", limits, &asked, &mut out, &mut err)
             }
             Some(asked) => {
                 let (gsi, mut table) = (gsi.bytes(), table.bytes());
-                run_table_report(alloc, gsi, &mut table, &asked, &mut out, &mut err)
+                run_table_answer(
+                    alloc, gsi, &mut table, b"S1", limits, &asked, &mut out, &mut err,
+                )
             }
         };
         assert_eq!(rt; err.bytes(), self.refused);

@@ -4,10 +4,10 @@ use super::{S1, limits};
 use byte_ends::{Held, OfRead, OfWrite, Script, Sink, Source};
 use direction_table::{AngleUnit, Decimals};
 use station_answers::{Directions, run_answer};
-use station_compare::run_compare;
 use std::alloc::Global;
 use std::process::Abort;
 use std::test::Fail;
+use table_answers::run_compare;
 use test_support::{Recovers, Resumes};
 
 /// Bytes that a sink has room for where no test wants less.

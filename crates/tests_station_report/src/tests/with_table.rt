@@ -8,9 +8,9 @@ use byte_ends::{OfRead, OfWrite};
 use direction_table::AngleUnit;
 use station_compare::{CompareFault, HowFar};
 use std::alloc::Global;
-use std::process::Abort;
 use std::test::Fail;
-use table_report::{Asked, run_table_report, table_report_of_sources, verdict, write_table_report};
+use table_answers::{run_table_answer, table_answer_of, verdict, write_table_answer};
+use table_report::Asked;
 use test_support::{Recovers, Resumes};
 
 /// Whose directions a table states.
@@ -204,22 +204,12 @@ impl Beside {
         }
     }
 
-    /// What is asked, where residuals are held to so many half units.
-    fn held_to(self, rt: &impl Abort, half_units: u32) -> Asked<'static> {
-        Asked {
-            limits: limits_with(rt, half_units),
-            ..self.asked(rt, b"table.csv")
-        }
-    }
-
     /// What is asked, of a table of this path.
-    fn asked<'a>(self, rt: &impl Abort, table_path: &'a [u8]) -> Asked<'a> {
+    fn asked(self, table_path: &[u8]) -> Asked<'_> {
         Asked {
             path: PATH,
             table_path,
             unit: self.unit,
-            station: self.worked().name,
-            limits: limits(rt),
             within: self.within,
         }
     }
@@ -258,10 +248,11 @@ fn a_table_stands_beside_the_adjusted_directions(rt: HostRuntime) -> Result<(), 
     for beside in tables() {
         for (path, shown_path) in paths {
             let want = beside.report(rt.alloc(), shown_path)?;
-            let asked = beside.asked(&rt, path);
+            let asked = beside.asked(path);
             let gsi = given(beside.worked().gsi, usize::MAX, false);
             let mut table = given(beside.table, usize::MAX, false);
-            let (answer, _gsi) = table_report_of_sources(rt.alloc(), gsi, &mut table, &asked);
+            let (name, limits) = (beside.worked().name, limits(&rt));
+            let (answer, _gsi) = table_answer_of(rt.alloc(), gsi, &mut table, name, limits, &asked);
             match answer {
                 Ok(report) => {
                     assert_eq!(rt; report.text.as_slice(), want.as_slice());
@@ -281,13 +272,22 @@ fn a_table_stands_beside_the_adjusted_directions(rt: HostRuntime) -> Result<(), 
 fn a_table_that_is_apart_is_printed_and_then_refused(rt: HostRuntime) -> Result<(), Fail> {
     for beside in tables() {
         let want = beside.report(rt.alloc(), b"table.csv")?;
-        let asked = beside.asked(&rt, b"table.csv");
+        let asked = beside.asked(b"table.csv");
         for (step, room) in STEPS.into_iter().zip([AMPLE, 0, 5, AMPLE]) {
             let gsi = given(beside.worked().gsi, step, false);
             let mut table = given(beside.table, step, false);
             let mut out = room_for(rt.alloc(), AMPLE, false)?;
             let mut err = room_for(rt.alloc(), room, false)?;
-            let status = run_table_report(rt.alloc(), gsi, &mut table, &asked, &mut out, &mut err);
+            let status = run_table_answer(
+                rt.alloc(),
+                gsi,
+                &mut table,
+                beside.worked().name,
+                limits(&rt),
+                &asked,
+                &mut out,
+                &mut err,
+            );
             let line = beside.refused;
             assert_eq!(rt; out.bytes(), want.as_slice());
             assert_eq!(rt; err.bytes(), &line[..line.len().min(room)]);
@@ -305,12 +305,21 @@ fn a_report_with_a_table_says_the_limit_that_its_residuals_keep(
     for (beside, half_units, line, refused) in beside_held() {
         let report = beside.report(rt.alloc(), b"table.csv")?;
         let report = with_line(rt.alloc(), &report, b"Limit of residuals", line)?;
-        let asked = beside.held_to(&rt, half_units);
+        let asked = beside.asked(b"table.csv");
         let gsi = given(beside.worked().gsi, usize::MAX, false);
         let mut table = given(beside.table, usize::MAX, false);
         let mut out = room_for(rt.alloc(), AMPLE, false)?;
         let mut err = room_for(rt.alloc(), AMPLE, false)?;
-        let status = run_table_report(rt.alloc(), gsi, &mut table, &asked, &mut out, &mut err);
+        let status = run_table_answer(
+            rt.alloc(),
+            gsi,
+            &mut table,
+            beside.worked().name,
+            limits_with(&rt, half_units),
+            &asked,
+            &mut out,
+            &mut err,
+        );
         let printed = if refused.is_empty() {
             report.as_slice()
         } else {
@@ -388,17 +397,25 @@ fn a_table_without_a_report_has_the_first_fault(rt: HostRuntime) -> Result<(), F
         let name: &[u8] = s1().name;
         cases.push((gsi, false, name, table, unit, fails, line))?;
     }
-    for (gsi, gsi_fails, station, table, unit, fails, line) in cases {
+    for (gsi, gsi_fails, name, table, unit, fails, line) in cases {
         let asked = Asked {
             unit,
-            station,
-            ..TURNED.asked(&rt, b"table.csv")
+            ..TURNED.asked(b"table.csv")
         };
         let gsi = given(gsi, 7, gsi_fails);
         let mut table = given(table, 1, fails);
         let mut out = room_for(rt.alloc(), AMPLE, false)?;
         let mut err = room_for(rt.alloc(), AMPLE, false)?;
-        let status = run_table_report(rt.alloc(), gsi, &mut table, &asked, &mut out, &mut err);
+        let status = run_table_answer(
+            rt.alloc(),
+            gsi,
+            &mut table,
+            name,
+            limits(&rt),
+            &asked,
+            &mut out,
+            &mut err,
+        );
         assert_eq!(rt; err.bytes(), line);
         assert_eq!(rt; out.bytes(), b"".as_slice());
         assert_eq!(rt; status, 1);
@@ -413,12 +430,20 @@ fn a_writer_without_room_for_a_table_or_whose_flush_fails_is_told(
 ) -> Result<(), Fail> {
     for beside in [TURNED, APART] {
         let report = beside.report(rt.alloc(), b"table.csv")?;
-        let asked = beside.asked(&rt, b"table.csv");
+        let asked = beside.asked(b"table.csv");
         for room in 0..=report.len() {
             let gsi = given(beside.worked().gsi, usize::MAX, false);
             let mut table = given(beside.table, usize::MAX, false);
             let mut out = room_for(rt.alloc(), room, room == report.len())?;
-            let answer = write_table_report(rt.alloc(), gsi, &mut table, &asked, &mut out);
+            let answer = write_table_answer(
+                rt.alloc(),
+                gsi,
+                &mut table,
+                beside.worked().name,
+                limits(&rt),
+                &asked,
+                &mut out,
+            );
             assert_eq!(rt; answer, Err(CompareFault::Write));
             assert_eq!(rt; out.bytes(), &report[..room]);
         }
@@ -428,14 +453,17 @@ fn a_writer_without_room_for_a_table_or_whose_flush_fails_is_told(
 
 #[test]
 fn ends_of_a_table_report_that_fail_once_are_not_asked_again(rt: HostRuntime) -> Result<(), Fail> {
-    let asked = APART.asked(&rt, b"table.csv");
+    let asked = APART.asked(b"table.csv");
+    let name = APART.worked().name;
     for (gsi_fails, table_fails) in [(false, false), (true, false), (false, true)] {
         let mut gsi = Recovers::new(s1().gsi, gsi_fails);
         let mut table = Recovers::new(APART.table, table_fails);
-        let (answer, of_gsi) = table_report_of_sources(
+        let (answer, of_gsi) = table_answer_of(
             rt.alloc(),
             OfRead::new(&mut gsi),
             &mut OfRead::new(&mut table),
+            name,
+            limits(&rt),
             &asked,
         );
         drop(of_gsi);
@@ -449,7 +477,15 @@ fn ends_of_a_table_report_that_fail_once_are_not_asked_again(rt: HostRuntime) ->
         let mut table = given(APART.table, usize::MAX, false);
         let mut writer = Resumes::new(calls, 200);
         let mut out = OfWrite::new(&mut writer);
-        let answer = write_table_report(rt.alloc(), gsi, &mut table, &asked, &mut out);
+        let answer = write_table_answer(
+            rt.alloc(),
+            gsi,
+            &mut table,
+            name,
+            limits(&rt),
+            &asked,
+            &mut out,
+        );
         drop(out);
         assert_eq!(rt; answer, Err(CompareFault::Write));
         assert_eq!(rt; writer.bytes, report.len().min(calls.saturating_mul(200)));

@@ -4,7 +4,8 @@ use Rattle.byte_digests.specs.Digesting.{reader_of}
 use Rattle.byte_ends.specs.Writers.{writer_change}
 use Rattle.byte_ends.specs.Source.{reader_change}
 use Rattle.station_record.specs.Recorded.{IsRecordedCompare}
-use Rattle.station_record.proofs.CompareUndigested.{comparison_of, recorded}
+use Rattle.station_record.proofs.CompareRecorded.{recorded}
+use Rattle.station_record.proofs.ReportUndigested.{both_of}
 use Rattle.station_record.proofs.compare.run_compare_recorded.Goals as goal
 
 pub returns : goal.returns
@@ -18,9 +19,8 @@ returns g c =
     let out = writer_change g.W.Sink c.args.out.now
     c.print_verdict-printed.new.out in
     let printed = c.print_verdict-printed.result in
-    let answers = comparison_of g.R.Source.told g.R.Source.failed g.R.Source.gave g.Q.Source.told
-    g.Q.Source.failed g.Q.Source.gave c.args.unit c.args.limits c.args.within c.args.station.now gsi
-    gsi' table table' verdict
+    let answers = both_of g.R.Source.told g.R.Source.failed g.R.Source.gave g.Q.Source.told
+    g.Q.Source.failed g.Q.Source.gave gsi gsi' table table' verdict _
     c.new-digested_gsi.ensures.nothing c.new-digested_table.ensures.nothing a in
     let gsi_held = (digested g.R.Source.told g.R.Source.failed g.R.Source.gave gsi gsi'
     a.gsi_bytes c.new-digested_gsi.ensures.nothing a.gsi_reads).1 in

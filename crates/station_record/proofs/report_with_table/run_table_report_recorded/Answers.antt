@@ -11,11 +11,11 @@ use Rattle.station_record.proofs.report_with_table.run_table_report_recorded.Goa
 pub returns : goal.returns
 returns g c =
     let gsi = c.new-digested_gsi.result in
-    let gsi' = c.table_report_of_sources-answer.result.1 in
+    let gsi' = c.table_answer_of-answer.result.1 in
     let table = c.new-digested_table.result in
-    let table' = c.table_report_of_sources-answer.new.table in
-    let answer = c.table_report_of_sources-answer.result.0 in
-    let a = c.table_report_of_sources-answer.ensures in
+    let table' = c.table_answer_of-answer.new.table in
+    let answer = c.table_answer_of-answer.result.0 in
+    let a = c.table_answer_of-answer.ensures in
     let asked = asked_of c.args.asked.now in
     let out = writer_change g.W.Sink c.args.out.now
     c.print_report-printed.new.out in
@@ -27,18 +27,19 @@ returns g c =
     a.gsi_bytes c.new-digested_gsi.ensures.nothing a.gsi_reads).1 in
     let table_held = (digested g.Q.Source.told g.Q.Source.failed g.Q.Source.gave table table'
     a.table_bytes c.new-digested_table.ensures.nothing a.table_reads).1 in
-    let run = recorded_both value_of asked _ _ answer tells c.digest-gsi_digest.result
-    c.digest-table_digest.result (c.digest-gsi_digest.ensures a.gsi_bytes gsi_held)
+    let run = recorded_both value_of asked c.args.limits _ _ c.args.station.now answer tells
+    c.digest-gsi_digest.result c.digest-table_digest.result
+    (c.digest-gsi_digest.ensures a.gsi_bytes gsi_held)
     (c.digest-table_digest.ensures a.table_bytes table_held) printed out
     c.print_report-printed.ensures in
-    let of_gsi = subst (λ (r : _). IsRecordedTableReport asked
+    let of_gsi = subst (λ (r : _). IsRecordedTableReport asked c.args.limits
     (reader_change g.R.Source.told g.R.Source.failed g.R.Source.gave r (reader_of gsi'))
     (reader_change g.Q.Source.told g.Q.Source.failed g.Q.Source.gave (reader_of table)
-    (reader_of table')) printed out) c.new-digested_gsi.ensures.reader run in
-    let of_both = subst (λ (q : _). IsRecordedTableReport asked
+    (reader_of table')) c.args.station.now printed out) c.new-digested_gsi.ensures.reader run in
+    let of_both = subst (λ (q : _). IsRecordedTableReport asked c.args.limits
     (reader_change g.R.Source.told g.R.Source.failed g.R.Source.gave c.args.gsi (reader_of gsi'))
     (reader_change g.Q.Source.told g.Q.Source.failed g.Q.Source.gave q (reader_of table'))
-    printed out) c.new-digested_table.ensures.reader of_gsi in (
+    c.args.station.now printed out) c.new-digested_table.ensures.reader of_gsi in (
       reader_of gsi',
       (
         reader_of table',

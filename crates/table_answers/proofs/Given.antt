@@ -1,0 +1,117 @@
+-- From what is said of a station and a table's input to what is answered, and how the readers are
+-- left.
+use Rattle.std.proofs.Common.{◌≡◌, inl, inr, ℕ, List, Some, None, Result, Ok, Err, refl, subst}
+use Rattle.std.specs.Prelude.{MatchResult, OnOk}
+use Rattle.adjust_kernel.specs.Stations.{StationValue}
+use Rattle.byte_ends.proofs.Coming.{given_as_told, some_left}
+use Rattle.byte_ends.specs.Came.{IsReadOut, Leaves}
+use Rattle.byte_ends.specs.Input.{Input, Ended, BrokeOff, RanPast, input_within}
+use Rattle.byte_ends.specs.Source.{Told, ReaderChange, given_then}
+use Rattle.direction_table.specs.declared.fault.TableFault.TheVariants as table
+use Rattle.direction_table.specs.declared.reading.TheConstants.{LONGEST_TABLE}
+use Rattle.direction_table.specs.declared.unit.AngleUnit.{AngleUnit}
+use Rattle.exact_adjustment.specs.LeastOf.{HasResidualsWithin}
+use Rattle.gsi_file.specs.FileAnswers.{FileAnswers, file_answers}
+use Rattle.station_book.specs.Stations.{SurveyedStation}
+use Rattle.station_book.specs.declared.result_limits.ResultLimits.{ResultLimits}
+use Rattle.station_check.specs.StationOfFile.{IsStationOfFile}
+use Rattle.station_check.specs.declared.fault.Fault.{Fault}
+use Rattle.station_compare.proofs.Comparisons.{compares_by_table}
+use Rattle.station_compare.specs.Answers.{field_file_left, table_left}
+use Rattle.station_compare.specs.Comparing.{ByInput}
+use Rattle.station_compare.specs.declared.fault.CompareFault.{CompareFault}
+use Rattle.station_compare.specs.declared.fault.CompareFault.TheVariants.{File, TableRead, Table}
+use Rattle.station_compare.specs.declared.fault.CompareFault.TheVariants.{Adjust, Apart, Write}
+use Rattle.station_compare.specs.declared.fault.CompareFault.TheVariants.{Memory}
+use Rattle.table_answers.specs.Answers.{ReadsBoth, StatesBeside}
+use Rattle.table_answers.specs.OfInput.{HasNoAnswerOfInput, SaysOfInput}
+use Rattle.table_answers.specs.Refusing.{HasNoAnswer, HasNoAnswerOf}
+
+module _ {V : Type 0} (Says : SurveyedStation → List ℕ → V → Type 0) where
+  -- An answer comes of an input that ended.
+  ended_by : (its : SurveyedStation) (input : Input) (value : V)
+      → SaysOfInput (Says its) input value
+      → (bytes : List ℕ) × (input ≡ Ended bytes) × Says its bytes value
+  ended_by its (Ended bytes) value h = (bytes, refl, h)
+  ended_by its (BrokeOff bytes) value h = absurd h
+  ended_by its RanPast value h = absurd h
+
+  -- What is answered, where the station was found.
+  pub tells_by_input : {T : Type 0} (value : T → V) (unit : AngleUnit) (limits : ResultLimits)
+      (file : FileAnswers) (stated : Told) (name : List ℕ) (its : SurveyedStation)
+      (r : Result T CompareFault)
+      → IsStationOfFile limits.faces file name its
+      → MatchResult r
+      (λ t. SaysOfInput (Says its) (input_within LONGEST_TABLE stated) (value t))
+      (HasNoAnswerOfInput unit its.station limits.residual (input_within LONGEST_TABLE stated))
+      → OnOk r (HasResidualsWithin its.station limits.residual)
+      → MatchResult r (λ t. StatesBeside Says limits file stated name (value t))
+      (HasNoAnswer unit limits file stated name)
+  tells_by_input value unit limits file stated name its (Ok t) station h held =
+      let ended = ended_by its (input_within LONGEST_TABLE stated) (value t) h in
+      record {
+        its = its;
+        station = station;
+        bytes = ended.0;
+        whole = ended.1;
+        held = held;
+        said = ended.2;
+      }
+  tells_by_input value unit limits file stated name its (Err fault) station h held =
+      λ within. compares_by_table unit limits file stated name within its (Err fault) station
+      (h within)
+
+-- No fault of the field file comes of the table.
+no_file_fault : (unit : AngleUnit) (station : StationValue) (residual : ℕ) (fault : Fault)
+    (input : Input) → ByInput unit station residual None input (Err (File fault)) → ⊥
+no_file_fault unit station residual fault (Ended bytes) h = h
+no_file_fault unit station residual fault (BrokeOff bytes) (inl h) = cc
+no_file_fault unit station residual fault (BrokeOff bytes) (inr h) = cc
+no_file_fault unit station residual fault RanPast (inl h) = cc
+no_file_fault unit station residual fault RanPast (inr h) = cc
+
+-- How what is answered of a table's input leaves the field file's reader, which has ended before.
+pub left_by_input : (unit : AngleUnit) {T : Type 0} (So : T → Type 0) (station : StationValue)
+    (residual : ℕ) (input : Input) (r : Result T CompareFault) (gsi : ReaderChange)
+    → MatchResult r So (HasNoAnswerOfInput unit station residual input)
+    → IsReadOut gsi → Leaves field_file_left r gsi
+left_by_input unit So station residual input (Ok text) gsi h out = out
+left_by_input unit So station residual input (Err (File fault)) gsi h out = absurd
+    (no_file_fault unit station residual fault input (h None))
+left_by_input unit So station residual input (Err TableRead) gsi h out = out
+left_by_input unit So station residual input (Err (Table fault)) gsi h out = out
+left_by_input unit So station residual input (Err (Adjust fault)) gsi h out = out
+left_by_input unit So station residual input (Err (Apart apart)) gsi h out = out
+left_by_input unit So station residual input (Err Write) gsi h out = out
+left_by_input unit So station residual input (Err Memory) gsi h out = out.unfailed
+
+-- How what is answered of a table's bytes leaves its reader, which has ended.
+pub left_by_bytes : (unit : AngleUnit) {T : Type 0} (So : T → Type 0) (station : StationValue)
+    (residual : ℕ) (bytes : List ℕ) (r : Result T CompareFault) (reader : ReaderChange)
+    → MatchResult r So (HasNoAnswerOf unit station residual bytes)
+    → IsReadOut reader → Leaves table_left r reader
+left_by_bytes unit So station residual bytes (Ok text) reader h out = out
+left_by_bytes unit So station residual bytes (Err (File fault)) reader h out = absurd (h None)
+left_by_bytes unit So station residual bytes (Err TableRead) reader h out = absurd (h None)
+left_by_bytes unit So station residual bytes (Err (Table table.TooLong)) reader h out = out.unfailed
+left_by_bytes unit So station residual bytes (Err (Table (table.Row number kind))) reader h out =
+    out
+left_by_bytes unit So station residual bytes (Err (Table (table.Missing target))) reader h out = out
+left_by_bytes unit So station residual bytes (Err (Table table.Memory)) reader h out = out.unfailed
+left_by_bytes unit So station residual bytes (Err (Adjust fault)) reader h out = out
+left_by_bytes unit So station residual bytes (Err (Apart apart)) reader h out = out
+left_by_bytes unit So station residual bytes (Err Write) reader h out = out.unfailed
+left_by_bytes unit So station residual bytes (Err Memory) reader h out = out.unfailed
+
+-- Of two readers that tell, what is so is so of what they tell.
+pub both_as_told : {A : Type 0} (gsi table : ReaderChange) (r : Result A CompareFault)
+    (So : FileAnswers → Told → Type 0) → ReadsBoth gsi table r So → (file stated : Told)
+    → gsi.told ≡ Some file → table.told ≡ Some stated → So (file_answers file) stated
+both_as_told gsi table r So a file stated e f =
+    let gsi_left = some_left gsi.told' in
+    let table_left = some_left table.told' in
+    subst (So (file_answers file))
+    (given_as_told table a.table_bytes a.table_reads stated f table_left.0 table_left.1)
+    (subst (λ (t : Told). So (file_answers t) (given_then a.table_bytes table_left.0))
+    (given_as_told gsi a.gsi_bytes a.gsi_reads file e gsi_left.0 gsi_left.1)
+    (a.so gsi_left.0 table_left.0 gsi_left.1 table_left.1))

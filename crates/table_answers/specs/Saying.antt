@@ -1,0 +1,16 @@
+-- What each answer says of a station and the bytes of a table.
+use Rattle.std.specs.Prelude.{ℕ, List}
+use Rattle.direction_table.specs.declared.unit.AngleUnit.{AngleUnit}
+use Rattle.station_book.specs.Stations.{SurveyedStation}
+use Rattle.station_book.specs.declared.result_limits.ResultLimits.{ResultLimits}
+use Rattle.station_differences.specs.Stating.{IsDifferencesText}
+use Rattle.table_report.specs.Stating.{IsReportOfTable, ReportAsked, ReportValue}
+
+-- The differences of the table, which states its directions in this unit.
+abbrev pub SaysDifferences : AngleUnit → SurveyedStation → List ℕ → List ℕ → Type 0
+SaysDifferences unit = λ its bytes text. IsDifferencesText unit its.station bytes text
+
+-- The report with the table, as it is asked for and with these limits.
+abbrev pub SaysTableReport : ReportAsked → ResultLimits → SurveyedStation → List ℕ → ReportValue
+    → Type 0
+SaysTableReport asked limits = λ its bytes report. IsReportOfTable asked limits its bytes report

@@ -1,0 +1,168 @@
+//! The comparison of a table with its station, as an answer, and by its own calls.
+ghost use Rattle.std.specs.Prelude.{◌≡◌, ⊤};
+ghost use Rattle.byte_ends.specs.Writers.{writer_change};
+ghost use Rattle.byte_ends.specs.Source.{reader_change, UntilDropped};
+ghost use Rattle.station_check.specs.RunEndings.{Run};
+ghost use Rattle.station_compare.specs.FaultTexts.{refusal_line};
+ghost use Rattle.table_answers.specs.Comparisons.{IsCompareRun, IsComparison, PrintsComparison};
+ghost use Rattle.table_answers.specs.Comparisons.{SaysComparison};
+ghost use Rattle.table_answers.specs.Comparisons as spec;
+ghost use Rattle.table_answers.specs.OneCompared.{comparable, one_compared};
+
+use crate::answer::TableAnswer;
+use crate::answering::{run_table_answer, table_answer_of};
+use crate::compared::Compared;
+use byte_ends::{Sink, Source};
+use direction_table::{AngleUnit, read_stated_table};
+use exact_adjustment::adjust;
+use least_directions::apart_by;
+use station_book::{ResultLimits, Surveyed};
+use station_check::write_whole;
+use station_compare::{Agreement, CompareFault, HowFar, agreement_line};
+use station_results::greatest_size;
+use std::alloc::Global;
+
+/// How far a table is apart from a station, and whether it agrees: within so many units of 0.000001
+/// gon; where no number is stated, within what is usual for the steps to which the table's rows
+/// round their directions.
+///
+/// One rotation brings every stated direction so near to the least-squares one, least over all
+/// directions, orientations and full turns, and none brings them nearer by a unit.
+#[derive(Clone, Copy, Debug, PartialEq, Eq, Drop)]
+pub struct Comparison {
+    /// The unit in which the table states its directions, gon or degrees.
+    pub unit: AngleUnit,
+    /// The limit that is stated.
+    pub within: Option<u32>,
+}
+
+impl TableAnswer for Comparison {
+    ghost use Rattle.table_answers.specs.declared.compared.Compared.{Compared};
+
+    type Answer = Compared;
+
+    ghost Value = { Compared };
+
+    ghost value = { λ compared. compared };
+
+    ghost unit_of = { λ asked. asked.unit };
+
+    ghost says = { λ asked. SaysComparison asked.unit asked.within };
+
+    ghost prints = { PrintsComparison };
+
+    fn of_table(
+        &self,
+        alloc: Global,
+        limits: ResultLimits,
+        surveyed: &Surveyed,
+        bytes: &[u8],
+    ) -> Result<Compared, CompareFault> {
+        let station = surveyed.station();
+        let stated = read_stated_table(alloc, self.unit, station.targets(), bytes)?;
+        let adjustment = adjust(alloc, station, limits.residual)?;
+        let apart = apart_by(station, &adjustment, &stated.directions);
+        let limit = self.within.unwrap_or(stated.usual_within);
+        let how_far = HowFar { apart, limit };
+        if apart > limit {
+            return Ok(Compared::Apart(how_far));
+        }
+        let greatest = greatest_size(alloc, station, &adjustment)?;
+        Ok(Compared::Agrees(Agreement {
+            name: station.name(),
+            sets: station.sets().len() as u32,
+            targets: station.targets().len() as u32,
+            how_far,
+            greatest,
+        }))
+    }
+
+    fn print<W: Sink>(answer: Compared, out: &mut W) -> Result<(), CompareFault>
+        ensures { PrintsComparison answer result (writer_change W.Sink out.old out.new) }
+    {
+        let agreement = answer.verdict()?;
+        write_whole(out, agreement_line(agreement).as_slice())?;
+        Ok(())
+    }
+
+    ghost one = { λ asked limits its bytes a b p q.
+        one_compared asked.unit its.station limits.residual bytes asked.within a b p q };
+
+    ghost compares = { λ asked limits its bytes a p.
+        comparable asked.unit its.station limits.residual bytes asked.within a p };
+}
+
+/// Whether the directions that a table states agree with the least-squares directions of the
+/// station of this name, as a [`Comparison`] of this unit and limit says it.
+///
+/// The field file is read to its end first, and the table's reader is not asked before.
+///
+/// # Errors
+///
+/// The first fault of the file; then `NoStation`; then that of the table; then that of the
+/// adjustment; then `Apart`. `Memory` may stand in the place of any answer.
+pub fn compare_bytes<R: Source, Q: Source>(
+    alloc: Global,
+    gsi: R,
+    table: &mut Q,
+    unit: AngleUnit,
+    name: &[u8],
+    limits: ResultLimits,
+    within: Option<u32>,
+) -> Result<Agreement, CompareFault>
+    // All of it is said of the very bytes that the two readers gave, whatever they are.
+    ensures { UntilDropped R.told R.failed R.gave gsi (λ gsi. IsComparison unit limits within gsi
+        (reader_change Q.told Q.failed Q.gave table.old table.new) name.now result) }
+{
+    let (answer, _gsi) = compare_sources(alloc, gsi, table, unit, name, limits, within);
+    answer
+}
+
+/// Compares as [`compare_bytes`] does, and gives the field file's reader back.
+pub fn compare_sources<R: Source, Q: Source>(
+    alloc: Global,
+    gsi: R,
+    table: &mut Q,
+    unit: AngleUnit,
+    name: &[u8],
+    limits: ResultLimits,
+    within: Option<u32>,
+) -> (Result<Agreement, CompareFault>, R)
+    ensures { IsComparison unit limits within (reader_change R.told R.failed R.gave gsi result.1)
+        (reader_change Q.told Q.failed Q.gave table.old table.new) name.now result.0 }
+{
+    let asked = Comparison { unit, within };
+    let (answer, gsi) = table_answer_of(alloc, gsi, table, name, limits, &asked);
+    (verdict_of(answer), gsi)
+}
+
+/// The verdict of an answer.
+fn verdict_of(answer: Result<Compared, CompareFault>) -> Result<Agreement, CompareFault>
+    ensures { result ≡ spec.verdict_of answer }
+{
+    answer?.verdict()
+}
+
+/// Compares the directions that a table states with those of the station of this name, and answers
+/// the exit status: 0 where they agree, and their line was written to `out`; else 1, with the line
+/// of a refusal on `err`. Where `err` fails, the line is lost and the status stays.
+pub fn run_compare<R: Source, Q: Source, W: Sink, E: Sink>(
+    alloc: Global,
+    gsi: R,
+    table: &mut Q,
+    unit: AngleUnit,
+    name: &[u8],
+    limits: ResultLimits,
+    within: Option<u32>,
+    out: &mut W,
+    err: &mut E,
+) -> u8
+    ensures { UntilDropped R.told R.failed R.gave gsi (λ gsi. Run {A = ⊤} refusal_line
+        (IsCompareRun unit limits within gsi
+        (reader_change Q.told Q.failed Q.gave table.old table.new) name.now)
+        result (writer_change W.Sink out.old out.new)
+        (writer_change E.Sink err.old err.new)) }
+{
+    let asked = Comparison { unit, within };
+    run_table_answer(alloc, gsi, table, name, limits, &asked, out, err)
+}

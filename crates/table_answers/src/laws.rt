@@ -1,0 +1,23 @@
+//! Laws of the definitions that contracts cite. The functions do nothing.
+ghost use Rattle.std.specs.Prelude.{◌≡◌, ℕ, List, Result};
+ghost use Rattle.byte_ends.specs.Source.{Told};
+ghost use Rattle.gsi_file.specs.FileAnswers.{FileAnswers};
+ghost use Rattle.station_book.specs.Limits.{AreLimits};
+ghost use Rattle.station_book.specs.declared.result_limits.ResultLimits.{ResultLimits};
+ghost use Rattle.station_compare.specs.OneAnswer.{IsSettled};
+ghost use Rattle.station_compare.specs.declared.fault.CompareFault.{CompareFault};
+ghost use Rattle.table_answers.specs.Answers.{TellsBeside};
+
+use crate::answer::TableAnswer;
+
+/// What came of two readers has one answer, whatever is asked of the station and the table: the
+/// fault that stands first is one, and so is all that the answer says. Two answers alone may stand
+/// in the place of another: out of memory in that of any, and that no adjustment was found in that
+/// of those from the adjustment on.
+pub fn one_answer<A: TableAnswer>()
+    ensures { (asked : A) (limits : ResultLimits) (file : FileAnswers) (stated : Told)
+        (name : List ℕ) (r s : Result A.Value CompareFault) → AreLimits limits.faces
+        → IsSettled r → IsSettled s
+        → TellsBeside (A.says asked limits) (A.unit_of asked) limits file stated name r
+        → TellsBeside (A.says asked limits) (A.unit_of asked) limits file stated name s → r ≡ s }
+{}
