@@ -113,6 +113,18 @@ TABLES = [
     ("a full circle", b"A,400.0000\nB,50.00003\n", "0", AGREES_WITHIN_0),
     ("a full circle back", b"A,-400\nB,50.00003\n", "0", AGREES_WITHIN_0),
     ("more decimals than Python reads", of_b(b"50.00003" + b"0" * 5_000), "0", AGREES_WITHIN_0),
+    ("a tenth decimal is left out, and counts", of_b(b"50.0000300001"), "1", agrees(1, 1)),
+    ("and within 0", of_b(b"50.0000300001"), "0", apart(1, 0)),
+    ("two units above, and half of them", of_b(b"50.000032"), "1", agrees(1, 1)),
+    ("and ever so little more", of_b(b"50.0000320000001"), "1", apart(2, 1)),
+    ("less by no more than may be left out", of_b(b"50.0000319999"), "1", apart(2, 1)),
+    ("and by more", of_b(b"50.0000319977"), "1", agrees(1, 1)),
+    ("a small digit far behind", of_b(b"50." + b"0" * 5_000 + b"1"), "15", apart(16, 15)),
+    ("noise of a computed 0", b"A,5.684341886080802e-14\nB,50.000030000000007\n", None, agrees(1, 10)),
+    ("noise below 0", b"A,-1.4210854715202004e-14\nB,50.00003\n", None, agrees(1, 10)),
+    ("exponents", b"A,0.000000000000000000e+00\nB,5.000003e+01\n", "0", AGREES_WITHIN_0),
+    ("exponents and decimal commas", b"A;0E+00\nB;5,000003E+01\n", "0", AGREES_WITHIN_0),
+    ("an exponent with a minus", b"A,-1e-05\nB,50.00002\n", "0", AGREES_WITHIN_0),
     ("as many bytes as may be", TABLE + b"\n" * (model.LONGEST_TABLE - len(TABLE)), None, AGREES),
 ]
 
@@ -278,9 +290,9 @@ FAULTS = [
     *(
         (f"the direction {text!r}", of_b(text), "table row 2: Number")
         for text in [
-            *[b"1e2", b"50.0000300001", b"0050", b".", b"-.", b"", b"-", b"--5", b"+-5", b"5 0"],
+            *[b"1e2", b"1e-", b"e-05", b"5.000003e+1.0", b"5e+03", b"1e-0005", b"0050", b".", b"-.", b"", b"-", b"--5", b"+-5", b"5 0"],
             *[b"5o", b"50.00003g", b"50.0.3", b"\xb2", b"0x5", b"inf", b"9" * 5_000],
-            b"50." + b"0" * 5_000 + b"1",
+            *[b"50.0000300001x", b"50." + b"0" * 5_000 + b"o"],
         ]
     ),
     ("401", of_b(b"401"), "table row 2: Range"),
@@ -336,13 +348,15 @@ IN_DEGREES = [
     ("signs and semicolons", "A;0°00'00\"\nB;45°00'00,0972\"\n".encode(), agrees(0, 1)),
     ("decimals", b"A 0\nB 45.000027\n", agrees(0, 1)),
     ("hyphens beside decimals", b"A,0-00-00\r\nB,45.000027\r\n", agrees(0, 1)),
+    ("decimals of seconds that are left out", b"A,0-00-00\nB,45-00-00.09720000001\n", agrees(1, 1)),
+    ("exponents of degrees", b"A,1e-05\nB,4.5000037E+01\n", agrees(0, 1)),
     ("degrees that are above 360", of_b(b"360-00-00.0001"), refused("table row 2: Range")),
     *(
         (f"B as {text!r}", of_b(text.encode()), refused("table row 2: Number"))
         for text in [
             *["45-0-0", "45-00-0", "45-0-00", "45-00", "45-", "-45-", "45--00-00", "45-00-00-00"],
             *["45-60-00", "45-00-60", "45 0 0", "45 00 00", "45:00:00", "4500.00.00"],
-            *["0045-00-00", "-00-00", "45-00.5-00", "45-00-00.0000001", "45-00-00N"],
+            *["0045-00-00", "-00-00", "45-00.5-00", "45-00-01e-05", "45-00-00N"],
             *["45°", "45°00'", "45°00'00", "45°00-00", "45-00'00\"", "45° 00' 00\"", "45º00'00\""],
             *["45°00\u203200\u2033", "45°00\u201900\u201d", "45°00'00''", "45d00m00s"],
         ]

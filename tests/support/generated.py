@@ -545,11 +545,16 @@ def direction_text(direction: Fraction, decimals: int) -> bytes:
     return sign + (b"%d.%0*d" % (whole, decimals, rest) if decimals else b"%d" % whole)
 
 
+def exponent_text(direction: Fraction, decimals: int) -> bytes:
+    """A direction in gon with an exponent, rounded so that its mantissa has so many decimals."""
+    return b"%.*e" % (decimals, float(direction))
+
+
 def degrees_text(random: Random, direction: Fraction) -> bytes:
     """A direction in gon as a table states it in degrees, cut to some decimals: with minutes and
     seconds by hyphens or by their signs, or with decimals."""
     degrees = direction * Fraction(9, 10)
-    decimals = random.choice([0, 1, 2, 4, 6])
+    decimals = random.choice([0, 1, 2, 4, 6, 11])
     if random.random() < 0.3:
         return direction_text(degrees, random.choice([decimals, 9]))
     whole, rest = divmod(int(abs(degrees) * 3600 * 10**decimals), 3600 * 10**decimals)
@@ -587,16 +592,19 @@ def change_table_row(random: Random, rows: list[model.Row]) -> None:
         others = [b"1e2", b"+5", b"400", b"-400", b"401", b"399.999999999", b"-0", b"7.", b".7"]
         more = [b"", b"000", b"0.0000000000", b"0.0000000001", b".", b"7,5", b"+-1"]
         more += [b"400.000000001", b"360-00-00", b"359-59-60", b"7-60-00", b"7-5-00", b"7-05"]
+        more += [b"1e-05", b"5.684341886080802e-14", b"-1.5E+02", b"4e+02", b"1e+03", b"7.00000000000001"]
+        more += [b"7e", b"7e-1x", b"0-00-00.00000005"]
         more.append(b"7\xc2\xb005'00.5\"")
         row[-1] = random.choice([*others, *more, row[-1] + b"0", row[-1] + b" "])
 
 
 def table_rows(random: Random, station: model.Station, degrees: bool = False) -> list[model.Row]:
     """The rows of a table of a station's directions, in any order."""
-    decimals = random.choice([0, 1, 3, 4, 5, 5, 6, 6, 7, 8, 9])
+    decimals = random.choice([0, 1, 3, 4, 5, 5, 6, 6, 7, 8, 9, 12, 16])
     directions = stated_of(random, station)
+    form = random.choice([direction_text, direction_text, direction_text, exponent_text])
     texts = [
-        degrees_text(random, direction) if degrees else direction_text(direction, decimals)
+        degrees_text(random, direction) if degrees else form(direction, decimals)
         for direction in directions
     ]
     rows = [list(row) for row in zip(station.targets, texts)]

@@ -55,9 +55,10 @@ table, then of the adjustment, in which no residual may be above 10 mgon, or the
 
 TABLE is text with a row for each target of the station, in any order: its name and its direction.
 Commas, semicolons, tabs or blanks separate the two; the first row decides which, and may be one of
-titles. A direction is in gon, from -400 to 400: a sign or none, at most 3 digits, and a decimal
-point or comma with decimals if it has any; those after the ninth are 0. If commas separate, a
-decimal comma stands in quotes. The first direction need not be 0.
+titles. A direction is in gon, from -400 to 400: a sign or none, at most 3 digits, a decimal point
+or comma with decimals if it has any, and an exponent as e-05 if it has one. Nine decimals are read;
+the others count as a rounding. If commas separate, a decimal comma stands in quotes. The first
+direction need not be 0.
 
 With --degrees a direction is in degrees, from -360 to 360: with minutes and seconds, as
 59-04-09.18, or the same with the three signs in the place of the hyphens; or with decimals, as

@@ -1,6 +1,8 @@
 pub mod Begun
 pub mod FirstDecimals
 pub mod Digits
+pub mod Powers
+pub mod ExactNumbers
 pub mod Sizes
 pub mod FieldsAt
 pub mod TwoColumns

@@ -4,7 +4,7 @@ use Rattle.std.proofs.Common.{[], ◌∷◌, ◌++◌, length, get_or, refl, ap,
 use Rattle.std.specs.Prelude.{not, nat_le}
 use Rattle.std.specs.Char.{is_ascii_digit, is_ascii_whitespace}
 use Rattle.std.specs.Int.{IsInRange}
-use Rattle.std.specs.List.{list_all, position_or_len, suffix_len}
+use Rattle.std.specs.List.{list_all, list_any, position_or_len, suffix_len}
 use Rattle.std.proofs.Math.Seq.{drop-append_seam, take-append_seam}
 use Rattle.std.proofs.lemmas.Bool.{and_parts, cases_lt, le-leb, le-ltb, lt-ltb, ne_eqb}
 use Rattle.std.proofs.lemmas.Bool.Decides.{nat_tests}
@@ -15,7 +15,7 @@ use Rattle.std.proofs.lemmas.List.Sums.{suffix_len-take_no}
 use Rattle.direction_table.specs.FieldForms.{without_blanks, without_blanks_before}
 use Rattle.direction_table.specs.Directions.{direction_value, is_direction, is_on_circle}
 use Rattle.direction_table.specs.DecimalNumbers.{after_first, is_mark, mark_of}
-use Rattle.direction_table.specs.Gons.{is_negative, size_value, unsigned}
+use Rattle.direction_table.specs.Gons.{is_letter, is_negative, size_value, unsigned}
 use Rattle.direction_table.specs.PlainTables.{IsPlainDirection, after_point, plain_sign}
 use Rattle.direction_table.specs.PlainTables.{plain_size}
 use Rattle.direction_table.proofs.Sizes.{Parts, decimals-is, whole-is}
@@ -47,6 +47,26 @@ at-mark [] (d ∷ ds) e = refl
 at-mark (c ∷ cs) decimals e =
     let p = and_parts _ _ e in
     rw (no-mark c p.0, at-mark cs decimals p.1) (omega arith)
+
+-- No letter is in digits with a point or without.
+no-letter : (c : ℕ) → is_ascii_digit c ≡ true → is_letter c ≡ false
+no-letter c e = grind (arith, nat_tests)
+
+no-letters : (digits : List ℕ) → list_all is_ascii_digit digits ≡ true
+    → list_any (λ b. is_letter b) digits ≡ false
+no-letters [] e = refl
+no-letters (c ∷ cs) e =
+    let p = and_parts _ _ e in
+    rw (no-letter c p.0) (no-letters cs p.1)
+
+no-exponent : (front decimals : List ℕ) → list_all is_ascii_digit front ≡ true
+    → list_all is_ascii_digit decimals ≡ true
+    → list_any (λ b. is_letter b) (front ++ after_point decimals) ≡ false
+no-exponent [] [] e f = refl
+no-exponent [] (d ∷ ds) e f = no-letters (d ∷ ds) f
+no-exponent (c ∷ cs) decimals e f =
+    let p = and_parts _ _ e in
+    rw (no-letter c p.0) (no-exponent cs decimals p.1 f)
 
 after-is : (decimals : List ℕ) → decimals ≡ after_first (after_point decimals)
 after-is [] = refl
@@ -85,15 +105,17 @@ module _ (field : List ℕ) (direction : ℤ) (p : IsPlainDirection field direct
   size-is : size_value (unsigned field) ≡ plain_size p.whole p.decimals
   size-is = rw (
     is-unsigned,
+    no-exponent p.whole p.decimals p.whole_digits p.decimal_digits,
     whole-is bare _ _ _ _ mine,
     decimals-is bare _ _ _ _ mine,
     take_all 9 p.decimals p.few,
-  ) refl
+  ) (omega arith)
 
   -- It has the form of a direction.
   pub plain-form : is_direction Gon field ≡ true
   plain-form = rw (
     is-unsigned,
+    no-exponent p.whole p.decimals p.whole_digits p.decimal_digits,
     whole-is bare _ _ _ _ mine,
     decimals-is bare _ _ _ _ mine,
     le-leb 1 (length p.whole + length p.decimals) (omega (arith, p.some)),

@@ -61,3 +61,33 @@ fraction_value most digits =
 abbrev pub decimal_value : ℕ → List ℕ → ℕ
 decimal_value most bytes =
     digits_value 10 (whole_part bytes) * 10 ^ most + fraction_value most (decimals_part bytes)
+
+-- Any number of digits, of which so many count.
+abbrev pub are_decimals : ℕ → List ℕ → Bool
+are_decimals most digits =
+    list_all is_ascii_digit (take most digits) && list_all is_ascii_digit (drop most digits)
+
+-- Those that don't count are 0.
+abbrev pub end_in_zeros : ℕ → List ℕ → Bool
+end_in_zeros most digits = list_all (λ digit. digit == zero_digit) (drop most digits)
+
+-- A number whose point is to be moved to the right by so many places: then at most three digits
+-- stand before it, and any number of them after it (profile).
+abbrev pub is_shifted : ℕ → List ℕ → Bool
+is_shifted shift bytes =
+    nat_le 1 (length (whole_part bytes) + length (decimals_part bytes))
+    && (is_whole (3 - shift) (whole_part bytes)
+    && (list_all is_ascii_digit (take shift (decimals_part bytes))
+    && are_decimals 9 (drop shift (decimals_part bytes))))
+
+-- The number with its point moved, in units of its ninth decimal; the digits past that are left
+-- out.
+abbrev pub shifted_value : ℕ → List ℕ → ℕ
+shifted_value shift bytes =
+    (digits_value 10 (whole_part bytes) * 10 ^ shift
+    + fraction_value shift (decimals_part bytes)) * 10 ^ 9
+    + fraction_value 9 (drop shift (decimals_part bytes))
+
+-- Nothing but zeros is left out.
+abbrev pub is_shifted_whole : ℕ → List ℕ → Bool
+is_shifted_whole shift bytes = end_in_zeros 9 (drop shift (decimals_part bytes))

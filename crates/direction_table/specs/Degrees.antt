@@ -4,8 +4,9 @@ use Rattle.std.specs.Prelude.{ℕ, ◌+◌, ◌-◌, ◌*◌, ◌^◌, ◌/◌, 
 use Rattle.std.specs.Prelude.{nat_lt, if◌then◌else◌, List, [], ◌∷◌, length, take, drop, unwrap_or}
 use Rattle.std.specs.List.{list_any, position}
 use Rattle.std.specs.Str.Parse.{digits_value}
-use Rattle.direction_table.specs.DecimalNumbers.{after_first, decimals_part, is_whole, whole_part}
-use Rattle.direction_table.specs.Gons.{is_size, size_value}
+use Rattle.direction_table.specs.DecimalNumbers.{after_first, decimals_part, is_shifted}
+use Rattle.direction_table.specs.DecimalNumbers.{is_shifted_whole, is_whole, shifted_value}
+use Rattle.direction_table.specs.DecimalNumbers.{whole_part}
 use Rattle.direction_table.specs.declared.degrees.Sexagesimal.{Sexagesimal}
 use Rattle.direction_table.specs.declared.degrees.TheConstants.{DEGREE, MINUTE}
 use Rattle.direction_table.specs.declared.direction.TheConstants.{SECOND_PARTS}
@@ -99,23 +100,32 @@ abbrev pub are_minutes : List ℕ → Bool
 are_minutes digits =
     (length digits == 2) && (is_whole 3 digits && nat_lt (digits_value 10 digits) 60)
 
--- Seconds: two digits and any number of decimals, below 60; those after the sixth are 0.
+-- Seconds: two digits and any number of decimals, below 60.
 abbrev pub are_seconds : List ℕ → Bool
 are_seconds bytes =
-    is_size bytes && ((length (whole_part bytes) == 2)
-    && (nat_lt (size_value bytes) 60_000_000_000 && (size_value bytes % 1_000 == 0)))
+    is_shifted 0 bytes && ((length (whole_part bytes) == 2)
+    && nat_lt (shifted_value 0 bytes) 60_000_000_000)
+
+-- Seconds in parts: 40 units of their ninth decimal are a part, and what is less is left out.
+abbrev pub seconds_value : List ℕ → ℕ
+seconds_value bytes = shifted_value 0 bytes / 40
+
+-- Nothing is left out of seconds: they are a whole number of parts.
+abbrev pub are_whole_seconds : List ℕ → Bool
+are_whole_seconds bytes = is_shifted_whole 0 bytes && (shifted_value 0 bytes % 40 == 0)
 
 -- Three such numbers.
 abbrev pub is_sexagesimal : Numbers → Bool
 is_sexagesimal n = are_degrees n.degrees && (are_minutes n.minutes && are_seconds n.seconds)
 
--- The direction in parts. Its seconds are in units of their ninth decimal, 40 of which are a part.
+-- The direction in parts.
 abbrev pub sexagesimal_value : Numbers → ℕ
 sexagesimal_value n =
     DEGREE * digits_value 10 n.degrees + MINUTE * digits_value 10 n.minutes
-    + size_value n.seconds / 40
+    + seconds_value n.seconds
 
--- One unit of the last of so many decimals of seconds, in parts; decimals after the sixth are 0.
+-- One unit of the last of so many decimals of seconds, in parts; that of the sixth, where more are
+-- written.
 abbrev pub seconds_step : ℕ → ℕ
 seconds_step decimals = SECOND_PARTS * 10 ^ (6 - decimals)
 
@@ -125,6 +135,9 @@ abbrev pub told_step : ℕ → ℕ → ℕ
 told_step size decimals =
     if (size == 0) && (decimals == 0) then 0 else seconds_step decimals
 
--- The step to which such a direction is rounded as it is written, in parts; 0 where it tells none.
+-- The step to which such a direction is rounded as it is written, in parts; 0 where it tells none,
+-- and 1 where something is left out of its seconds.
 abbrev pub sexagesimal_step : Numbers → ℕ
-sexagesimal_step n = told_step (sexagesimal_value n) (length (decimals_part n.seconds))
+sexagesimal_step n =
+    if are_whole_seconds n.seconds
+    then told_step (sexagesimal_value n) (length (decimals_part n.seconds)) else 1

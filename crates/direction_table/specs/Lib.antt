@@ -2,6 +2,7 @@
 -- needs them.
 pub mod DecimalNumbers
 pub mod Gons
+pub mod ExactNumbers
 pub mod Degrees
 pub mod Directions
 pub mod FieldForms

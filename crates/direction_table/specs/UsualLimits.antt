@@ -3,6 +3,7 @@
 use Rattle.std.specs.Prelude.{ℕ, ◌+◌, ◌*◌, ◌-◌, ◌/◌, ◌==◌, if◌then◌else◌, List, [], ◌∷◌, min, max}
 use Rattle.direction_table.specs.Directions.{is_direction, step_in}
 use Rattle.direction_table.specs.Rows.{beside_name}
+use Rattle.direction_table.specs.declared.direction.TheConstants.{DEGREE_PARTS}
 use Rattle.direction_table.specs.declared.limit.TheConstants.{UNIT_PARTS, USUAL_WITHIN}
 use Rattle.direction_table.specs.declared.unit.AngleUnit.{AngleUnit}
 
@@ -30,3 +31,9 @@ limit_of_step step = (step + (2 * UNIT_PARTS - 1)) / (2 * UNIT_PARTS) + 5
 -- The limit where none is stated: that of the finest step, and 10 at least (profile).
 abbrev pub usual_within : AngleUnit → List (List (List ℕ)) → ℕ
 usual_within unit rows = max USUAL_WITHIN (limit_of_step (finest_step unit rows))
+
+-- By how many parts the numbers that rows write may be off from the directions that are read of
+-- them: by none; but where something is left out of one, and its step is one part, by a unit of the
+-- ninth decimal, of which that of a degree is the largest.
+abbrev pub most_off : AngleUnit → List (List (List ℕ)) → ℕ
+most_off unit rows = if finest_step unit rows == 1 then DEGREE_PARTS else 0

@@ -139,3 +139,92 @@ pub fn read_decimal(bytes: &[u8], most_whole: usize, most_decimals: usize) -> Op
         decimals: decimals.len(),
     })
 }
+
+/// The most places by which a point is moved to the right.
+pub(crate) const MOST_SHIFT: usize = 2;
+
+/// The most digits before a point that was moved.
+const MOST_SHIFTED_WHOLE: usize = 3;
+
+/// 1, in units of the last of the decimals that count.
+const ONE: u128 = 1_000_000_000;
+
+/// Whether these are digits.
+fn are_digits(digits: &[u8]) -> bool
+    ensures { result ≡ list_all is_ascii_digit digits.now }
+{
+    digits.iter().all(|digit| digit.is_ascii_digit())
+}
+
+/// Decimals after a point.
+#[derive(Clone, Copy)]
+struct Decimals {
+    /// Those that count, in units of the last of them.
+    value: u64,
+    /// Whether those after them are 0.
+    is_whole: bool,
+}
+
+/// Any number of decimals, of which nine count.
+fn decimals_of(digits: &[u8]) -> Option<Decimals>
+    ensures value { IfSome result (λ d. d.value ≡ spec.fraction_value MOST_DIGITS digits.now) }
+    ensures bound { IfSome result (λ d. d.value < 10 ^ 18) }
+    ensures whole { IfSome result (λ d. d.is_whole ≡ spec.end_in_zeros MOST_DIGITS digits.now) }
+    ensures some { OnSome result (spec.are_decimals MOST_DIGITS digits.now ≡ true) }
+    ensures none { IfNone result (spec.are_decimals MOST_DIGITS digits.now ≡ false) }
+{
+    let (counted, beyond) = digits.split_at(digits.len().min(MOST_DIGITS));
+    let value = counted_decimals(counted, MOST_DIGITS)?;
+    if !are_digits(beyond) {
+        return None;
+    }
+    Some(Decimals {
+        value,
+        is_whole: are_zeros(beyond),
+    })
+}
+
+/// A decimal number without a sign, of which nine decimals count.
+#[derive(Clone, Copy)]
+pub(crate) struct Number {
+    /// In units of the ninth decimal; what stands past it is left out.
+    pub(crate) value: u128,
+    /// Whether nothing but zeros is left out.
+    pub(crate) is_whole: bool,
+    /// How many digits stand before the point, as it is written.
+    pub(crate) whole_digits: usize,
+    /// How many decimals are written.
+    pub(crate) decimals: usize,
+}
+
+/// The number that bytes write without a sign, with its point moved to the right by so many places:
+/// then at most three digits stand before it, and any number after it.
+pub(crate) fn read_shifted(bytes: &[u8], shift: usize) -> Option<Number>
+    requires { shift ≤ MOST_SHIFT }
+    ensures value { IfSome result (λ n. n.value ≡ spec.shifted_value shift bytes.now) }
+    ensures bound { IfSome result (λ n. n.value < 10 ^ 30) }
+    ensures whole { IfSome result (λ n. n.is_whole ≡ spec.is_shifted_whole shift bytes.now) }
+    ensures whole_digits { IfSome result
+        (λ n. n.whole_digits ≡ length (spec.whole_part bytes.now)) }
+    ensures decimals { IfSome result
+        (λ n. n.decimals ≡ length (spec.decimals_part bytes.now)) }
+    ensures some { OnSome result (spec.is_shifted shift bytes.now ≡ true) }
+    ensures none { IfNone result (spec.is_shifted shift bytes.now ≡ false) }
+{
+    let (whole, rest) = bytes.split_at(mark_of(bytes));
+    let decimals = after_first(rest);
+    if decimals.len() + whole.len() == 0 {
+        return None;
+    }
+    let number = whole_of(whole, MOST_SHIFTED_WHOLE - shift)?;
+    let (passed, left) = decimals.split_at(decimals.len().min(shift));
+    let moved = counted_decimals(passed, shift)?;
+    let fraction = decimals_of(left)?;
+    let ones = u128::from(number) * 10u128.pow(shift as u32) + u128::from(moved);
+    Some(Number {
+        value: ones * ONE + u128::from(fraction.value),
+        is_whole: fraction.is_whole,
+        whole_digits: whole.len(),
+        decimals: decimals.len(),
+    })
+}

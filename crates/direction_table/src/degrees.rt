@@ -6,11 +6,10 @@ ghost use Rattle.std.specs.List.{list_any, position};
 ghost use Rattle.std.specs.Str.Parse.{digits_value};
 ghost use Rattle.direction_table.specs.DecimalNumbers.{decimals_part};
 ghost use Rattle.direction_table.specs.Degrees as spec;
-ghost use Rattle.direction_table.specs.Gons.{size_value};
 
-use crate::decimal::{after_first, whole_of};
-use crate::direction::{Angle, COARSEST_STEP, SECOND_PARTS};
-use crate::gon::{MOST_WHOLE, size_of};
+use crate::decimal::{after_first, read_shifted, whole_of};
+use crate::direction::{Angle, COARSEST_STEP, FINEST_STEP, SECOND_PARTS};
+use crate::gon::MOST_WHOLE;
 
 /// Parts in a degree.
 pub const DEGREE: u64 = 90_000_000_000;
@@ -22,13 +21,10 @@ const SIXTIETHS: u64 = 60;
 pub const MINUTE: u64 = DEGREE / SIXTIETHS;
 
 /// A second, in units of its ninth decimal.
-const SECOND: u64 = 1_000_000_000;
-
-/// A unit of the sixth decimal of a second, in units of the ninth.
-const LAST_DECIMAL: u64 = 1_000;
+const SECOND: u128 = 1_000_000_000;
 
 /// A part, in units of the ninth decimal of a second.
-const PART: u64 = LAST_DECIMAL / SECOND_PARTS;
+const PART: u128 = 40;
 
 /// The first byte of the sign of degrees.
 const DEGREE_SIGN: u8 = 0xC2;
@@ -39,7 +35,7 @@ const DEGREE_SIGN_END: u8 = 0xB0;
 /// Digits of minutes, and of whole seconds.
 const SIXTIETHS_DIGITS: usize = 2;
 
-/// The most decimals of seconds that count.
+/// The decimals of seconds whose step is a whole number of parts.
 const MOST_SECONDS_DECIMALS: usize = 6;
 
 /// The place of the first of such bytes.
@@ -178,34 +174,38 @@ fn minutes_of(digits: &[u8]) -> Option<u64>
     Some(number)
 }
 
-/// Seconds, in units of their ninth decimal, and how many decimals they are written with.
+/// Seconds, and how many decimals they are written with.
 #[derive(Clone, Copy)]
 struct Seconds {
-    value: u64,
+    /// In parts; what is less than one is left out.
+    parts: u128,
+    /// Whether nothing is left out.
+    is_whole: bool,
     decimals: usize,
 }
 
 /// Seconds of two digits and any decimals, below 60.
 fn seconds_of(bytes: &[u8]) -> Option<Seconds>
-    ensures value { IfSome result (λ seconds. seconds.value ≡ size_value bytes.now) }
+    ensures value { IfSome result (λ seconds. seconds.parts ≡ spec.seconds_value bytes.now) }
+    ensures bound { IfSome result (λ seconds. seconds.parts < 10 ^ 30) }
+    ensures whole { IfSome result
+        (λ seconds. seconds.is_whole ≡ spec.are_whole_seconds bytes.now) }
     ensures decimals { IfSome result
         (λ seconds. seconds.decimals ≡ length (decimals_part bytes.now)) }
     ensures some { OnSome result (spec.are_seconds bytes.now ≡ true) }
     ensures none { IfNone result (spec.are_seconds bytes.now ≡ false) }
 {
-    let size = size_of(bytes)?;
-    if size.whole_digits != SIXTIETHS_DIGITS {
+    let number = read_shifted(bytes, 0)?;
+    if number.whole_digits != SIXTIETHS_DIGITS {
         return None;
     }
-    if size.value >= SIXTIETHS * SECOND {
-        return None;
-    }
-    if size.value % LAST_DECIMAL != 0 {
+    if number.value >= u128::from(SIXTIETHS) * SECOND {
         return None;
     }
     Some(Seconds {
-        value: size.value,
-        decimals: size.decimals,
+        parts: number.value / PART,
+        is_whole: number.is_whole && number.value % PART == 0,
+        decimals: number.decimals,
     })
 }
 
@@ -237,10 +237,14 @@ fn sexagesimal_by(numbers: &Sexagesimal<'_>) -> Option<Angle>
     let seconds = seconds_of(numbers.seconds)?;
     let size = u128::from(DEGREE) * u128::from(degrees)
         + u128::from(MINUTE) * u128::from(minutes)
-        + u128::from(seconds.value / PART);
+        + seconds.parts;
     Some(Angle {
         size,
-        step: told_step(size, seconds.decimals),
+        step: if seconds.is_whole {
+            told_step(size, seconds.decimals)
+        } else {
+            FINEST_STEP
+        },
     })
 }
 

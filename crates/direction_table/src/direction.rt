@@ -1,14 +1,13 @@
 //! Directions as text, in gon or in degrees, and their numbers of parts.
 
-ghost use Rattle.std.specs.Prelude.{◌≡◌, ◌<◌, ◌≤◌, ◌*◌, length, pos, true, false, IfSome, IfNone};
+ghost use Rattle.std.specs.Prelude.{◌≡◌, ◌<◌, ◌≤◌, ◌*◌, pos, true, false, IfSome, IfNone};
 ghost use Rattle.std.specs.Prelude.{OnSome};
 ghost use Rattle.adjust_kernel.specs.Within.{IsWithin};
-ghost use Rattle.direction_table.specs.DecimalNumbers.{decimals_part};
 ghost use Rattle.direction_table.specs.Directions as spec;
 ghost use Rattle.direction_table.specs.Gons as gons;
 
 use crate::degrees::{has_minutes, sexagesimal_of};
-use crate::gon::{MOST_DECIMALS, size_of};
+use crate::gon::{MOST_DECIMALS, has_exponent, size_of};
 use crate::unit::AngleUnit;
 use adjust_kernel::{CIRCLE, PARTS};
 
@@ -24,6 +23,9 @@ pub const CIRCLE_PARTS: u64 = PARTS * CIRCLE;
 /// No direction is rounded to larger steps, in parts: a degree has as many.
 pub(crate) const COARSEST_STEP: u64 = 90_000_000_000;
 
+/// The step that a number tells of which something is left out, in parts: less than any other.
+pub(crate) const FINEST_STEP: u64 = 1;
+
 /// A number without its sign, in parts.
 #[derive(Clone, Copy)]
 pub(crate) struct Angle {
@@ -34,31 +36,41 @@ pub(crate) struct Angle {
 }
 
 /// One unit of the last of so many decimals, in units of the ninth; 0 where there are none.
-fn last_unit(decimals: usize) -> u64
+fn last_unit(decimals: u128) -> u64
     ensures value { result ≡ spec.last_unit decimals }
     ensures bound { result ≤ 1_000_000_000 }
 {
     if decimals == 0 {
         return 0;
     }
-    10u64.pow(MOST_DECIMALS.saturating_sub(decimals) as u32)
+    10u64.pow((MOST_DECIMALS as u128).saturating_sub(decimals) as u32)
 }
 
 /// The decimal number that bytes write, where a unit of its ninth decimal has so many parts.
 fn decimal_of(bytes: &[u8], parts: u64) -> Option<Angle>
     requires { parts ≤ DEGREE_PARTS }
     ensures size { IfSome result (λ angle. angle.size ≡ parts * gons.size_value bytes.now) }
-    ensures step { IfSome result (λ angle.
-        angle.step ≡ parts * spec.last_unit (length (decimals_part bytes.now))) }
+    ensures step { IfSome result (λ angle. angle.step ≡ spec.size_step parts bytes.now) }
     ensures bound { IfSome result (λ angle. angle.step ≤ COARSEST_STEP) }
     ensures some { OnSome result (gons.is_size bytes.now ≡ true) }
     ensures none { IfNone result (gons.is_size bytes.now ≡ false) }
 {
     let size = size_of(bytes)?;
     Some(Angle {
-        size: u128::from(parts) * u128::from(size.value),
-        step: parts * last_unit(size.decimals),
+        size: u128::from(parts) * size.value,
+        step: if size.is_whole {
+            parts * last_unit(size.decimals)
+        } else {
+            FINEST_STEP
+        },
     })
+}
+
+/// Whether degrees have minutes, and no exponent.
+fn are_sexagesimal(bytes: &[u8]) -> bool
+    ensures { result ≡ spec.are_sexagesimal bytes.now }
+{
+    has_minutes(bytes) && !has_exponent(bytes)
 }
 
 /// The number that bytes write in a unit.
@@ -72,7 +84,7 @@ fn angle_of(unit: AngleUnit, bytes: &[u8]) -> Option<Angle>
     match unit {
         AngleUnit::Gon => decimal_of(bytes, PARTS),
         AngleUnit::Degrees => {
-            if has_minutes(bytes) {
+            if are_sexagesimal(bytes) {
                 sexagesimal_of(bytes)
             } else {
                 decimal_of(bytes, DEGREE_PARTS)

@@ -21,8 +21,7 @@ pub enum RowKind {
     #[error("the name is not 1 to {most} bytes from the blank to the tilde", most = LONGEST_NAME)]
     Name,
     /// Its direction is no number of gon, or of degrees, in the form of a table: write digits, at
-    /// most 3 before a decimal point or comma, and zeros after the ninth decimal; of minutes and of
-    /// seconds two digits.
+    /// most 3 before a decimal point or comma; of minutes and of seconds two digits.
     #[error("the direction is no number")]
     Number,
     /// Its direction is more than a full circle: write one of 400 gon, or of 360 degrees, at most.

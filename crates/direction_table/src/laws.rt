@@ -1,12 +1,16 @@
 //! Laws of the definitions that contracts cite. The functions do nothing.
 
-ghost use Rattle.std.specs.Prelude.{◌≡◌, ◌⊎◌, ◌≤◌, ◌+◌, ◌*◌, ◌++◌, ◌∷◌, All, List, ℕ, ℤ, codes};
+ghost use Rattle.std.specs.Prelude.{◌≡◌, ◌⊎◌, ◌≤◌, ◌+◌, ◌*◌, ◌^◌, ◌++◌, ◌∷◌, All, List, ℕ, ℤ, codes};
 ghost use Rattle.std.specs.Prelude.{false, neg_ℤ, pos, true};
 ghost use Rattle.adjust_kernel.specs.Stations.{AreTargets};
 ghost use Rattle.adjust_kernel.specs.declared.units.TheConstants.{CIRCLE, PARTS};
-ghost use Rattle.direction_table.specs.Degrees.{seconds_step};
+ghost use Rattle.direction_table.specs.Degrees.{are_seconds, are_whole_seconds, seconds_step};
+ghost use Rattle.direction_table.specs.Degrees.{seconds_value};
 ghost use Rattle.direction_table.specs.Directions.{direction_value, is_direction, is_on_circle};
 ghost use Rattle.direction_table.specs.Directions.{last_unit, step_in};
+ghost use Rattle.direction_table.specs.ExactNumbers.{IsRoundedDown, IsWholeNumber, number_in};
+ghost use Rattle.direction_table.specs.ExactNumbers.{plain_number};
+ghost use Rattle.direction_table.specs.Gons.{is_size, is_whole_size, size_value};
 ghost use Rattle.direction_table.specs.PlainTables.{IsPlainTable};
 ghost use Rattle.direction_table.specs.TableTexts.{directions_of, names_of, table_text};
 ghost use Rattle.direction_table.specs.Tables.{IsTableFault, IsTableText};
@@ -91,6 +95,21 @@ pub fn usual_limits()
     ensures two_decimals { limit_of_step (seconds_step 2) ≡ 7 }
     ensures degrees_of_four { limit_of_step (DEGREE_PARTS * last_unit 4) ≡ 61 }
     ensures degrees_of_five { limit_of_step (DEGREE_PARTS * last_unit 5) ≡ 11 }
+{}
+
+/// What is read of a number is the number rounded down to its ninth decimal, and of seconds to
+/// parts, 25,000,000 of which are a second; where nothing is said to be left out it is the number
+/// itself.
+pub fn numbers()
+    ensures down { (bytes : List ℕ) → is_size bytes ≡ true
+        → IsRoundedDown (10 ^ 9) (number_in bytes) (size_value bytes) }
+    ensures whole { (bytes : List ℕ) → is_size bytes ≡ true → is_whole_size bytes ≡ true
+        → IsWholeNumber (10 ^ 9) (number_in bytes) (size_value bytes) }
+    ensures seconds_down { (bytes : List ℕ) → are_seconds bytes ≡ true
+        → IsRoundedDown 25_000_000 (plain_number bytes) (seconds_value bytes) }
+    ensures seconds_whole { (bytes : List ℕ) → are_seconds bytes ≡ true
+        → are_whole_seconds bytes ≡ true
+        → IsWholeNumber 25_000_000 (plain_number bytes) (seconds_value bytes) }
 {}
 
 /// What rows tell of the step of their table, in parts. Of two steps the finer counts, in whichever

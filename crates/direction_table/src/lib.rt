@@ -27,7 +27,7 @@ mod unit;
 
 pub use decimal::{MOST_DIGITS, Size, read_decimal};
 pub use decimals::{Decimals, MOST_WRITTEN};
-pub use direction::CIRCLE_PARTS;
+pub use direction::{CIRCLE_PARTS, DEGREE_PARTS};
 pub use fault::{RowKind, TableFault};
 pub use gon::GON;
 pub use limit::{LARGEST_WITHIN, USUAL_WITHIN};

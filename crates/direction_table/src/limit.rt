@@ -1,9 +1,9 @@
 //! The limit of a comparison where none is stated.
 
-ghost use Rattle.std.specs.Prelude.{◌≡◌, ◌≤◌, max};
+ghost use Rattle.std.specs.Prelude.{◌≡◌, ◌≤◌, ◌==◌, if◌then◌else◌, max};
 ghost use Rattle.direction_table.specs.UsualLimits as spec;
 
-use crate::direction::COARSEST_STEP;
+use crate::direction::{COARSEST_STEP, DEGREE_PARTS, FINEST_STEP};
 use adjust_kernel::{PARTS, UNIT};
 
 /// The least usual limit of a comparison, in units of 0.000001 gon.
@@ -48,4 +48,17 @@ pub(crate) fn usual_within(finest_step: u64) -> u32
     ensures { result ≡ max USUAL_WITHIN (spec.limit_of_step finest_step) }
 {
     limit_of_step(finest_step).max(USUAL_WITHIN)
+}
+
+/// By how many parts the numbers of a table, whose finest step is this, may be off from the
+/// directions that are read of them.
+pub(crate) fn most_off(finest_step: u64) -> u64
+    ensures value { result ≡ (if finest_step == 1 then DEGREE_PARTS else 0) }
+    ensures bound { result ≤ DEGREE_PARTS }
+{
+    if finest_step == FINEST_STEP {
+        DEGREE_PARTS
+    } else {
+        0
+    }
 }

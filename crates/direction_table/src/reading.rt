@@ -18,10 +18,10 @@ ghost use Rattle.direction_table.specs.declared.fault.TableFault.{TableFault};
 ghost use Rattle.direction_table.specs.declared.fault.TableFault.TheVariants.{Memory, TooLong};
 
 use crate::columns::are_titles;
-use crate::direction::COARSEST_STEP;
+use crate::direction::{COARSEST_STEP, DEGREE_PARTS};
 use crate::draft::take_row;
 use crate::fault::TableFault;
-use crate::limit::{finer, usual_within};
+use crate::limit::{finer, most_off, usual_within};
 use crate::records::Records;
 use crate::separator::{kept_row, separator_of};
 use crate::unit::AngleUnit;
@@ -71,6 +71,9 @@ pub struct StatedTable {
     /// direction, in units of 0.000001 gon: half of it, rounded up, and 5, but 10 at least. Gon and
     /// degrees without decimals tell no step, nor does 0-00-00.
     pub usual_within: u32,
+    /// By how many parts the numbers that the rows write may be off from these directions: 0 where
+    /// each is read whole, and 90 where one has more decimals than count.
+    pub most_off: u64,
 }
 
 /// The same as [`read_table`] gives, and the limit that is usual for the rows.
@@ -85,6 +88,9 @@ pub fn read_stated_table(
         IsTableText unit targets.now bytes.now stated.directions.items) }
     ensures usual_within { IfOk result (λ stated.
         stated.usual_within ≡ spec.usual_within unit (rows_of targets.now bytes.now)) }
+    ensures most_off { IfOk result (λ stated.
+        stated.most_off ≡ spec.most_off unit (rows_of targets.now bytes.now)) }
+    ensures small_off { IfOk result (λ stated. stated.most_off ≤ DEGREE_PARTS) }
     ensures fault { IfErr result (IsTableFaultOrMemory unit targets.now bytes.now) }
     ensures too_long { LONGEST_TABLE < length bytes.now → result ≡ Err TooLong }
 {
@@ -95,6 +101,7 @@ pub fn read_stated_table(
     Ok(StatedTable {
         directions: all_stated(alloc, &stated.directions)?,
         usual_within: usual_within(stated.finest_step),
+        most_off: most_off(stated.finest_step),
     })
 }
 

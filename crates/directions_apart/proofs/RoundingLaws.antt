@@ -101,27 +101,17 @@ rounded_near targets step c stated each =
           simp products (omega (arith, ints));
     }
 
--- What is brought near is brought less near.
-pub less_near : (targets : ℕ) (c : Choice) (stated : ℕ → ℤ) (most more : ℕ) → most ≤ more
-    → AreBroughtNear targets c stated most → AreBroughtNear targets c stated more
-less_near targets c stated most more h b = record {
-  parts = b.parts;
-  positive = b.positive;
-  rotation = b.rotation;
-  circles = b.circles;
-  each = λ t inside. let w = b.each t inside in
-      omega (arith, ints, mul-le-mul_right (c.denominator * b.parts) h);
-}
-
 -- What was rounded to small steps is apart by no more than half of them.
-pub rounded_agrees : (targets step most apart : ℕ) (c : Choice) (stated : ℕ → ℕ)
-    → step ≤ 2_000 * most
+pub rounded_agrees : (targets step off most apart : ℕ) (c : Choice) (stated : ℕ → ℕ)
+    → 81 * step + 2 * off ≤ 162_000 * most
     → ((t : ℕ) → t < targets → IsRounded c t step (stated t))
-    → IsApart targets c (λ t. pos (81 * stated t)) apart → apart ≤ most
-rounded_agrees targets step most apart c stated small each is =
-    let none : most < apart → ⊥ = λ h. is.no_nearer most h
-    (less_near targets c (λ t. pos (81 * stated t)) (81 * step) (162_000 * most)
-    (omega (arith, small)) (rounded_near targets step c stated each)) in
+    → IsApart targets c (λ t. pos (81 * stated t)) off apart → apart ≤ most
+rounded_agrees targets step off most apart c stated small each is =
+    let none : most < apart → ⊥ = λ h. is.no_nearer most h (record {
+      near = 81 * step;
+      brought = rounded_near targets step c stated each;
+      counted = small;
+    }) in
     omega (arith, none)
 
 -- What is a number over another denominator has its sign.

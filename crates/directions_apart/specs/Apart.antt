@@ -31,23 +31,45 @@ pub record AreBroughtNear (targets : ℕ) (c : Choice) (stated : ℕ → ℤ) (m
       (pos 2
       *ℤ (pos parts *ℤ (difference c stated t +ℤ pos (circle_of c) *ℤ circles t) -ℤ rotation))
 
--- `AreBroughtNear`, with the bound in units of 0.000001 gon.
-abbrev pub AreBroughtWithin : ℕ → Choice → (ℕ → ℤ) → ℕ → Type 0
-AreBroughtWithin targets c stated most = AreBroughtNear targets c stated (2 * (PARTS * UNIT) * most)
+-- One rotation brings each stated direction within so many units of 0.000001 gon of the choice's,
+-- and with it each number that is off from it by so many parts at most: they count on top of how
+-- near the direction is, which is in halves of a part.
+pub record AreBroughtWithin (targets : ℕ) (c : Choice) (stated : ℕ → ℤ) (off most : ℕ)
+    : Type 0 where
+  pub near : ℕ
+  pub brought : AreBroughtNear targets c stated near
+  pub counted : near + 2 * off ≤ 2 * (PARTS * UNIT) * most
 
--- So far apart, in units of 0.000001 gon, are stated directions from a choice's: one rotation
--- brings each within that, and none brings them nearer by a unit or more.
-pub record IsApart (targets : ℕ) (c : Choice) (stated : ℕ → ℤ) (apart : ℕ) : Type 0 where
-  pub brought : AreBroughtWithin targets c stated apart
-  pub no_nearer : (nearer : ℕ) → nearer < apart → ¬ AreBroughtWithin targets c stated nearer
+-- So far apart, in units of 0.000001 gon, are stated directions, and the numbers that are off from
+-- them by so many parts at most, from a choice's: one rotation brings each within that, and none
+-- brings them all nearer by a unit or more.
+pub record IsApart (targets : ℕ) (c : Choice) (stated : ℕ → ℤ) (off apart : ℕ) : Type 0 where
+  pub brought : AreBroughtWithin targets c stated off apart
+  pub no_nearer : (nearer : ℕ) → nearer < apart → ¬ AreBroughtWithin targets c stated off nearer
+
+-- One rotation and full circles bring each number within so many units of 0.000001 gon of the
+-- choice's direction. Numbers are fractions of parts, over one denominator for all.
+pub record AreNumbersWithin (targets : ℕ) (c : Choice) (parts : ℕ) (number : ℕ → ℤ) (most : ℕ)
+    : Type 0 where
+  pub over : ℕ
+  pub positive : 1 ≤ over
+  pub rotation : ℤ
+  pub circles : ℕ → ℤ
+  pub each : (t : ℕ) → t < targets
+      → IsWithin (pos (PARTS * UNIT * most * (c.denominator * (parts * over))))
+      (pos over *ℤ (pos c.denominator *ℤ number t
+      -ℤ pos parts *ℤ (pos (PARTS * HALF_UNIT) *ℤ c.direction t)
+      +ℤ pos (circle_of c) *ℤ (pos parts *ℤ circles t)) -ℤ rotation)
 
 -- the least whole number that is not below a fraction
 pub record IsRoundedUp (numerator denominator whole : ℕ) : Type 0 where
   pub not_below : numerator ≤ whole * denominator
   pub least : whole * denominator < numerator + denominator
 
--- Half the spread of the differences on the circle, rounded up to whole units of 0.000001 gon.
-pub record IsHalfSpread (targets : ℕ) (c : Choice) (stated : ℕ → ℤ) (apart : ℕ) : Type 0 where
+-- Half the spread of the differences on the circle, and what numbers are off, rounded up to whole
+-- units of 0.000001 gon.
+pub record IsHalfSpread (targets : ℕ) (c : Choice) (stated : ℕ → ℤ) (off apart : ℕ) : Type 0 where
   pub spread : ℕ
   pub is_spread : IsSpread (circle_of c) (difference c stated) targets spread
-  pub rounded_up : IsRoundedUp spread (2 * (PARTS * UNIT) * c.denominator) apart
+  pub rounded_up : IsRoundedUp (spread + c.denominator * (2 * off))
+      (2 * (PARTS * UNIT) * c.denominator) apart

@@ -18,7 +18,7 @@ mod differences;
 pub mod laws;
 mod rounding;
 
-pub use apart::apart_of;
+pub use apart::{MOST_OFF, apart_of};
 pub use circle::{on_circle, way_round};
 pub use differences::difference;
 pub use rounding::rounded;

@@ -1,5 +1,5 @@
 -- What is said of the directions of an exact adjustment is said of every least choice.
-use Rattle.std.proofs.Common.{◌≡◌, ℕ, zero, suc, ◌*◌, ◌%◌, ◌≤◌, ◌<◌, List, [], ◌∷◌, All, length}
+use Rattle.std.proofs.Common.{◌≡◌, ℕ, zero, suc, ◌+◌, ◌*◌, ◌%◌, ◌≤◌, ◌<◌, List, [], ◌∷◌, All, length}
 use Rattle.std.proofs.Common.{get_or, ℤ, pos, arith, refl, subst}
 use Rattle.std.proofs.Math.IntN.{◌*ℤ◌, ◌-ℤ◌}
 use Rattle.std.proofs.lemmas.Int.{ints}
@@ -11,7 +11,7 @@ use Rattle.adjust_kernel.specs.declared.bounds.TheConstants.{LARGEST_RESIDUAL_LI
 use Rattle.exact_adjustment.proofs.Products.{products}
 use Rattle.directions_apart.proofs.ApartLaws.{AreTurned, as_far_apart, as_near, one_apart}
 use Rattle.directions_apart.proofs.LeastLaws.{are_turned, first_is_0}
-use Rattle.directions_apart.proofs.RoundingLaws.{as_rounded, less_near, one_rounded, rounded_near}
+use Rattle.directions_apart.proofs.RoundingLaws.{as_rounded, one_rounded, rounded_near}
 use Rattle.directions_apart.proofs.RoundingLaws.{rounded_of_0}
 use Rattle.directions_apart.specs.Apart.{AreBroughtNear, IsApart}
 use Rattle.directions_apart.specs.Rounding.{IsRounded, from_first}
@@ -29,12 +29,12 @@ module _ (station : StationValue) (s : IsStation station) (a : AdjustmentValue)
   adjustable = record { rules = s; tied = tied; adjustment = a; exact = exact; limited = limited }
 
   -- What is apart from an exact adjustment is so from the least-squares directions.
-  pub are_apart : (stated : ℕ → ℤ) (apart : ℕ)
-      → IsApart (length station.targets) (choice_by a) stated apart
-      → AreApart station stated apart
-  are_apart stated apart is = record {
+  pub are_apart : (stated : ℕ → ℤ) (off apart : ℕ)
+      → IsApart (length station.targets) (choice_by a) stated off apart
+      → AreApart station stated off apart
+  are_apart stated off apart is = record {
     adjustable = adjustable;
-    from_each = λ c turns least. as_far_apart (length station.targets) (choice_by a) c stated apart
+    from_each = λ c turns least. as_far_apart (length station.targets) (choice_by a) c stated off apart
         exact.rules.positive least.positive
         (are_turned station a s tied exact limited c turns least) is;
   }
@@ -59,13 +59,13 @@ pub least_of : (station : StationValue) (a : IsAdjustable station)
 least_of station a = is_least station a.adjustment a.rules a.tied a.exact a.limited
 
 -- How far directions are apart is one number.
-pub one_distance : (station : StationValue) (stated : ℕ → ℤ) (a b : ℕ)
-    → AreApart station stated a → AreApart station stated b → a ≡ b
-one_distance station stated a b p q =
+pub one_distance : (station : StationValue) (stated : ℕ → ℤ) (off a b : ℕ)
+    → AreApart station stated off a → AreApart station stated off b → a ≡ b
+one_distance station stated off a b p q =
     let least = least_of station p.adjustable in
     let c = choice_by p.adjustable.adjustment in
     let turns = p.adjustable.adjustment.turns in
-    one_apart (length station.targets) c stated a b (p.from_each c turns least)
+    one_apart (length station.targets) c stated off a b (p.from_each c turns least)
     (q.from_each c turns least)
 
 -- Rounded directions are one list.
@@ -112,17 +112,19 @@ rounded_is_near station step directions c turns r least =
     (rounded_near (length station.targets) step (from_first c) (λ t. get_or directions t 0)
     (λ t inside. r.each t inside c turns least)))
 
--- And apart by half a step at most.
-pub rounded_is_apart : (station : StationValue) (step most apart : ℕ) (directions : List ℕ)
-    → AreRounded station step directions → step ≤ 2_000 * most
-    → AreApart station (as_stated directions) apart → apart ≤ most
-rounded_is_apart station step most apart directions r small is =
+-- And apart by half a step at most, and what numbers are off.
+pub rounded_is_apart : (station : StationValue) (step off most apart : ℕ) (directions : List ℕ)
+    → AreRounded station step directions → 81 * step + 2 * off ≤ 162_000 * most
+    → AreApart station (as_stated directions) off apart → apart ≤ most
+rounded_is_apart station step off most apart directions r small is =
     let a = r.adjustable.adjustment in
     let least = least_of station r.adjustable in
     let none : most < apart → ⊥ = λ h. (is.from_each (choice_by a) a.turns least).no_nearer most h
-    (less_near (length station.targets) (choice_by a) (as_stated directions) (81 * step)
-    (162_000 * most) (omega (arith, small))
-    (rounded_is_near station step directions (choice_by a) a.turns r least)) in
+    (record {
+      near = 81 * step;
+      brought = rounded_is_near station step directions (choice_by a) a.turns r least;
+      counted = small;
+    }) in
     omega (arith, none)
 
 -- Rounded directions of an adjustment are whole steps on the circle, and the first is 0.

@@ -21,13 +21,14 @@ pub record IsAdjustable (station : StationValue) : Type 0 where
   pub exact : IsExact station adjustment
   pub limited : KeepsLimit station adjustment LARGEST_RESIDUAL_LIMIT
 
--- So far are stated directions, in parts of which 0.000000001 gon has 81, apart from the
--- least-squares directions, in units of 0.000001 gon: one rotation brings each within that of the
--- least-squares one, and none brings them nearer by a unit, whichever choice is least.
-pub record AreApart (station : StationValue) (stated : ℕ → ℤ) (apart : ℕ) : Type 0 where
+-- So far are stated directions, in parts of which 0.000000001 gon has 81, and the numbers that are
+-- off from them by so many parts at most, apart from the least-squares directions, in units of
+-- 0.000001 gon: one rotation brings each within that of the least-squares one, and none brings them
+-- all nearer by a unit, whichever choice is least.
+pub record AreApart (station : StationValue) (stated : ℕ → ℤ) (off apart : ℕ) : Type 0 where
   pub adjustable : IsAdjustable station
   pub from_each : (c : Choice) (turns : List ℤ) → IsLeastOf station c turns
-      → IsApart (length station.targets) c stated apart
+      → IsApart (length station.targets) c stated off apart
 
 -- These are the least-squares directions of the targets, counted from the first, each rounded to
 -- whole steps, the middle of two upwards, whichever choice is least.

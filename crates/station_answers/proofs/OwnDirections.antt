@@ -10,7 +10,7 @@ use Rattle.byte_ends.specs.Input.{Input, Ended, RanPast, input_within}
 use Rattle.byte_ends.specs.Source.{Told}
 use Rattle.direction_table.proofs.LawLemmas.{never_both, one_table}
 use Rattle.direction_table.specs.Separators.{rows_of}
-use Rattle.direction_table.specs.UsualLimits.{usual_within}
+use Rattle.direction_table.specs.UsualLimits.{most_off, usual_within}
 use Rattle.direction_table.specs.TableTexts.{directions_of}
 use Rattle.direction_table.specs.Texts.{step_of}
 use Rattle.direction_table.specs.declared.reading.TheConstants.{LONGEST_TABLE}
@@ -35,7 +35,7 @@ use Rattle.station_compare.proofs.OneStation.{never_none, no_file_fault, same_st
 use Rattle.station_compare.specs.Agreeing.{Agrees}
 use Rattle.station_compare.specs.Answers.{Compares}
 use Rattle.station_compare.specs.Comparing.{ByInput, ByTable, IsComparedWith}
-use Rattle.station_compare.specs.LimitInForce.{limit_in_force}
+use Rattle.station_compare.specs.LimitInForce.{limit_in_force, off_in}
 use Rattle.station_compare.specs.declared.agreement.Agreement.{Agreement}
 use Rattle.station_compare.specs.declared.fault.CompareFault.{CompareFault}
 use Rattle.station_compare.specs.declared.fault.CompareFault.TheVariants.{File, Table, Adjust}
@@ -52,6 +52,10 @@ small_step count many =
 -- The usual limit of a table is 1 or more.
 usual_some : (rows : List (List (List ℕ))) → 1 ≤ usual_within Gon rows
 usual_some rows = omega arith
+
+-- No numbers are off by more than 90 parts.
+few_off : (rows : List (List (List ℕ))) → most_off Gon rows ≤ 90
+few_off rows = grind arith
 
 -- What rows are read as are their numbers.
 read_as : (rows : List TargetDirection)
@@ -74,9 +78,10 @@ module _ (count : ℕ) (text : List ℕ) (many : 6 ≤ count) where
         one_table Gon station.targets text h.directions (directions_of own.stated) h.states
         own.reads ∙ read_as own.stated in
         let small = small_step count many in
-        rounded station (step_of count) 1 apart (numbers_of own.stated) own.rounded
-        (omega (arith, small))
-        (subst (λ ds. AreApart station (stated_by ds) apart) same h.are_apart)
+        let off = off_in Gon station.targets text in
+        rounded station (step_of count) off 1 apart (numbers_of own.stated) own.rounded
+        (omega (arith, small, few_off (rows_of station.targets text)))
+        (subst (λ ds. AreApart station (stated_by ds) off apart) same h.are_apart)
 
     no_more : (within : Option ℕ) (apart : ℕ)
         → limit_in_force Gon within station.targets text < apart

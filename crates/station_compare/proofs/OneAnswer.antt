@@ -28,7 +28,7 @@ use Rattle.station_compare.proofs.Comparisons.{compared_of, no_adjust_fault}
 use Rattle.station_compare.proofs.OneStation.{IsOf, of_fault, of_none, of_station, one_of_each}
 use Rattle.station_compare.specs.Answers.{Compares}
 use Rattle.station_compare.specs.Comparing.{ByInput, ByTable, IsComparedWith, IsUnadjusted}
-use Rattle.station_compare.specs.LimitInForce.{limit_in_force}
+use Rattle.station_compare.specs.LimitInForce.{limit_in_force, off_in}
 use Rattle.station_compare.specs.OneAnswer.{IsSettled}
 use Rattle.station_compare.specs.declared.agreement.Agreement.{Agreement}
 use Rattle.station_compare.specs.declared.fault.CompareFault.{CompareFault}
@@ -67,8 +67,9 @@ module _ (unit : AngleUnit) (station : StationValue) (residual : ℕ) (bytes : L
   one_outcome (Ok (Ok n)) (Ok (Ok m)) p q =
       let same = one_table unit station.targets bytes p.1.directions q.1.directions p.1.states
       q.1.states in
-      ap (λ k. Ok (Ok k)) (one_distance station (stated_by q.1.directions) n m
-      (subst (λ ds. AreApart station (stated_by ds) n) same p.1.are_apart) q.1.are_apart)
+      let off = off_in unit station.targets bytes in
+      ap (λ k. Ok (Ok k)) (one_distance station (stated_by q.1.directions) off n m
+      (subst (λ ds. AreApart station (stated_by ds) off n) same p.1.are_apart) q.1.are_apart)
 
   module _ (within : Option ℕ) where
     -- What is answered of it, where this is the size of the greatest residual.

@@ -1,8 +1,8 @@
 -- What an agreement says, in the order of the sentence: of the station of this name in the field
 -- file, whose observations are its two-face directions within the limits, and whose residuals keep
--- theirs, one rotation brings every direction that the table states within so many units of 0.000001
--- gon of the least-squares one, least over all directions, orientations and full turns, and none
--- brings them nearer by a unit.
+-- theirs, one rotation brings every direction that the table states, and the number that its row
+-- writes, within so many units of 0.000001 gon of the least-squares one, least over all directions,
+-- orientations and full turns, and none brings them nearer by a unit.
 use Rattle.std.specs.Prelude.{◌≡◌, ℕ, ◌≤◌, ◌<◌, List, length, ℤ, Option}
 use Rattle.adjust_kernel.specs.Residuals.{Choice}
 use Rattle.byte_ends.specs.Input.{input_within, Ended}
@@ -16,7 +16,7 @@ use Rattle.least_directions.specs.LeastDirections.{IsAdjustable}
 use Rattle.station_book.specs.declared.result_limits.ResultLimits.{ResultLimits}
 use Rattle.station_book.specs.Stations.{SurveyedStation}
 use Rattle.station_check.specs.StationOfFile.{IsStationOfFile}
-use Rattle.station_compare.specs.LimitInForce.{limit_in_force}
+use Rattle.station_compare.specs.LimitInForce.{limit_in_force, off_in}
 use Rattle.station_compare.specs.declared.agreement.Agreement.{Agreement}
 use Rattle.station_results.specs.Greatest.{IsGreatestSize}
 use Rattle.direction_table.specs.declared.unit.AngleUnit.{AngleUnit}
@@ -42,13 +42,15 @@ pub record Agrees (unit : AngleUnit) (limits : ResultLimits) (file : FileAnswers
   -- And no residual is above the limit of residuals, whichever choice is least.
   pub held : HasResidualsWithin its.station limits.residual
   -- One rotation brings every stated direction so near to the least-squares one, whichever choice
-  -- is least.
+  -- is least, with each number that may be off from it.
   pub brought : (c : Choice) (turns : List ℤ) → IsLeastOf its.station c turns
-      → AreBroughtWithin (length its.station.targets) c (stated_by directions) a.how_far.apart
+      → AreBroughtWithin (length its.station.targets) c (stated_by directions)
+      (off_in unit its.station.targets bytes) a.how_far.apart
   -- And no rotation brings them nearer by a unit.
   pub no_nearer : (nearer : ℕ) → nearer < a.how_far.apart → (c : Choice) (turns : List ℤ)
       → IsLeastOf its.station c turns
-      → ¬ AreBroughtWithin (length its.station.targets) c (stated_by directions) nearer
+      → ¬ AreBroughtWithin (length its.station.targets) c (stated_by directions)
+      (off_in unit its.station.targets bytes) nearer
   -- That is no further than the limit that it says: the one in force, which is the stated one, or
   -- the usual one for the steps to which the table's rows round their directions.
   pub agrees : a.how_far.apart ≤ a.how_far.limit

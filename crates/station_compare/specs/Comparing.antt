@@ -10,7 +10,7 @@ use Rattle.exact_adjustment.specs.Faults.{IsAdjustFault}
 use Rattle.exact_adjustment.specs.LeastOf.{HasResidualsWithin}
 use Rattle.exact_adjustment.specs.declared.fault.AdjustFault.{AdjustFault}
 use Rattle.least_directions.specs.LeastDirections.{AreApart}
-use Rattle.station_compare.specs.LimitInForce.{limit_in_force}
+use Rattle.station_compare.specs.LimitInForce.{limit_in_force, off_in}
 use Rattle.station_compare.specs.declared.agreement.Agreement.{Agreement}
 use Rattle.station_compare.specs.declared.fault.CompareFault.{CompareFault}
 use Rattle.station_compare.specs.declared.fault.CompareFault.TheVariants.{TableRead, Table}
@@ -19,14 +19,15 @@ use Rattle.station_compare.specs.declared.how_far.HowFar.{HowFar}
 use Rattle.station_results.specs.Greatest.{IsGreatestSize}
 use Rattle.direction_table.specs.declared.unit.AngleUnit.{AngleUnit}
 
--- So far are the directions of a table apart from the least-squares directions of a station: one
--- rotation brings every stated direction within so many units of 0.000001 gon of every
--- least-squares choice, and none brings them nearer by a unit.
+-- So far are the directions of a table, and the numbers that its rows write, apart from the
+-- least-squares directions of a station: one rotation brings every stated direction, with each
+-- number that may be off from it, within so many units of 0.000001 gon of every least-squares
+-- choice, and none brings them nearer by a unit.
 pub record IsComparedWith (unit : AngleUnit) (station : StationValue) (bytes : List ℕ)
     (apart : ℕ) : Type 0 where
   pub directions : List ℤ
   pub states : IsTableText unit station.targets bytes directions
-  pub are_apart : AreApart station (stated_by directions) apart
+  pub are_apart : AreApart station (stated_by directions) (off_in unit station.targets bytes) apart
 
 -- No least-squares residual is above the limit of residuals, in half units; how far the table is
 -- apart is this, and the limit is the one in force.

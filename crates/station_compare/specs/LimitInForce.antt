@@ -1,7 +1,7 @@
--- The limit of a comparison, in units of 0.000001 gon.
+-- The limit of a comparison, in units of 0.000001 gon, and what the numbers of its table are off.
 use Rattle.std.specs.Prelude.{ℕ, List, Option, unwrap_or}
 use Rattle.direction_table.specs.Separators.{rows_of}
-use Rattle.direction_table.specs.UsualLimits.{usual_within}
+use Rattle.direction_table.specs.UsualLimits.{most_off, usual_within}
 use Rattle.direction_table.specs.declared.unit.AngleUnit.{AngleUnit}
 
 -- The limit that is stated; where none is, the one that is usual for the steps to which the table's
@@ -9,3 +9,8 @@ use Rattle.direction_table.specs.declared.unit.AngleUnit.{AngleUnit}
 abbrev pub limit_in_force : AngleUnit → Option ℕ → List (List ℕ) → List ℕ → ℕ
 limit_in_force unit within targets bytes =
     unwrap_or within (usual_within unit (rows_of targets bytes))
+
+-- By how many parts the numbers that the table's rows write may be off from the directions that are
+-- read of them.
+abbrev pub off_in : AngleUnit → List (List ℕ) → List ℕ → ℕ
+off_in unit targets bytes = most_off unit (rows_of targets bytes)

@@ -11,8 +11,8 @@ use station_check::{LONGEST_U32, LONGEST_VERDICT_LINE, VerdictLine, add, add_num
 /// How far a table of directions is apart from its station, and how far it may be.
 #[derive(Clone, Copy, Debug, PartialEq, Eq, Drop)]
 pub struct HowFar {
-    /// So near one rotation brings every stated direction to the least-squares one, in units of
-    /// 0.000001 gon.
+    /// So near one rotation brings every stated direction, and the number that its row writes, to
+    /// the least-squares one, in units of 0.000001 gon.
     pub apart: u32,
     /// The limit that it was held to, in the same units: the stated one, or what is usual for the
     /// table's rows.

@@ -5,6 +5,7 @@ use Rattle.std.proofs.Common.{All, List, [], ◌∷◌, length, get_or, arith, a
 use Rattle.std.specs.Int.{int_rem_euclid}
 use Rattle.std.specs.Int.RustNames.{unsigned_abs}
 use Rattle.std.proofs.Math.IntN.{◌*ℤ◌, ◌-ℤ◌}
+use Rattle.std.proofs.Math.Nat.{mul-le-mul_right}
 use Rattle.std.proofs.lemmas.Int.{ints}
 use Rattle.std.proofs.lemmas.List.{get_or_default}
 use native.Mathlib.Decide.{dec_le}
@@ -14,7 +15,7 @@ use Rattle.adjust_kernel.specs.Within.{IsWithin}
 use Rattle.adjust_kernel.proofs.Ring.{num, ◌⊕◌, ◌⊖◌, ◌⊗◌, same_value}
 use Rattle.directions_apart.specs.Apart.{IsApart, IsHalfSpread, IsRoundedUp, circle_of, difference}
 use Rattle.directions_apart.specs.Arcs.{IsExtent, IsSpread, IsWayRound}
-use Rattle.directions_apart.proofs.ApartLaws.{AreTurned, half_spread_is_apart, one_apart}
+use Rattle.directions_apart.proofs.ApartLaws.{AreTurned, half_spread_is_apart}
 use Rattle.directions_apart.proofs.ArcLaws.{no_circle, way_between, way_round_is}
 use Rattle.exact_adjustment.proofs.SideLaws.{same_inside}
 use Rattle.station_differences.specs.Angles.{AreAngles, angle_of}
@@ -257,28 +258,40 @@ rounded_up n k some =
     let left : x % k < k = omega (arith, some) in
     record { not_below = omega (arith, parts, left, some); least = omega (arith, parts, some) }
 
--- How far the directions are apart: half the spread, rounded up.
+-- Half the spread, rounded up: how far the directions are apart, where no number is off.
 some_apart : (targets : ℕ) (c : Choice) (stated : ℕ → ℤ) (differences : List ℤ)
     → 1 ≤ c.denominator → (are : AreDifferences targets c stated differences)
     → (apart : ℕ) × (are.spread ≤ apart * (162_000 * c.denominator))
-    × IsApart targets c stated apart
+    × IsApart targets c stated 0 apart
 some_apart targets c stated differences some are =
     let unit = 162_000 * c.denominator in
     let most = (are.spread + (unit - 1)) / unit in
     let up : IsRoundedUp are.spread unit most = rounded_up are.spread unit (omega (arith, some)) in
-    let half : IsHalfSpread targets c stated most =
-    record { spread = are.spread; is_spread = are.best.is_spread; rounded_up = up } in
-    (most, up.not_below, half_spread_is_apart targets c stated most half)
+    let half : IsHalfSpread targets c stated 0 most =
+    record {
+      spread = are.spread;
+      is_spread = are.best.is_spread;
+      rounded_up = record {
+        not_below = omega (arith, up.not_below);
+        least = omega (arith, up.least);
+      };
+    } in
+    (most, up.not_below, half_spread_is_apart targets c stated 0 most half some)
 
--- No difference is larger in size than how far the directions are apart.
-pub no_larger : (targets apart : ℕ) (c : Choice) (stated : ℕ → ℤ) (differences : List ℤ)
-    → 1 ≤ c.denominator → IsApart targets c stated apart
+-- No difference is larger in size than how far the directions are apart, whatever numbers are off.
+pub no_larger : (targets off apart : ℕ) (c : Choice) (stated : ℕ → ℤ) (differences : List ℤ)
+    → 1 ≤ c.denominator → IsApart targets c stated off apart
     → AreDifferences targets c stated differences
     → (t : ℕ) → t < targets → IsWithin (pos apart) (get_or differences t (pos 0))
-no_larger targets apart c stated differences some is are t h =
+no_larger targets off apart c stated differences some is are t h =
     let (most, narrow, also) = some_apart targets c stated differences some are in
-    let same : most ≡ apart = one_apart targets c stated most apart also is in
+    let further : apart < most → ⊥ = λ less. also.no_nearer apart less (record {
+      near = is.brought.near;
+      brought = is.brought.brought;
+      counted = omega (arith, is.brought.counted);
+    }) in
+    let no_more : most ≤ apart = omega (arith, further) in
+    let wider = mul-le-mul_right (162_000 * c.denominator) no_more in
     let m = are.each t h in
     within_half c.denominator m.way are.spread apart (get_or differences t (pos 0)) some
-    (are.best.first.here.held t h m.way m.onward)
-    (subst (λ n. are.spread ≤ n * (162_000 * c.denominator)) same narrow) m.rounded
+    (are.best.first.here.held t h m.way m.onward) (omega (arith, narrow, wider)) m.rounded

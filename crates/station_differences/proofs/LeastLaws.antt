@@ -51,14 +51,15 @@ one_list station stated a b p q =
 
 -- No difference is larger in size than how far the directions are apart.
 pub all_within : (station : StationValue) (stated : List ℤ) (rows : List TargetDifference)
-    (apart : ℕ) → AreCompared station stated rows → AreApart station (stated_by stated) apart
+    (off apart : ℕ) → AreCompared station stated rows
+    → AreApart station (stated_by stated) off apart
     → All (IsWithin (pos apart)) (differences_of rows)
-all_within station stated rows apart p is = λ t other h.
+all_within station stated rows off apart p is = λ t other h.
     (let has = p.rounded.adjustable in
     let least = its_least station has in
     let c = choice_by has.adjustment in
     let differ = p.differ c has.adjustment.turns least in
     let count = differ.count in
     subst (IsWithin (pos apart)) (get_or_default (differences_of rows) t (pos 0) other h)
-    (no_larger (length station.targets) apart c (stated_by stated) (differences_of rows)
+    (no_larger (length station.targets) off apart c (stated_by stated) (differences_of rows)
     least.positive (is.from_each c has.adjustment.turns least) differ t (omega (arith, h, count))))

@@ -23,7 +23,8 @@ pub fn one_list()
 /// units of 0.001 mgon.
 pub fn within_apart()
     ensures { (station : StationValue) (stated : List ℤ) (rows : List TargetDifference)
-        (apart : ℕ) → AreCompared station stated rows → AreApart station (stated_by stated) apart
+        (off apart : ℕ) → AreCompared station stated rows
+        → AreApart station (stated_by stated) off apart
         → All (IsWithin (pos apart)) (differences_of rows) }
 {}
 

@@ -889,17 +889,17 @@ const VALUE_FAULTS: &[Explanation] = &[
         when: "\
 A number of a sheet is written as '0', or as a digit 1 to 9 with further digits, with a leading '-'
 if it is negative: with no point, blank, plus or zero before it. A direction of a table has at most
-3 digits before its decimal point or comma, a '+' or '-' before them if need be, and neither
-exponent nor unit. Its decimals after the ninth are 0. With --degrees it may have minutes and
-seconds, as 59-04-09.18: of two digits each, below 60, and with decimals of the seconds, of which
-those after the sixth are 0.",
+3 digits before its decimal point or comma, a '+' or '-' before them if need be, any number of
+decimals, and no unit. An exponent has its sign, as 1.5e-05 or 1.39e+02. With --degrees there may be
+minutes and seconds, as 59-04-09.18: of two digits each, below 60, and with any decimals of the
+seconds.",
         example: "refused: sheet row 3: Number",
         remedy: "\
 Write the number so. Directions and orientations of a sheet are whole numbers too: they
 are in half units of 0.005 mgon, times the denominator of the sheet. Those of a table are in gon, or
 in degrees if --degrees is stated: state it for 59-04-09.18 and the like. In place of the hyphens
 there may be the sign of degrees in UTF-8, ' and \", but not the typographic signs of minutes and
-seconds. Leave out the unit, and round to 9 decimals. A table has one row of titles at most, its
+seconds. Leave out the unit. A table has one row of titles at most, its
 first, which may not begin with a target's name: leave out others.",
     },
     Said {

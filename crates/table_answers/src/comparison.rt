@@ -27,7 +27,8 @@ use std::alloc::Global;
 /// round their directions.
 ///
 /// One rotation brings every stated direction so near to the least-squares one, least over all
-/// directions, orientations and full turns, and none brings them nearer by a unit.
+/// directions, orientations and full turns, and none brings them nearer by a unit. What a number has
+/// past the decimals that count is within that too.
 #[derive(Clone, Copy, Debug, PartialEq, Eq, Drop)]
 pub struct Comparison {
     /// The unit in which the table states its directions, gon or degrees.
@@ -61,7 +62,7 @@ impl TableAnswer for Comparison {
         let station = surveyed.station();
         let stated = read_stated_table(alloc, self.unit, station.targets(), bytes)?;
         let adjustment = adjust(alloc, station, limits.residual)?;
-        let apart = apart_by(station, &adjustment, &stated.directions);
+        let apart = apart_by(station, &adjustment, &stated.directions, stated.most_off);
         let limit = self.within.unwrap_or(stated.usual_within);
         let how_far = HowFar { apart, limit };
         if apart > limit {

@@ -37,7 +37,15 @@ impl<'a> TableAnswer for Asked<'a> {
     ) -> Result<TableReport, CompareFault> {
         let stated = read_stated_table(alloc, self.unit, surveyed.station().targets(), bytes)?;
         let limit = self.within.unwrap_or(stated.usual_within);
-        Ok(report_beside(alloc, self, limits, surveyed, &stated.directions, limit)?)
+        Ok(report_beside(
+            alloc,
+            self,
+            limits,
+            surveyed,
+            &stated.directions,
+            stated.most_off,
+            limit,
+        )?)
     }
 
     fn print<W: Sink>(answer: TableReport, out: &mut W) -> Result<(), CompareFault>

@@ -6,7 +6,7 @@ use Rattle.directions_apart.specs.Apart.{stated_by}
 use Rattle.least_directions.proofs.LeastLaws.{one_distance}
 use Rattle.station_book.specs.Stations.{SurveyedStation}
 use Rattle.station_book.specs.declared.result_limits.ResultLimits.{ResultLimits}
-use Rattle.station_compare.specs.LimitInForce.{limit_in_force}
+use Rattle.station_compare.specs.LimitInForce.{limit_in_force, off_in}
 use Rattle.station_compare.specs.declared.how_far.HowFar.{HowFar}
 use Rattle.station_differences.proofs.LeastLaws.{one_list}
 use Rattle.station_report.proofs.ComputedLaws.{one_text}
@@ -17,13 +17,13 @@ use Rattle.table_report.specs.Stating.{IsReportBeside, IsReportOfTable, IsSectio
 use Rattle.table_report.specs.Stating.{ReportValue, beyond_of}
 
 -- A section, and whether directions are apart, are one.
-one_section : (station : StationValue) (path : List ℕ) (directions : List ℤ) (limit : ℕ)
-    (a b : List ℕ) (x y : Option HowFar) → IsSection station path directions limit a x
-    → IsSection station path directions limit b y → (a ≡ b) × (x ≡ y)
-one_section station path directions limit a b x y p q =
+one_section : (station : StationValue) (path : List ℕ) (directions : List ℤ) (off limit : ℕ)
+    (a b : List ℕ) (x y : Option HowFar) → IsSection station path directions off limit a x
+    → IsSection station path directions off limit b y → (a ≡ b) × (x ≡ y)
+one_section station path directions off limit a b x y p q =
     let rows = one_list station directions p.rows q.rows p.compared q.compared in
-    let apart = one_distance station (stated_by directions) p.how_far.apart q.how_far.apart
-    p.are_apart q.are_apart in
+    let apart = one_distance station (stated_by directions) off p.how_far.apart
+    q.how_far.apart p.are_apart q.are_apart in
     let limits = p.held_to ∙ sym q.held_to in
     let how_far : p.how_far ≡ q.how_far = λ i. record { apart = apart i; limit = limits i } in
     let greatest = one_size station p.greatest q.greatest p.is_greatest q.is_greatest in (
@@ -34,11 +34,11 @@ one_section station path directions limit a b x y p q =
 
 -- A report with stated directions is one.
 one_beside : (asked : ReportAsked) (limits : ResultLimits) (its : SurveyedStation)
-    (directions : List ℤ) (limit : ℕ) (a b : ReportValue)
-    → IsReportBeside asked limits its directions limit a
-    → IsReportBeside asked limits its directions limit b → a ≡ b
-one_beside asked limits its directions limit a b p q =
-    let (section, beyond) = one_section its.station asked.table_path directions limit p.section
+    (directions : List ℤ) (off limit : ℕ) (a b : ReportValue)
+    → IsReportBeside asked limits its directions off limit a
+    → IsReportBeside asked limits its directions off limit b → a ≡ b
+one_beside asked limits its directions off limit a b p q =
+    let (section, beyond) = one_section its.station asked.table_path directions off limit p.section
     q.section a.beyond b.beyond p.is_section q.is_section in
     let text = one_text asked.path limits its q.section a.text b.text
     (subst (λ (s : List ℕ). IsReportText asked.path limits its s a.text) section p.is_report)
@@ -53,8 +53,8 @@ one_of_table asked limits its bytes a b p q =
     let targets = its.station.targets in
     let directions = one_table asked.unit targets bytes p.directions q.directions p.states q.states
     in
-    one_beside asked limits its q.directions
+    one_beside asked limits its q.directions (off_in asked.unit targets bytes)
     (limit_in_force asked.unit asked.within targets bytes) a b
-    (subst (λ (ds : List ℤ). IsReportBeside asked limits its ds
+    (subst (λ (ds : List ℤ). IsReportBeside asked limits its ds (off_in asked.unit targets bytes)
     (limit_in_force asked.unit asked.within targets bytes)
     a) directions p.beside) q.beside

@@ -2,7 +2,8 @@
 -- of the table, which states a direction of each of its targets, it has, after the adjusted
 -- directions, each stated direction with its difference from the least-squares one after the
 -- rotation that makes the largest difference smallest, and that difference less the lower median of
--- all; and how far the directions are apart: within the limit in force, or beyond it.
+-- all; and how far the directions, with the numbers that its rows write, are apart: within the limit
+-- in force, or beyond it.
 use Rattle.std.specs.Prelude.{◌≡◌, ℕ, List, Option, Some, None, ℤ, if◌then◌else◌, nat_le}
 use Rattle.adjust_kernel.specs.Stations.{StationValue}
 use Rattle.direction_table.specs.Tables.{IsTableText}
@@ -11,7 +12,7 @@ use Rattle.directions_apart.specs.Apart.{stated_by}
 use Rattle.least_directions.specs.LeastDirections.{AreApart}
 use Rattle.station_book.specs.declared.result_limits.ResultLimits.{ResultLimits}
 use Rattle.station_book.specs.Stations.{SurveyedStation}
-use Rattle.station_compare.specs.LimitInForce.{limit_in_force}
+use Rattle.station_compare.specs.LimitInForce.{limit_in_force, off_in}
 use Rattle.station_compare.specs.declared.how_far.HowFar.{HowFar}
 use Rattle.station_differences.specs.Differences.{AreCompared}
 use Rattle.station_differences.specs.declared.compared.TargetDifference.{TargetDifference}
@@ -38,8 +39,9 @@ pub record ReportValue : Type 0 where
 abbrev pub beyond_of : HowFar → Option HowFar
 beyond_of h = if nat_le h.apart h.limit then None else Some h
 
--- This is the section of stated directions beside their station, with this limit.
-pub record IsSection (station : StationValue) (path : List ℕ) (directions : List ℤ) (limit : ℕ)
+-- This is the section of stated directions beside their station, with this limit, where the numbers
+-- of the table may be off from them by so many parts.
+pub record IsSection (station : StationValue) (path : List ℕ) (directions : List ℤ) (off limit : ℕ)
     (section : List ℕ) (beyond : Option HowFar) : Type 0 where
   -- The rows of the targets, with these directions and the least-squares ones, and their
   -- differences.
@@ -48,7 +50,7 @@ pub record IsSection (station : StationValue) (path : List ℕ) (directions : Li
   -- So far are they apart, as the comparison says; and the limit that is printed is the one that
   -- they are held to.
   pub how_far : HowFar
-  pub are_apart : AreApart station (stated_by directions) how_far.apart
+  pub are_apart : AreApart station (stated_by directions) off how_far.apart
   pub held_to : how_far.limit ≡ limit
   -- The greatest residual of the station has this size, in units of 0.001 mgon.
   pub greatest : ℕ
@@ -56,11 +58,13 @@ pub record IsSection (station : StationValue) (path : List ℕ) (directions : Li
   pub section_is : section ≡ section_text path station rows how_far greatest
   pub beyond_is : beyond ≡ beyond_of how_far
 
--- This is the report of a station with these stated directions, which states these limits.
+-- This is the report of a station with these stated directions, from which the numbers of the table
+-- may be off by so many parts; it states these limits.
 pub record IsReportBeside (asked : ReportAsked) (limits : ResultLimits) (its : SurveyedStation)
-    (directions : List ℤ) (limit : ℕ) (report : ReportValue) : Type 0 where
+    (directions : List ℤ) (off limit : ℕ) (report : ReportValue) : Type 0 where
   pub section : List ℕ
-  pub is_section : IsSection its.station asked.table_path directions limit section report.beyond
+  pub is_section : IsSection its.station asked.table_path directions off limit section
+      report.beyond
   pub is_report : IsReportText asked.path limits its section report.text
 
 -- This is the report of a station with the directions that a table's bytes state. The limit is the
@@ -70,4 +74,5 @@ pub record IsReportOfTable (asked : ReportAsked) (limits : ResultLimits) (its : 
   pub directions : List ℤ
   pub states : IsTableText asked.unit its.station.targets bytes directions
   pub beside : IsReportBeside asked limits its directions
+      (off_in asked.unit its.station.targets bytes)
       (limit_in_force asked.unit asked.within its.station.targets bytes) report

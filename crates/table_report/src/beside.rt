@@ -1,5 +1,5 @@
 //! The report of a station beside stated directions.
-ghost use Rattle.std.specs.Prelude.{◌≡◌, IfErr, IfOk, OnOk, length};
+ghost use Rattle.std.specs.Prelude.{◌≡◌, ◌≤◌, IfErr, IfOk, OnOk, length};
 ghost use Rattle.adjust_kernel.specs.declared.bounds.TheConstants.{LARGEST_RESIDUAL_LIMIT};
 ghost use Rattle.exact_adjustment.specs.Exact.{IsExact, KeepsLimit};
 ghost use Rattle.exact_adjustment.specs.Faults.{IsAdjustError};
@@ -9,7 +9,7 @@ ghost use Rattle.table_report.specs.Values.{asked_of, value_of};
 
 use crate::asked::Asked;
 use crate::section::section_text;
-use directions_apart::apart_of;
+use directions_apart::{MOST_OFF, apart_of};
 use exact_adjustment::{AdjustError, Adjustment, adjust};
 use station_book::{ResultLimits, Surveyed};
 use station_compare::HowFar;
@@ -28,10 +28,11 @@ pub struct TableReport {
     pub beyond: Option<HowFar>,
 }
 
-/// The report of a station with these directions, one for each of its targets, and this limit: the
-/// text of `station_report`, with a section after the adjusted directions. That has each stated
-/// direction, its difference from the adjusted one after the rotation that makes the largest
-/// difference smallest, as it is and less the lower median of all, the limit, and whether they agree.
+/// The report of a station with these directions, one for each of its targets, from which the numbers
+/// of the table may be off by so many parts, and this limit: the text of `station_report`, with a
+/// section after the adjusted directions. That has each stated direction, its difference from the
+/// adjusted one after the rotation that makes the largest difference smallest, as it is and less the
+/// lower median of all, the limit, and whether they agree.
 ///
 /// All is exactly rounded, the middle of two upwards, but that differences from the median are of
 /// the printed ones; and it is of the least-squares directions: least over all directions,
@@ -46,17 +47,19 @@ pub fn report_beside(
     limits: ResultLimits,
     surveyed: &Surveyed,
     stated: &[i64],
+    off: u64,
     limit: u32,
 ) -> Result<TableReport, AdjustError>
-    requires { length stated.now ≡ length surveyed.now.station.targets }
+    requires each { length stated.now ≡ length surveyed.now.station.targets }
+    requires off { off ≤ MOST_OFF }
     ensures beside { IfOk result (λ report.
-        IsReportBeside (asked_of asked.now) limits surveyed.now stated.now limit
+        IsReportBeside (asked_of asked.now) limits surveyed.now stated.now off limit
         (value_of report)) }
     ensures held { OnOk result (HasResidualsWithin surveyed.now.station limits.residual) }
     ensures fault { IfErr result (IsAdjustError surveyed.now.station limits.residual) }
 {
     let adjustment = adjust(alloc, surveyed.station(), limits.residual)?;
-    Ok(report_by(alloc, asked, limits, surveyed, &adjustment, stated, limit)?)
+    Ok(report_by(alloc, asked, limits, surveyed, &adjustment, stated, off, limit)?)
 }
 
 /// The report of `report_beside`, by an adjustment of the station.
@@ -67,20 +70,22 @@ fn report_by(
     surveyed: &Surveyed,
     adjustment: &Adjustment,
     stated: &[i64],
+    off: u64,
     limit: u32,
 ) -> Result<TableReport, AllocError>
     requires exact { IsExact surveyed.now.station adjustment.now }
     requires limited { KeepsLimit surveyed.now.station adjustment.now LARGEST_RESIDUAL_LIMIT }
     requires tied { AreTied surveyed.now.station }
     requires each { length stated.now ≡ length surveyed.now.station.targets }
+    requires off { off ≤ MOST_OFF }
     ensures { IfOk result (λ report.
-        IsReportBeside (asked_of asked.now) limits surveyed.now stated.now limit
+        IsReportBeside (asked_of asked.now) limits surveyed.now stated.now off limit
         (value_of report)) }
 {
     let station = surveyed.station();
     let rows = differences_by(alloc, station.targets(), adjustment, stated)?;
     let how_far = HowFar {
-        apart: apart_of(adjustment, stated),
+        apart: apart_of(adjustment, stated, off),
         limit,
     };
     let computed = computed_by(alloc, station, adjustment)?;

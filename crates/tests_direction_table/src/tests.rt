@@ -90,7 +90,7 @@ fn worked_tables_are_read(rt: HostRuntime) -> Result<(), Fail> {
 }
 
 /// Tables of A and B in the ways in which programs and people write them, and their answers.
-const WAYS: [(&str, &str); 41] = [
+const WAYS: [(&str, &str); 52] = [
     // One row of titles, by any separator.
     ("Name,Direction\nA,0\nB,50.00003\n", "[0, 50000030000]"),
     (
@@ -149,6 +149,28 @@ const WAYS: [(&str, &str); 41] = [
     ("A,400.0000\nB,-400.0\n", "[0, 0]"),
     ("A,-0.0001\nB,-399.999999999\n", "[-100000, -399999999999]"),
     ("A,+400.\nB,399.9999999990\n", "[0, 399999999999]"),
+    // Decimals past the ninth are left out, either way from 0.
+    ("A,0.0000000001\nB,50.00003000000001\n", "[0, 50000030000]"),
+    (
+        "A,-0.0000000019\nB,-50.0000300009999\n",
+        "[-1, -50000030000]",
+    ),
+    (
+        "A,399.9999999999999\nB,.99999999999\n",
+        "[399999999999, 999999999]",
+    ),
+    // Exponents: they move the point.
+    ("A,1e-05\nB,5.000003e+01\n", "[10000, 50000030000]"),
+    ("A,1.5E-05\nB,1E+02\n", "[15000, 100000000000]"),
+    ("A,-5.684341886080802e-14\nB,+1,5e-9\n", "Row(2, Fields)"),
+    ("A;-5.684341886080802e-14\nB;+1,5e-9\n", "[0, 1]"),
+    (
+        "A 1.394045381361607099e+02\nB 0.000000000000000000e+00\n",
+        "[139404538136, 0]",
+    ),
+    ("A,5e-10\nB,123.456e-300\n", "[0, 0]"),
+    ("A,.5e-1\nB,5.e+00\n", "[50000000, 5000000000]"),
+    ("Name,1e5\nA,12.5e-999\nB,3.99e+02\n", "[0, 399000000000]"),
     // No row is hidden.
     ("A,0\n A ,0\nB,1\n", "Row(2, Twice)"),
     ("A,0\nB,1\nB ,1\n", "Row(3, Twice)"),
@@ -194,7 +216,7 @@ fn a_name_is_read_as_it_stands_where_a_target_has_it(rt: HostRuntime) -> Result<
 }
 
 /// Tables of A and B in gon, and the limit that is usual for their finest row.
-const GON_LIMITS: [(&str, u32); 21] = [
+const GON_LIMITS: [(&str, u32); 25] = [
     ("A,0\nB,50\n", 10),
     ("A,0\nB,50.00003\n", 10),
     ("A,0.000000\nB,50.000030\n", 10),
@@ -216,10 +238,14 @@ const GON_LIMITS: [(&str, u32); 21] = [
     ("B,50.1\nA,0.00\n", 5_005),
     ("Name,1.0000 gon\nA,0\nB,50.001\n", 505),
     ("A,0.000000000000\nB,400.0000000000\n", 10),
+    ("A,0.000\nB,50.0000300001234\n", 10),
+    ("A,1e-03\nB,50\n", 505),
+    ("A,0e+00\nB,5.01e+01\n", 50_005),
+    ("A,0.0\nB,5.684341886080802e-14\n", 10),
 ];
 
 /// Tables in degrees: half a second is 154.3.. units, half of 0.1 degrees 55555.5.. units.
-const DEGREE_LIMITS: [(&str, u32); 15] = [
+const DEGREE_LIMITS: [(&str, u32); 17] = [
     ("A,0-00-00\nB,50.00003\n", 11),
     ("A,0-00-00\nB,50-00-00.39\n", 10),
     ("A,0-00-00\nB,50-00-00\n", 160),
@@ -235,7 +261,36 @@ const DEGREE_LIMITS: [(&str, u32); 15] = [
     ("A,1.0000\nB,50-00-00.0\n", 21),
     ("A,1.0000\nB,50-00-00\n", 61),
     ("A,0.00000\nB,50.0000000000\n", 10),
+    ("A,0-00-00\nB,50-00-00.0000001\n", 10),
+    ("A,1e-03\nB,50-00-00\n", 160),
 ];
+
+/// Tables, and by how many parts their numbers may be off from what is read of them.
+const OFF: [(AngleUnit, &str, u64); 12] = [
+    (AngleUnit::Gon, "A,0\nB,50.00003\n", 0),
+    (AngleUnit::Gon, "A,0.1234567890000\nB,50.123456789\n", 0),
+    (AngleUnit::Gon, "A,0\nB,50.0000300001\n", 90),
+    (AngleUnit::Gon, "A,0.00000000000000001\nB,50\n", 90),
+    (AngleUnit::Gon, "A,1.5e-09\nB,50\n", 90),
+    (AngleUnit::Gon, "A,15e-9\nB,50\n", 0),
+    (AngleUnit::Gon, "A,1.12345678901e+02\nB,50\n", 0),
+    (AngleUnit::Gon, "A,1.123456789012e+02\nB,50\n", 90),
+    (AngleUnit::Degrees, "A,0-00-00.00000004\nB,50\n", 0),
+    (AngleUnit::Degrees, "A,0-00-00.00000005\nB,50\n", 90),
+    (AngleUnit::Degrees, "A,0.0000000001\nB,50\n", 90),
+    (AngleUnit::Gon, "Name,0.12345678901x\nA,1\nB,50.0\n", 0),
+];
+
+#[test]
+fn what_is_left_out_is_told(rt: HostRuntime) -> Result<(), Fail> {
+    let station = station_of(&rt, rt.alloc(), &[b"A", b"B"])?;
+    for (unit, text, off) in OFF {
+        let table = read_stated_table(rt.alloc(), unit, station.targets(), text.as_bytes());
+        let table = table.expect(&rt, "a table");
+        assert_eq!(rt; table.most_off, off, "of {text}");
+    }
+    Ok(())
+}
 
 #[test]
 fn the_finest_row_tells_the_usual_limit(rt: HostRuntime) -> Result<(), Fail> {
@@ -256,7 +311,7 @@ fn the_finest_row_tells_the_usual_limit(rt: HostRuntime) -> Result<(), Fail> {
 
 /// Directions of A in degrees, and what they are read as, in parts: 90,000,000,000 in a degree,
 /// 1,500,000,000 in a minute and 25,000,000 in a second.
-const DEGREES: [(&str, &str); 30] = [
+const DEGREES: [(&str, &str); 33] = [
     ("59-04-09.18", "[5316229500000, 0]"),
     ("59\u{B0}04'09.18\"", "[5316229500000, 0]"),
     ("\"59-04-09,18\"", "[5316229500000, 0]"),
@@ -281,7 +336,10 @@ const DEGREES: [(&str, &str); 30] = [
     ("59-04-", "Row(1, Number)"),
     ("59-04-09-10", "Row(1, Number)"),
     ("59.5-04-09", "Row(1, Number)"),
-    ("59-04-09.0000001", "Row(1, Number)"),
+    ("59-04-09.0000001", "[5316225000002, 0]"),
+    ("59-04-1e-05", "Row(1, Number)"),
+    ("1e-05", "[900000, 0]"),
+    ("5.906921666666667E+01", "[5316229499940, 0]"),
     ("59\u{B0}", "Row(1, Number)"),
     ("59\u{B0}04'09.18", "Row(1, Number)"),
     ("59\u{B0}04-09.18", "Row(1, Number)"),
@@ -323,7 +381,7 @@ fn a_decimal_comma_of_degrees_is_no_separator(rt: HostRuntime) -> Result<(), Fai
 }
 
 /// First rows, and the fault of each.
-const ROWS: [(&str, &str); 24] = [
+const ROWS: [(&str, &str); 36] = [
     ("A", "Row(1, Fields)"),
     ("A,1,2", "Row(1, Fields)"),
     ("A,,1", "Row(1, Fields)"),
@@ -339,8 +397,20 @@ const ROWS: [(&str, &str); 24] = [
     ("A,5 gon", "Row(1, Number)"),
     ("A,59-04-09.18", "Row(1, Number)"),
     ("A,59\u{B0}04'09.18\"", "Row(1, Number)"),
-    ("A,0.0000000001", "Row(1, Number)"),
-    ("A,0.00000000010", "Row(1, Number)"),
+    ("A,0.0000000001x", "Row(1, Number)"),
+    ("A,0.0000000000000001 gon", "Row(1, Number)"),
+    ("A,0.123456789.0", "Row(1, Number)"),
+    ("A,1e02", "Row(1, Number)"),
+    ("A,1e", "Row(1, Number)"),
+    ("A,1e-", "Row(1, Number)"),
+    ("A,e-05", "Row(1, Number)"),
+    ("A,1e-0005", "Row(1, Number)"),
+    ("A,1e-1.5", "Row(1, Number)"),
+    ("A,1e+03", "Row(1, Number)"),
+    ("A,10e+02", "Row(1, Number)"),
+    ("A,1e--5", "Row(1, Number)"),
+    ("A,1e-5e-5", "Row(1, Number)"),
+    ("A,4.00000001e+02", "Row(1, Range)"),
     ("A,0001", "Row(1, Number)"),
     ("A,5.0.0", "Row(1, Number)"),
     ("A,400.000000001", "Row(1, Range)"),

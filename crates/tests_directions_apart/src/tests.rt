@@ -1,7 +1,7 @@
 //! Directions worked by hand and in exact fractions.
 
 use adjust_kernel::{CIRCLE, PARTS};
-use directions_apart::{apart_of, rounded};
+use directions_apart::{MOST_OFF, apart_of, rounded};
 use exact_adjustment::Adjustment;
 use std::alloc::Global;
 use std::process::Abort;
@@ -60,7 +60,7 @@ fn apart(
 /// How far stated directions in parts are apart.
 fn apart_in_parts(rt: &impl Abort, adjustment: &Adjustment, stated: &[i64]) -> u32 {
     assert_eq!(rt; stated.len(), adjustment.directions().len());
-    apart_of(adjustment, stated)
+    apart_of(adjustment, stated, 0)
 }
 
 fn rounded_at(rt: &impl Abort, adjustment: &Adjustment, target: usize, step: u32) -> u64 {
@@ -90,6 +90,29 @@ fn half_the_spread_is_rounded_up(rt: HostRuntime) -> Result<(), Fail> {
     let adjustment = adjustment_of(&rt, rt.alloc(), &Wide::new(1), 0, &[(B, 0)])?;
     for (stated, want) in cases {
         assert_eq!(rt; apart(&rt, rt.alloc(), &adjustment, &stated)?, want);
+    }
+    Ok(())
+}
+
+#[test]
+fn what_numbers_are_off_counts(rt: HostRuntime) -> Result<(), Fail> {
+    // B's direction is 50.00003 gon, 4,050,002,430,000 parts; a unit has 81,000.
+    let cases = [
+        ([0, 4_050_002_430_000], 0, 0),
+        ([0, 4_050_002_430_000], 1, 1),
+        ([0, 4_050_002_430_000], 90, 1),
+        ([0, 4_050_002_430_000], MOST_OFF, 1),
+        ([0, 4_050_002_268_000], 0, 1),
+        ([0, 4_050_002_268_000], 1, 2),
+        ([0, 4_050_002_268_180], 90, 1),
+        ([0, 4_050_002_268_179], 90, 2),
+        ([0, 20_250_002_430_000], 90, 100_000_001),
+    ];
+    let adjustment = adjustment_of(&rt, rt.alloc(), &Wide::new(1), 0, &[(B, 0)])?;
+    for (stated, off, want) in cases {
+        assert_eq!(rt; stated.len(), adjustment.directions().len());
+        assert!(rt; off <= MOST_OFF);
+        assert_eq!(rt; apart_of(&adjustment, &stated, off), want);
     }
     Ok(())
 }

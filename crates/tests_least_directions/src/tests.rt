@@ -27,7 +27,7 @@ fn apart(
         *part = direction.saturating_mul(PARTS as i64);
     }
     let adjustment = adjust(alloc, station, limit(rt, LARGEST_RESIDUAL_LIMIT))?;
-    Ok(apart_by(station, &adjustment, &parts[..stated.len()]))
+    Ok(apart_by(station, &adjustment, &parts[..stated.len()], 0))
 }
 
 /// Two sets of two targets, 50 gon and some apart: 10,000,004 and 10,000,008 half units.

@@ -7,4 +7,4 @@ use Rattle.directions_apart.proofs.apart.apart_of.Goals as goal
 pub returns-clause-apart : goal.returns-clause-apart
 returns-clause-apart c =
     half_spread_is_apart (length c.args.stated.now) (choice_by c.args.adjustment.now)
-    (stated_by c.args.stated.now) c.rounded_up.result (search rules)
+    (stated_by c.args.stated.now) c.args.off c.rounded_up.result (search rules) (search rules)

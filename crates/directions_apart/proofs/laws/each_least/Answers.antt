@@ -6,8 +6,8 @@ use Rattle.directions_apart.proofs.RoundingLaws.{as_rounded}
 use Rattle.directions_apart.proofs.laws.each_least.Goals as goal
 
 pub returns-clause-apart : goal.returns-clause-apart
-returns-clause-apart c = λ station a stated apart choice turns s t e k least is.
-    as_far_apart (length station.targets) (choice_by a) choice stated apart e.rules.positive
+returns-clause-apart c = λ station a stated off apart choice turns s t e k least is.
+    as_far_apart (length station.targets) (choice_by a) choice stated off apart e.rules.positive
     least.positive (are_turned station a s t e k choice turns least) is
 
 pub returns-clause-near : goal.returns-clause-near

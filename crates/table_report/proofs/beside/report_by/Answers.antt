@@ -23,7 +23,7 @@ returns c =
             (rw (c.targets.ensures.value, c.station-station.ensures) at c.in_ok-rows.ensures);
         how_far = record { apart = c.apart_of.result; limit = c.args.limit };
         are_apart = are_apart its.station valid a tied exact limited (stated_by stated)
-            c.apart_of.result (rw c.requires.each at c.apart_of.ensures.apart);
+            c.args.off c.apart_of.result (rw c.requires.each at c.apart_of.ensures.apart);
         held_to = refl;
         greatest = c.size_at-greatest.result;
         is_greatest = record {
