@@ -214,7 +214,7 @@ def belief(specs: list[Spec]) -> Iterator[str]:
     yield (
         f"An acceptance means what {Spec(*ACCEPTANCE).link} says. It rests on the {size_of(specs)}, on the "
         "[numbers, types and rules of CSV](#numbers-types-and-csv) after them, and on nothing else. "
-        "[The promise](PROMISE.md) says the first sentence of it, in less than a quarter of the lines, which stand there whole.\n"
+        "[The promise](PROMISE.md) says its main sentences of the bytes alone, in less than a quarter of the lines, which stand there whole.\n"
     )
     yield from in_words(specs)
 

@@ -21,16 +21,17 @@ SECTIONS = {
         ("gsi_word", ["Bytes", "Words", "Blocks", "Names", "FoundWords", "Angles"]),
         ("gsi_file", ["Parts"]),
     ],
-    "The sheet": [("adjust_kernel", ["Names", "Within", "Sheets"]), ("sheet_format", ["Versions", "Rows"])],
+    "The sheet": [("adjust_kernel", ["Sheets"]), ("sheet_format", ["Rows"]), ("sheet_promise", ["SheetRows"])],
     "The two faces": [("station_book", ["Limits", "TwoFaces"])],
     "The station": [("sheet_promise", ["Readings"])],
-    "Least squares": [("adjust_kernel", ["Sums"]), ("sheet_promise", ["LeastByNames"])],
+    "Least squares": [("adjust_kernel", ["Within", "Sums"]), ("sheet_promise", ["LeastByNames"])],
     "The promise": [("sheet_promise", ["Promised"])],
 }
 
 # What the words of the standard library mean that these definitions use.
 LIBRARY = {
-    "ℕ ℤ pos neg_ℤ": "numbers from 0 on; whole numbers; one of the first as one of these; below zero",
+    "ℕ suc ℤ pos negsuc": "numbers from 0 on; the next; whole numbers; as one of these; -1 less that",
+    "neg_ℤ unsigned_abs": "minus; the size",
     "◌+ℤ◌ ◌-ℤ◌ ◌*ℤ◌ ◌≤ℤ◌": "signs of whole numbers",
     "◌-◌ ◌/◌ ◌%◌": "of numbers from 0 on: 0 where the difference is below 0; the quotient and what is left",
     "◌≡◌ ◌≢◌ ¬ ⊥": "the same; not the same; not; what never holds",
@@ -39,21 +40,22 @@ LIBRARY = {
     "List [] ◌∷◌ ◌++◌ length": "lists: none, one before others, two joined; how many",
     "map filter fold": "what each gives; those that pass a test; from the first on, each with what came before",
     "replicate drop slice_index": "so many of one; all but the first so many; what stands at a place, from 0",
-    "All AllPass list_all AllPairs": "each is so, or passes a test; each is so with each after it",
+    "All AllPass list_all Any AllPairs": "each is so, or passes a test; one is so; each is so with each after it",
     "AllZip Contains": "two lists are as long, and so are the two at each place; it is in the list",
-    "Option Some None Bool false if◌then◌else◌": "something or nothing; yes or no; by a test",
-    "codes is_ascii_digit decimal signed_decimal": "bytes of a text; is it a digit; those of a number, with a minus below 0",
+    "Option Some None IfSome": "something or nothing; it is so of what there is",
+    "Bool false if◌then◌else◌": "yes or no; by a test",
+    "codes is_ascii_digit": "the bytes of a text; whether a byte is a digit",
     "starts_with join_with_byte slice_split": "begins with; joined by a byte; the pieces between those that pass a test",
 }
 
 INTRODUCTION = """\
 # The promise in one sitting
 
-What an acceptance by `check` means, of the bytes of a field file and of a sheet alone: all {count} definitions of it, {lines} lines with their comments, as they stand in `specs/` but for what is the prover's alone, each after those that it needs; [the promise](#the-promise) is the last. `tools/promise.py` makes the page. Proved is, that [whatever is accepted is promised so, and that the promise speaks of one sheet, one list of blocks and one station](../crates/sheet_promise/src/laws.rt); and [of the bytes that are passed, or that readers gave, of files too](../crates/sheet_promise/src/promised.rt). So whoever believes this page, and what [the first page](../README.md#what-is-trusted) says is trusted, may believe an acceptance. What more it says, and what other answers say, have [the definitions](DEFINITIONS.md): a refusal names the first fault that stands.
+What an acceptance by `check` means, of the bytes of a field file and of a sheet alone: all {count} definitions of it, {lines} lines with their comments, as they stand in `specs/` but for what is the prover's alone, each after those that it needs; [the promise](#the-promise) is the last. `tools/promise.py` makes the page. It is proved that [whatever is accepted is promised so, and that the promise of these bytes speaks of one sheet, one station and one answer](../crates/sheet_promise/src/laws.rt); and [of the bytes that are passed, or that readers gave, of files too](../crates/sheet_promise/src/promised.rt). So whoever believes this page, and what [the first page](../README.md#what-is-trusted) says is trusted, may believe an acceptance. [The definitions](DEFINITIONS.md) have what more it says, as that no fault stands anywhere in the file, and what other answers say: a refusal names the first fault that stands.
 
 ## How to read it
 
-A *record* holds where each of its fields holds; of numbers and lists it is a value. `f x = ..` says what `f` is of `x`, line by line for each form of `x`. `(x : A) → B` is said of each `x`, `A → B` where A holds; `λ x. ..` is a function.
+A *record* holds where each of its fields holds; of numbers and lists it is a value. `f x = ..` says what `f` is of `x`, line by line for each form of `x`. `(x : A) → B` is said of each `x`, `A → B` where A holds; `λ x. ..` is a function; what gives a `Type 0` says something that may hold.
 
 | Word | Means |
 |---|---|

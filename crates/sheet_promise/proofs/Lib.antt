@@ -7,4 +7,5 @@ mod PlacedRows
 mod BlockCodes
 mod InOrder
 mod SameObservations
+mod SheetRows
 mod LawLemmas

@@ -28,8 +28,8 @@ use Rattle.station_book.proofs.recorded.WholeFile.{no_reading_lost}
 use Rattle.sheet_promise.proofs.PlacedStation.{StandsAt, IsItsReading, in_sets, of_sets, in_readings}
 use Rattle.sheet_promise.proofs.PlacedStation.{of_readings, station_of_reading, reading_in}
 use Rattle.sheet_promise.proofs.PlacedStation.{recorded_set, two_face_row}
-use Rattle.sheet_promise.proofs.SetNumbers.{different_numbers, set_has_reading}
-use Rattle.sheet_promise.proofs.Placed.{IsPlacedReading, IsPlacedRow, IsOfPlacedRow}
+use Rattle.sheet_promise.proofs.SetNumbers.{different_numbers, HasReading, set_has_reading}
+use Rattle.sheet_promise.proofs.Placed.{IsPlacedSet, IsPlacedReading, IsPlacedRow, IsOfPlacedRow}
 use Rattle.sheet_promise.proofs.Placed.{ArePlacedRows}
 
 -- What is in two joined lists is in one of them.
@@ -201,16 +201,20 @@ module _ (limits : FaceLimits) (h : History) (sheet : SheetValue) (st : Place)
     | inr e ↦ ap (λ (p : Place). opening (before p)) (sym e) ∙ w.its.face_two.is.of_set
   ]
 
+  row_of_target : (name : List ℕ) (r : Place) (w : IsOfPlacedRow limits h st sheet.rows r)
+      → target_at r ≡ name → In name (map (λ r. r.target) sheet.rows)
+  row_of_target name r w is =
+      let e : w.row.target ≡ name = sym (target_of r w) ∙ is in
+      subst (λ (n : List ℕ). In n (map (λ r. r.target) sheet.rows)) e
+      (in_map (λ (r : Row). r.target) w.row sheet.rows (in_contains w.row sheet.rows w.listed))
+
   target_read : (name : List ℕ) → In name (map (λ d. d.name) sheet.directions)
       → In name (map (λ r. r.target) sheet.rows)
   target_read name listed =
       let r = of_map target_at name (station_readings st h)
       (of_distinct name (map target_at (station_readings st h)) (subst (In name) names_are listed))
       in
-      let w = none_left_out r.0 (of_readings h st r.0 st_placed r.1) in
-      let e : w.row.target ≡ name = sym (target_of r.0 w) ∙ r.2 in
-      subst (λ (n : List ℕ). In n (map (λ r. r.target) sheet.rows)) e
-      (in_map (λ (r : Row). r.target) w.row sheet.rows (in_contains w.row sheet.rows w.listed))
+      row_of_target name r.0 (none_left_out r.0 (of_readings h st r.0 st_placed r.1)) r.2
 
   target_stated : (name : List ℕ) → In name (map (λ r. r.target) sheet.rows)
       → In name (map (λ d. d.name) sheet.directions)
@@ -224,6 +228,26 @@ module _ (limits : FaceLimits) (h : History) (sheet : SheetValue) (st : Place)
       (in_map target_at its.first (station_readings st h)
       (in_readings h st its.first (first_of_row row.0 its)))))
 
+  row_of_set : (n : ℕ) (set r : Place) (w : IsOfPlacedRow limits h st sheet.rows r)
+      → opening (before r) ≡ set → number_at set ≡ Some n → In n (map (λ r. r.set) sheet.rows)
+  row_of_set n set r w of_set number =
+      let same : w.its.set ≡ set = sym (set_of r w) ∙ of_set in
+      let e : w.row.set ≡ n = some_is w.row.set n
+      (sym w.its.its_set.is.numbered ∙ ap number_at same ∙ number) in
+      subst (λ (m : ℕ). In m (map (λ r. r.set) sheet.rows)) e
+      (in_map (λ (r : Row). r.set) w.row sheet.rows (in_contains w.row sheet.rows w.listed))
+
+  set_number_read : (n : ℕ) (set : Place) → IsPlacedSet h st set → number_at set ≡ Some n
+      → HasReading h set → In n (map (λ r. r.set) sheet.rows)
+  set_number_read n set own number q =
+      row_of_set n set q.read
+      (none_left_out q.read (record {
+        placed = q.placed;
+        reading = q.reading;
+        of_station = station_of_reading h q.read set q.placed q.reading q.of_set
+            ∙ own.of_station;
+      })) q.of_set number
+
   set_read : (n : ℕ) → In n (map (λ o. o.set) sheet.orientations)
       → In n (map (λ r. r.set) sheet.rows)
   set_read n listed =
@@ -232,19 +256,8 @@ module _ (limits : FaceLimits) (h : History) (sheet : SheetValue) (st : Place)
       (in_map (λ (m : ℕ). Some m) n x.its.station.sets (subst (In n) x.sets listed)) in
       let set = of_map number_at (Some n) (reverse (sets_of st h)) some in
       let own = of_sets h st set.0 st_placed (of_reverse set.0 (sets_of st h) set.1) in
-      let q = set_has_reading limits h set.0 x.stands.whole
-      (in_contains set.0 (places h) own.placed) own.opened in
-      let w = none_left_out q.read (record {
-        placed = q.placed;
-        reading = q.reading;
-        of_station = station_of_reading h q.read set.0 q.placed q.reading q.of_set
-            ∙ own.of_station;
-      }) in
-      let same : w.its.set ≡ set.0 = sym (set_of q.read w) ∙ q.of_set in
-      let e : w.row.set ≡ n = some_is _ _
-      (sym w.its.its_set.is.numbered ∙ ap number_at same ∙ set.2) in
-      subst (λ (m : ℕ). In m (map (λ r. r.set) sheet.rows)) e
-      (in_map (λ (r : Row). r.set) w.row sheet.rows (in_contains w.row sheet.rows w.listed))
+      set_number_read n set.0 own set.2 (set_has_reading limits h set.0 x.stands.whole
+      (in_contains set.0 (places h) own.placed) own.opened)
 
   set_stated : (n : ℕ) → In n (map (λ r. r.set) sheet.rows)
       → In n (map (λ o. o.set) sheet.orientations)

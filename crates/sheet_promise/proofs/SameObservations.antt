@@ -1,6 +1,7 @@
 -- Sheets that are promised of one station state the same observations.
 use Rattle.std.proofs.Common.{◌≡◌, ℕ, List, [], ◌∷◌, Some, refl, sym, ap, ◌∙◌, inl, inr, subst}
 use Rattle.std.specs.List.{Contains}
+use Rattle.std.specs.Prelude.{map}
 use Rattle.gsi_word.specs.Angles.{decimal_number}
 use Rattle.gsi_word.specs.Blocks.{GsiBlock}
 use Rattle.gsi_word.specs.Words.{GsiWord}
@@ -13,7 +14,7 @@ use Rattle.station_book.specs.declared.face.Face.TheVariants.{One, Two}
 use Rattle.station_book.specs.Limits.{FaceLimits, AreLimits}
 use Rattle.station_book.specs.TwoFaces.{Angles, IsTwoFace}
 use Rattle.station_book.specs.Blocks.{is_opening}
-use Rattle.station_book.proofs.lists.Elements.{in_contains, contains_in, in_map, of_map}
+use Rattle.station_book.proofs.lists.Elements.{In, in_contains, contains_in, in_map, of_map}
 use Rattle.station_book.proofs.two_faces.OnePair.{one_two_face}
 use Rattle.sheet_promise.proofs.BlockCodes.{end_decided, named_is}
 use Rattle.sheet_promise.proofs.HeldAngles.{found_held}
@@ -135,17 +136,27 @@ module _ (limits : FaceLimits) (small : AreLimits limits) (blocks : List GsiBloc
       second.angles w.its.direction)) its.direction in
       λ i. record { set = number i; target = target i; value = value i }
 
+  has_key : (k : Key) (row : Row) → key_of_row row ≡ k
+      → (its : IsTwoFaceRow limits blocks setup row) (rows : List Row)
+      → IsOfRow limits blocks setup rows its.first → Contains (map key_of_row rows) k
+  has_key k row e its rows w =
+      let same : key_of_row w.row ≡ k = like row its rows w ∙ e in
+      contains_in k (map key_of_row rows)
+      (subst (λ (q : Key). In q (map key_of_row rows)) same
+      (in_map key_of_row w.row rows (in_contains w.row rows w.listed)))
+
+  row_has_key : (other : SheetValue) → AreItsDirections limits blocks setup other → (k : Key)
+      (row : Row) → key_of_row row ≡ k → IsTwoFaceRow limits blocks setup row
+      → Contains (keys_of other) k
+  row_has_key other y k row e its =
+      has_key k row e its other.rows
+      (y.whole its.set its.first row.target its.its_set.is.its_set its.face_one.is.reading)
+
   pub same_keys : (sheet other : SheetValue) → AreItsDirections limits blocks setup sheet
       → AreItsDirections limits blocks setup other → (k : Key) → Contains (keys_of sheet) k
       → Contains (keys_of other) k
   same_keys sheet other x y k c =
       let row = of_map key_of_row k sheet.rows (in_contains k (keys_of sheet) c) in
       let at = contains_in row.0 sheet.rows row.1 in
-      let its : IsTwoFaceRow limits blocks setup row.0 =
-      subst (IsTwoFaceRow limits blocks setup) at.2 (x.rows at.0 row.0 at.1) in
-      let w = y.whole its.set its.first row.0.target its.its_set.is.its_set
-      its.face_one.is.reading in
-      contains_in k (keys_of other) (subst (λ (q : Key).
-      Rattle.station_book.proofs.lists.Elements.In q (keys_of other))
-      (like row.0 its other.rows w ∙ row.2)
-      (in_map key_of_row w.row other.rows (in_contains w.row other.rows w.listed)))
+      row_has_key other y k row.0 row.2
+      (subst (IsTwoFaceRow limits blocks setup) at.2 (x.rows at.0 row.0 at.1))

@@ -1,3 +1,4 @@
-pub mod LeastByNames
+pub mod SheetRows
 pub mod Readings
+pub mod LeastByNames
 pub mod Promised

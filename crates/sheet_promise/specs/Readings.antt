@@ -1,5 +1,4 @@
--- What a field file has of a station, in the words of its blocks: where it was set up, its sets,
--- their readings, and what these give.
+-- What a field file has of a station, in the words of its blocks.
 use Rattle.std.specs.Prelude.{◌≡◌, ◌≢◌, ◌⊎◌, ℕ, ◌<◌, ℤ, List, [], ◌∷◌, ◌++◌, All, Contains, Some}
 use Rattle.std.specs.Prelude.{codes}
 use Rattle.gsi_word.specs.Angles.{IsAngle, decimal_number}
@@ -27,7 +26,7 @@ pub record FileBlock : Type 0 where
   pub before : List GsiBlock
   pub block : GsiBlock
 
--- The file, which has these blocks, has it.
+-- It is one of the blocks of this file.
 pub record IsOfFile (blocks : List GsiBlock) (b : FileBlock) : Type 0 where
   pub after : List GsiBlock
   pub split : blocks ≡ b.before ++ b.block ∷ after

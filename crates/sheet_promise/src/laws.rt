@@ -17,21 +17,23 @@ ghost use Rattle.sheet_promise.specs.Promised.{IsPromised};
 pub fn acceptance_is_promised()
     ensures { (limits : FaceLimits) (limit : Option ℕ) (gsi source : Told) (a : Accepted)
         → AreLimits limits → IsAccepted limits limit gsi source a
-        → IsPromised limits gsi.bytes source.bytes }
+        → IsPromised limits limit gsi.bytes source.bytes a }
 {}
 
-/// The promise speaks of one thing: bytes have one list of blocks, one sheet and one place at which
-/// its station was set up.
+/// The promise speaks of one thing: bytes have one list of blocks, one sheet, one place at which its
+/// station was set up, and one answer.
 pub fn one_promise()
-    ensures { (limits : FaceLimits) (gsi stated : List ℕ) (p q : IsPromised limits gsi stated)
-        → (p.blocks ≡ q.blocks) × (p.sheet ≡ q.sheet) × (p.setup ≡ q.setup) }
+    ensures { (limits : FaceLimits) (limit : Option ℕ) (gsi stated : List ℕ) (a b : Accepted)
+        (p : IsPromised limits limit gsi stated a) (q : IsPromised limits limit gsi stated b)
+        → (p.blocks ≡ q.blocks) × (p.sheet ≡ q.sheet) × (p.setup ≡ q.setup) × (a ≡ b) }
 {}
 
 /// Nothing of it is of some observations that might be others: two sheets of one station that are
-/// promised of one field file, under the same limits, have the same ones.
+/// promised of one field file, under the same limits of face differences, have the same ones.
 pub fn same_observations()
-    ensures { (limits : FaceLimits) (gsi stated other : List ℕ) (p : IsPromised limits gsi stated)
-        (q : IsPromised limits gsi other) → p.sheet.name ≡ q.sheet.name → (k : Key)
+    ensures { (limits : FaceLimits) (limit some : Option ℕ) (gsi stated other : List ℕ)
+        (a b : Accepted) (p : IsPromised limits limit gsi stated a)
+        (q : IsPromised limits some gsi other b) → p.sheet.name ≡ q.sheet.name → (k : Key)
         → Contains (keys_of p.sheet) k → Contains (keys_of q.sheet) k }
 {}
 

@@ -19,7 +19,7 @@ pub fn check_slices_promised(
     limits: Limits,
     limit: Option<ResidualLimit>,
 ) -> Result<Accepted, Fault>
-    ensures { IfOk result (λ a. IsPromised limits gsi.now sheet.now) }
+    ensures { IfOk result (IsPromised limits limit gsi.now sheet.now) }
 {
     // For the proof alone: limits keep their bounds.
     limits.recall();
@@ -39,7 +39,7 @@ pub fn check_kept_promised<R: Source, Q: Source>(
     requires new_sheet { kept_by sheet.old ≡ Some [] }
     ensures { (file stated : List ℕ) → kept_by result.1 ≡ Some file
         → kept_by sheet.new ≡ Some stated
-        → IfOk result.0 (λ a. IsPromised limits file stated) }
+        → IfOk result.0 (IsPromised limits limit file stated) }
 {
     limits.recall();
     check_kept(alloc, gsi, sheet, limits, limit)
