@@ -420,7 +420,7 @@ class PageInBrowserTest(TimedTest):
         self.assertEqual(sorted(f"{label}: {one} mgon" for label, one in zip(labels, signed)), sorted(told))
         # The axis ends at 0.4 mgon: so far reach three standard deviations of 0.211.
         axis, _, _ = page.js(PLACES % 0)
-        (_, left), (_, zero), (_, right) = axis[0], axis[2], axis[4]
+        (_, zero), (_, right) = axis[2], axis[4]
         bands = page.js(
             "[...document.querySelector('.results .picture svg').querySelectorAll('rect[fill-opacity]')]"
             ".map(one => [one.x.baseVal.value, one.x.baseVal.value + one.width.baseVal.value])"
