@@ -203,7 +203,8 @@ function keepFocus() {
 function giveFocus() {
   if (!inHand || document.activeElement !== document.body) return;
   const { kind, part, key, isResult, at } = inHand, parts = partsOf(kind);
-  const here = parts.find(({ dataset }) => key && dataset.key === key) ?? parts[part] ?? parts.at(-1);
+  const known = parts.find(({ dataset }) => key && dataset.key === key);
+  const here = known ?? parts[part] ?? parts.at(-1);
   reachedIn(here, isResult)[at]?.focus({ preventScroll: true });
 }
 
@@ -415,6 +416,9 @@ onafterprint = () => { document.title = UNPRINTED; };
 
 // ---------------------------------------------------------------- files
 
+/** So many bytes has a workbook at most of which a table is taken: other archives are large. */
+const MOST_OF_BOOK = 20_000_000;
+
 /**
  * Reads a file and says what it is: of one that holds nothing for the page no more than its head.
  * @param {import('./gather.js').Given} given
@@ -424,9 +428,10 @@ async function inputOf({ file, path, handle }) {
   const { name } = file, about = { name, path, handle, shown: name, digest: '' };
   try {
     const head = new Uint8Array(await file.slice(0, HEAD).arrayBuffer()), kind = kindOf(name, head);
-    if (!isUsed({ kind }) && kind !== 'spreadsheet') return { ...about, bytes: head, kind };
+    const isBook = kind === 'spreadsheet' && file.size <= MOST_OF_BOOK;
+    if (!isUsed({ kind }) && !isBook) return { ...about, bytes: head, kind };
     const input = { ...about, bytes: new Uint8Array(await file.arrayBuffer()), kind };
-    return kind === 'spreadsheet' ? await withTable(input) : input;
+    return isBook ? await withTable(input) : input;
   } catch {
     return { ...about, bytes: new Uint8Array(), kind: 'unread' };
   }
@@ -474,8 +479,13 @@ async function add(/** @type {import('./gather.js').Given[]} */ given) {
 async function readAgain() {
   busy(true);
   for (const input of inputs.filter(one => one.handle)) {
-    const { path, handle } = input, file = await handle.getFile().catch(() => new File([], path));
-    Object.assign(input, { taken: undefined }, await inputOf({ file, path, handle }));
+    const { path, handle } = input;
+    try {
+      const read = await inputOf({ file: await handle.getFile(), path, handle });
+      Object.assign(input, { taken: undefined }, read);
+    } catch {
+      Object.assign(input, { taken: undefined, bytes: new Uint8Array(), kind: 'unread' });
+    }
   }
   readAt = new Date();
   await checkAll();

@@ -1091,7 +1091,7 @@ class PageInBrowserTest(TimedTest):
         plain.unlink()
         with page.answered():
             page.js("$('read-again').click()")
-        self.assertTrue(page.text("#inputs .kind").startswith("not used: "), page.text("#inputs .kind"))
+        self.assertEqual("not used: it can’t be read; drop it again", page.text("#inputs .kind"))
         # A file without a handle is dropped again: the newer takes its place.
         page.empty()
         page.give(P7_FIELD)

@@ -27,7 +27,11 @@ const WAYS: [(&str, &str, &str); 21] = [
         "Row(1, Number)",
     ),
     ("ten decimals", "A,0.0000000000\nB,50.0000300000\n", READ),
-    ("an exponent", "A,1e-5\nB,50.00004\n", "Row(1, Number)"),
+    (
+        "an exponent",
+        "A,1e-5\nB,50.00004\n",
+        "[10000, 50000040000]",
+    ),
     ("a full circle", "A,400.00000\nB,50.00003\n", READ),
     (
         "a comment",
@@ -81,7 +85,7 @@ const PROGRAMS: [(&str, &str, &str); 12] = [
     (
         "print of Python, which writes small numbers with an exponent",
         "A\t1e-05\nB\t50.00004\n",
-        "Row(1, Number)",
+        "[10000, 50000040000]",
     ),
     (
         "numpy.savetxt with fmt=['%s', '%.6f'] and delimiter=',' (as documented)",
