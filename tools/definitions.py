@@ -1,8 +1,8 @@
 """Makes docs/DEFINITIONS.md from the comments in specs/: `python3 tools/definitions.py`.
 
-The page has what the promise of an acceptance rests on, and then that of an agreement: the file of
-the promise and all that it cites, however far, in reading order, with what each is about. Of the other
-answers it has the names of the files. The definitions are read where they stand.
+The page leads a verifier: it has what an acceptance and an agreement rest on, the file of each and all
+that it cites, however far, in reading order, and of what is printed the file of each promise. The
+definitions are read where they stand; those of the promise of a sheet in docs/PROMISE.md.
 """
 
 import re
@@ -53,12 +53,13 @@ LAW = re.compile(r"^pub fn (\w+)\(\)$|ensures \w+ \{ (\w+) ≡ (?:pos )?([\d_]+)
 INTRODUCTION = """\
 # Definitions
 
-What the contracts speak of: which files a verifier reads, in which order. This page is made by `tools/definitions.py` from the comments with which the files of definitions begin; in them each definition has a comment. *GSI manual* means Leica's description of the format, *textbook* the usual least-squares station adjustment, *profile* that this project decides.
+What the contracts speak of: which files a verifier reads, in which order. `tools/definitions.py` makes this page. Each file begins with what it is about, and each definition has a comment, in which *GSI manual* means Leica's description of the format, *textbook* the usual least-squares station adjustment, *profile* that this project decides.
 
-1. [What an answer says](TRUST.md), in words; then the promise itself, which is one page: of an acceptance [`Accepted`](../crates/station_check/specs/Accepted.antt), of an agreement [`Agreeing`](../crates/station_compare/specs/Agreeing.antt).
-2. What it cites, in the lists below, where each file rests on those before it alone. A contract is as good as its definitions, so they are short, and not the program written again: a relation on a whole line, lines cut at all line ends at once, a sum over rows, 'there is no division into two parts'. Where one does go line by line, a law says the same in another way.
-3. [`check_bytes`](../crates/station_check/src/check.rt), whose contract it is, and [of which bytes](#of-which-bytes-it-is-said) it is said.
-4. [The lines that no contract reaches](TRUST.md#where-the-program-meets-the-system).
+1. [What an answer says](TRUST.md), in words.
+2. Of an acceptance [the promise](PROMISE.md), in one sitting: its main sentences of the bytes alone, with all their definitions.
+3. The promise as the contract has it, which is one page: of an acceptance [`Accepted`](../crates/station_check/specs/Accepted.antt), of an agreement [`Agreeing`](../crates/station_compare/specs/Agreeing.antt); and what it cites, in the lists below, where each file rests on those before it alone. A contract is as good as its definitions, so they are short, and not the program written again: a relation on a whole line, lines cut at all line ends at once, a sum over rows, 'there is no division into two parts'. Where one does go line by line, a law says the same in another way.
+4. [`check_bytes`](../crates/station_check/src/check.rt), whose contract it is, and [of which bytes](#of-which-bytes-it-is-said) it is said.
+5. [The lines that no contract reaches](TRUST.md#where-the-program-meets-the-system).
 
 That the program keeps the promise is proved, and needs no reading. So whoever believes these definitions, and what [the first page](../README.md#what-is-trusted) says is trusted, may believe an answer.
 """
@@ -70,7 +71,7 @@ A source may *tell* contracts which bytes it still gives, and whether it then fa
 
 - Every source has *histories*: by number, which bytes it may have given since it was made. Each read adds to all of them what it gave (`Adds`); that no other bytes are in them is not said. `HasGiven` says of a reader that by some reads these were the bytes: its histories have grown by them, and whatever it may give now, it might then have given these bytes and after them that.
 - The contract of `check_bytes` names bytes of the field file and of the sheet that their readers have given so, and keeps the promise of these and of whatever may be left in the readers. Where it accepts, both have ended, so the bytes are all.
-- `check_bytes` is one function for every source, and can't tell which histories a source keeps. So what is proved of it holds of a reader that keeps each byte as of a file, of which the standard library's contract says nothing: an acceptance is of exactly the bytes that `Keeping` kept, whatever reader is under it ([`check_kept`](../crates/station_check/src/kept.rt)). A function over the type of a file could forget what it read and still meet the words of the contract; so only [`byte_ends`](../crates/byte_ends/README.md) and the program's edge may name those types, which a test sees to.
+- `check_bytes` is one function for every source, and can't tell which histories a source keeps. So what is proved of it holds of a reader that keeps each byte as of a file, of which the standard library's contract says nothing: an acceptance is of exactly the bytes that `Keeping` kept, whatever reader is under it ([`check_kept`](../crates/station_check/src/kept.rt)). Of functions over the type of a file [a test](TRUST.md#of-which-bytes-it-is-said) has to see.
 - The field file's reader is taken in and dropped: by `UntilDropped` there is a state of it after that of which the promise is kept. That leaves open a read after it, of which no answer tells; `check_sources` gives the reader back, and says it of the very state.
 - `Digesting` of [`byte_digests`](../crates/byte_digests/README.md) is a source over a source: its first history is what a digest stands for.
 """
@@ -213,10 +214,9 @@ def belief(specs: list[Spec]) -> Iterator[str]:
     yield "## What you have to believe\n"
     yield (
         f"An acceptance means what {Spec(*ACCEPTANCE).link} says. It rests on the {size_of(specs)}, on the "
-        "[numbers, types and rules of CSV](#numbers-types-and-csv) after them, and on nothing else. "
-        "[The promise](PROMISE.md) says its main sentences of the bytes alone, in less than a quarter of the lines, which stand there whole.\n"
+        "[numbers, types and rules of CSV](#numbers-types-and-csv) after them, and on nothing else.\n"
     )
-    yield from in_words(specs)
+    yield from by_name(specs)
 
 
 def belief_of_code(specs: list[Spec]) -> Iterator[str]:
@@ -267,10 +267,7 @@ def belief_beside(title: str, says: str, specs: list[Spec], known: list[Spec]) -
         f"{says} means what {specs[-1].link} says. "
         f"It rests on {shared} of the files above and on the {size_of(more)}, and on no others.\n"
     )
-    for crate, of_crate in by_crate(more):
-        modules = ", ".join(f"`{spec.module}`" for spec in of_crate)
-        yield f"- of [`{crate}`](../crates/{crate}/specs): {modules}."
-    yield ""
+    yield from by_name(more)
 
 
 def belief_of_printed(known: list[Spec]) -> Iterator[str]:
@@ -299,18 +296,12 @@ def listed(words: list[str]) -> str:
     return " and ".join(filter(None, [", ".join(words[:-1]), words[-1]]))
 
 
-def in_words(specs: list[Spec]) -> Iterator[str]:
-    """What files of definitions are about."""
-    for crate, of_crate in by_crate(specs):
-        yield f"Of [`{crate}`](../crates/{crate}/specs):\n"
-        yield from [*(spec.about() for spec in of_crate), ""]
-
-
-def by_crate(specs: list[Spec]) -> Iterator[tuple[str, list[Spec]]]:
-    """Files by crate, the lowest first: so each stands after those that it cites."""
+def by_name(specs: list[Spec]) -> Iterator[str]:
+    """A row for each crate, the lowest first, with its files: so each stands after those that it cites."""
     for crate in crates():
-        if of_crate := [spec for spec in specs if spec.crate == crate]:
-            yield crate, of_crate
+        if modules := [f"`{spec.module}`" for spec in specs if spec.crate == crate]:
+            yield f"- of [`{crate}`](../crates/{crate}/specs): {', '.join(modules)}."
+    yield ""
 
 
 OTHERS = """\

@@ -272,7 +272,7 @@ class PagesTest(TimedTest):
             crate = page.parent.name
             if not crate.startswith("test"):
                 with self.subTest(crate):
-                    self.assertRegex(page.read_text(), rf"\A# `{crate}`: .*\n(.*\n)*\n## Proved")
+                    self.assertRegex(page.read_text(), rf"\A# `{crate}`: .*\n(.*\n)*\n## (Proved|What is proved)\b")
 
     def test_the_lines_of_what_is_trusted_are_counted(self):
         parts = PART.findall(TRUSTED.read_text())
