@@ -24,12 +24,13 @@ import { text } from './texts.js';
 /**
  * @typedef {import('./answers.js').Card} Card
  * @typedef {import('./answers.js').Answer} Answer
- * What a card asks of the page: the limits, to load its results, what its protocol says of what
- * else was handed in, to print it, to name the station of a field file, or the code whose blocks
- * begin its stations, to state the numbers of sets and targets of stations, what one is whose name
- * comes again, or that stations that aren't recognized stay outside.
+ * What a card asks of the page: the limits, to load its results, to give the keyboard its place
+ * where that is among what was shown now, what its protocol says of what else was handed in, to
+ * print it, to name the station of a field file, or the code whose blocks begin its stations, to
+ * state the numbers of sets and targets of stations, what one is whose name comes again, or that
+ * stations that aren't recognized stay outside.
  * @typedef {{ limits: import('./limits.js').Limits, load: (card: Card) => Promise<void>,
- *   beside: (card: Card) => string[], print: (card: Card) => void,
+ *   regain: () => void, beside: (card: Card) => string[], print: (card: Card) => void,
  *   name: (field: Input, station: string) => void,
  *   begin: (field: Input, code: string) => void,
  *   count: (field: Input, stations: string[], numbers: import('./files.js').Numbers) => void,
@@ -209,6 +210,7 @@ function showOpening(card, desk, isOpen, parent) {
       await showResultsInTurn(card, part);
     }
     part.classList.add('filled');
+    desk.regain();
   };
   let was = part.open = isOpen;
   if (isOpen) fill();

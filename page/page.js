@@ -355,13 +355,12 @@ const desk = {
       card.results = await resultsOf(card, limits);
       await judge(card, limits);
     });
-    // (what the keyboard was at may be among what is shown next)
-    setTimeout(giveFocus);
     // (what the residuals say changes the card and what is said of all)
     if (!isDone || judged || !cards.includes(card)) return;
     show();
     if (sayAgain === sayHow) sayHow();
   },
+  regain() { giveFocus(); },
   beside(/** @type {Card} */ card) { return besideOf(card, inputs, cards, limits); },
   print(/** @type {Card} */ card) {
     only = card;

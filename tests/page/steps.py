@@ -3,6 +3,7 @@
 import tempfile
 from pathlib import Path
 
+import books
 from driven import Driven
 from program import EXAMPLE, EXAMPLE_SHEET, EXAMPLE_TABLE, TimedTest
 from test_page_calls import EXAMPLES, JOB
@@ -51,6 +52,7 @@ class StepsTest(TimedTest):
             self.assertEqual(verdict, page.wait_text("#verdict", verdict), words)
 
     def a_job_without_codes_is_named_and_compared_with_a_table_of_four_decimals(self):
+        """And with a workbook that has the same."""
         folder = tempfile.TemporaryDirectory(prefix="page-")
         self.addCleanup(folder.cleanup)
         job, table = Path(folder.name, "job.gsi"), Path(folder.name, "directions.csv")
@@ -63,6 +65,9 @@ class StepsTest(TimedTest):
         page.js("const name = document.querySelector('.card input'); name.value = 'P7'; name.form.requestSubmit()")
         read = "Station P7: Read without a fault: 4 sets, 6 targets, 22 directions."
         self.assertEqual(read, page.wait_text("#verdict", read))
-        page.drop(table)
         agrees = "Station P7: Agrees. 6 targets within 0.025 mgon of the least-squares directions; the limit is 0.055 mgon."
-        self.assertEqual(agrees, page.wait_text("#verdict", agrees))
+        rows = [line.replace(",", ".").split(";") for line in FOUR_DECIMALS.splitlines()[1:]]
+        book = books.write(Path(folder.name, "book.xlsx"), [[name, float(gon)] for name, gon in rows])
+        for one, said in ((table, agrees), (book, f"{agrees} {agrees.removeprefix('Station P7: ')}")):
+            page.drop(one)
+            self.assertEqual(said, page.wait_text("#verdict", said))

@@ -15,12 +15,12 @@ import subprocess
 import sys
 import tempfile
 import unittest
-import zipfile
 from collections import Counter
 from fractions import Fraction
 from pathlib import Path
 from xml.etree import ElementTree
 
+import books
 import browser
 from program import ROOT, TimedTest
 from test_page_calls import PAGE, RT, make_page
@@ -1097,41 +1097,6 @@ class PageInBrowserTest(TimedTest):
         page.give(P7_FIELD)
         self.assertFalse(page.js("$('read-again').checkVisibility()"))
 
-    def workbook(self, name, rows, prefix="", packed=True):
-        """A workbook as a spreadsheet writes it: names are shared texts, and numbers as it keeps them."""
-        shared = sorted({cell for row in rows for cell in row if isinstance(cell, str)})
-        open_, close = f"<{prefix}", f"</{prefix}"
-
-        def cell(column, at, value):
-            place = f'r="{column}{at}"'
-            if isinstance(value, str):
-                return f'{open_}c {place} t="s">{open_}v>{shared.index(value)}{close}v>{close}c>'
-            return f"{open_}c {place}>{open_}v>{value!r}{close}v>{close}c>"
-
-        body = "".join(
-            f'{open_}row r="{at}">{"".join(cell(column, at, value) for column, value in zip("BCDE", row))}{close}row>'
-            for at, row in enumerate(rows, 3)
-        )
-        space = f'xmlns{":" + prefix[:-1] if prefix else ""}="http://schemas.openxmlformats.org/spreadsheetml/2006/main"'
-        link = "http://schemas.openxmlformats.org/officeDocument/2006/relationships"
-        texts = "".join(f"{open_}si>{open_}t>{one}{close}t>{open_}rPh>{open_}t>no{close}t>{close}rPh>{close}si>" for one in shared)
-        parts = {
-            "xl/workbook.xml": f'{open_}workbook {space} xmlns:r="{link}">{open_}sheets>'
-            f'{open_}sheet name="Second in the zip" sheetId="7" r:id="rId2"/>{open_}sheet name="x" sheetId="1" r:id="rId1"/>'
-            f"{close}sheets>{close}workbook>",
-            "xl/_rels/workbook.xml.rels": '<Relationships xmlns="http://schemas.openxmlformats.org/package/2006/relationships">'
-            '<Relationship Id="rId1" Target="worksheets/sheet1.xml"/><Relationship Id="rId2" Target="/xl/worksheets/sheet2.xml"/>'
-            "</Relationships>",
-            "xl/worksheets/sheet1.xml": f"{open_}worksheet {space}/>",
-            "xl/worksheets/sheet2.xml": f"{open_}worksheet {space}>{open_}sheetData>{body}{close}sheetData>{close}worksheet>",
-            "xl/sharedStrings.xml": f"{open_}sst {space}>{texts}{close}sst>",
-        }
-        path = self.folder / name
-        with zipfile.ZipFile(path, "w", zipfile.ZIP_DEFLATED if packed else zipfile.ZIP_STORED) as book:
-            for part, text in parts.items():
-                book.writestr(part, f'<?xml version="1.0" encoding="UTF-8"?>{text}')
-        return path
-
     def test_two_columns_of_a_workbook_are_a_table_and_what_was_taken_is_shown(self):
         rows = [row.split(",") for row in FOUR_DECIMALS.decode().splitlines()]
         typed = [["Ziel", "Hz"], *([name, float(gon)] for name, gon in rows)]
@@ -1140,7 +1105,7 @@ class PageInBrowserTest(TimedTest):
         taken = "Ziel,Hz\nTOWER,0\nP3,64.5213\nMAST,139.4045\nP8,212.7572\nCHURCH,278.8606\nP12,345.2092\n"
         agrees = "Agrees. 6 targets within 0.025 mgon of the least-squares directions; the limit is 0.055 mgon."
         for nth, how in enumerate([{}, {"prefix": "x:"}, {"packed": False}]):
-            book = self.workbook(f"{nth}.xlsx", typed, **how)
+            book = books.write(self.folder / f"{nth}.xlsx", typed, **how)
             page = self.page(P7_FIELD, book)
             with self.subTest(how):
                 self.assertEqual([["good", "Station P7", agrees]], self.cards(page))
@@ -1154,13 +1119,13 @@ class PageInBrowserTest(TimedTest):
                 for one in (said, hashlib.sha256(book.read_bytes()).hexdigest(), hashlib.sha256(taken.encode()).hexdigest()):
                     self.assertIn(one, printed)
         # Three columns are no table; nor is what is no workbook.
-        page = self.page(P7_FIELD, self.workbook("three.xlsx", [["A", 0.5, 1.5], ["B", 1.5, 2.5]]), self.file("none.xlsx", b"PK\3\4"))
+        page = self.page(P7_FIELD, books.write(self.folder / "three.xlsx", [["A", 0.5, 1.5], ["B", 1.5, 2.5]]), self.file("none.xlsx", b"PK\3\4"))
         kinds = dict(zip(page.texts("#inputs .name"), page.texts("#inputs .kind")))
         for name in ("three.xlsx", "none.xlsx"):
             self.assertTrue(kinds[name].startswith("not used: a spreadsheet"), kinds)
         # A station is chosen for one as for a table.
         both = self.file("both.gsi", P7_FIELD.read_bytes() + FIELD.read_bytes())
-        page = self.page(both, self.workbook("odd.xlsx", [["X", 0.5], ["Y", 1.5]]))
+        page = self.page(both, books.write(self.folder / "odd.xlsx", [["X", 0.5], ["Y", 1.5]]))
         self.assertEqual(["open", "odd.csv"], self.cards(page)[0][:2])
         self.choose(page, "odd.xlsx", "both.gsi: S1")
         self.assertEqual("refused: table row 1: Unknown", page.text(".exact samp"))
@@ -1306,10 +1271,15 @@ class PageInBrowserTest(TimedTest):
         page.fill("within", "0.5")
         self.assertEqual(before, look())
         # A button in the results, and in the list of files.
-        for selector in (".card .buttons > button", "#inputs li:nth-child(3) button", "#inputs select", ".card details.results > summary"):
+        for selector in (
+            ".card .buttons > button", "#inputs li:nth-child(3) button", "#inputs select", ".card details.results > summary",
+            "#overview tr:nth-child(3) button", ".results section summary",
+        ):
+            page.settle()
             here = f"document.activeElement === document.querySelector({json.dumps(selector)})"
             page.js(f"document.querySelector({json.dumps(selector)}).focus()")
             page.js("languages.value = 'de'; languages.onchange()")
+            page.settle()
             self.assertTrue(page.js(here), selector)
         # A file that is taken away leaves the keyboard at the next one.
         with page.answered():
