@@ -624,10 +624,10 @@ a station, but behind sets of two targets only where detail stands between.",
         example: "refused: block 10: mark: FaceMissing",
         remedy: "\
 Compare the set with the field book by 'station_check words GSI', and let prepare.py of
-the examples make a copy. If the station has one set, leave out with --blocks what stands before it,
-as sights to other targets or detail points. Else --broken-off leaves out a last set that was broken
-off, --blocks a lone reading or a check sight, and --rename BLOCK NAME corrects a misspelled name.
-Mark that copy.",
+the examples make a copy. If the station has one set, leave out with --blocks what stands before it
+or after it, as sights to other targets or detail points. Else --broken-off leaves out a last set
+that was broken off, --blocks a lone reading or a check sight, and --rename BLOCK NAME corrects a
+misspelled name. Mark that copy.",
     },
     Said {
         names: &["OneTarget"],
@@ -786,7 +786,7 @@ its own beside them: '--sets 4 --sets P7=3'.",
 The sets of the station begin with this reading, and are more or fewer than --sets states. A set
 that was broken off was counted, or one that was read once more was not; an orientation in both
 faces looks like a part of a set; a set-up line is missing, so that two occupations are one station;
-or the file has the same readings twice.",
+or the file has the same readings twice. Another number may fit, and its sets be shifted.",
         example: "refused: block 1: mark: SetCount",
         remedy: "\
 See in the field book how many sets of this station were read to the end. If that is the
@@ -800,13 +800,15 @@ BLOCKS are the first ones of the sets, as 2,14,26, and LAST ends them.",
         when: "\
 The sets of the station begin with this reading, and have more or fewer targets in all than
 --targets states. A target has two names in the file, small letters too; a target was left out of
-all sets; or a set-up line is missing, so that two occupations are one station.",
+all sets; a set-up line is missing, so that two occupations are one station; or an orientation or a
+check in both faces, before or after a single set that was read target by target, looks like one of
+its targets. Another number may fit, and the set have readings that are none of its own.",
         example: "refused: block 1: mark: TargetCount",
         remedy: "\
 Compare the names with the field book by 'station_check words GSI'. 'prepare.py --rename
 BLOCK NAME' of the examples gives blocks the right name in a copy, and --capitals writes all names
-in capitals. If another station stands among these readings, leave its blocks out of a copy with
---blocks, and mark that.",
+in capitals. If another station stands among these readings, or a sight before or after the only
+set, leave its blocks out of a copy with --blocks, and mark that.",
     },
 ];
 
