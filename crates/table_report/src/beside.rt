@@ -59,7 +59,16 @@ pub fn report_beside(
     ensures fault { IfErr result (IsAdjustError surveyed.now.station limits.residual) }
 {
     let adjustment = adjust(alloc, surveyed.station(), limits.residual)?;
-    Ok(report_by(alloc, asked, limits, surveyed, &adjustment, stated, off, limit)?)
+    Ok(report_by(
+        alloc,
+        asked,
+        limits,
+        surveyed,
+        &adjustment,
+        stated,
+        off,
+        limit,
+    )?)
 }
 
 /// The report of `report_beside`, by an adjustment of the station.
