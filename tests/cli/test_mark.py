@@ -165,7 +165,8 @@ class MarkTest(AgainstModel):
             job = whole[-2 * LINE :] + whole * sets + whole[: -2 * LINE]
             job += b"".join(reading(t, 1) for t in detail)
             stated = model.StatedSets(sets + 1, count)
-            for half, status in [(b"", 0), (reading("N", 2), 1)]:
+            thrice = reading("N", 1) * 2 + reading("N", 2)
+            for half, status in [(b"", 0), (reading("N", 2), 1), (thrice, 1)]:
                 case = Case(f"{targets} {sets} {detail}", "mark", job + half, stated=stated)
                 self.assertEqual(status, self.compare([case])[0][0])
 

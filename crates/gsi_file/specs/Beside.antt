@@ -25,7 +25,8 @@ end_before bytes at =
     if slice_index bytes (at - 1) == 13 then CarriageReturn else
     (if slice_index bytes (at - 2) == 13 then Both else LineFeed)
 
--- How the lines beside a place end: the line before it, or at the beginning of the file its first.
+-- How the lines beside a place end at which a line begins: the line before it, or at the beginning of
+-- the file its first.
 abbrev pub end_beside : List ℕ → ℕ → LineEnd
 end_beside bytes at =
     if at == 0 then end_from bytes (position is_line_end bytes) else end_before bytes at

@@ -80,7 +80,8 @@ fn first_end(bytes: &[u8]) -> Option<usize>
     memchr2(LINE_FEED, CARRIAGE_RETURN, bytes)
 }
 
-/// How the lines beside a place end: the line before it, or at the beginning of the file its first.
+/// How the lines beside a place end at which a line begins: the line before it, or at the beginning of
+/// the file its first.
 pub fn end_beside(bytes: &[u8], at: usize) -> LineEnd
     ensures { result ≡ end_beside bytes.now at }
 {

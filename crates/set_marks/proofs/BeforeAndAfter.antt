@@ -33,7 +33,7 @@ use Rattle.set_marks.specs.Divisions.{begins_with_pair, are_by_targets, flaw_whe
 use Rattle.set_marks.specs.Outside.{are_among, are_sights_to, are_plain, sighted_before, may_lead}
 use Rattle.set_marks.specs.Outside.{in_ending}
 use Rattle.set_marks.specs.Doubts.{has_lone_second, may_be_shifted, leads_to_end, leads_within}
-use Rattle.set_marks.specs.Doubts.{may_go_on, may_have_gone_on}
+use Rattle.set_marks.specs.Doubts.{may_have_gone_on}
 use Rattle.set_marks.specs.Ways.{Way, flaw_of, is_given_up, ways_of, after_leading, sets_by}
 use Rattle.set_marks.specs.Ways.{doubt_by, span_by, divided}
 use Rattle.set_marks.specs.BeginsAndEnds.{without_details}
@@ -550,8 +550,7 @@ not_then false b e f = cc
 record IsSure (rs leading set in_sets left : List Sight) : Type 0 where
   pub to_end : leads_to_end leading set ≡ false
   pub within : (is_by_targets set && leads_within leading in_sets) ≡ false
-  pub goes_on : (are_by_targets rs && begins_with_pair left) ≡ false
-  pub went_on : (are_by_targets rs && has_lone_second left) ≡ false
+  pub went_on : (are_by_targets rs && list_any (λ r. r.second) left) ≡ false
 
 sure_after : (stated : Numbers) (rs : List Sight) (way : Way) → doubt_by stated rs way ≡ None
     → IsSure (sets_by rs way) (take way.leading (rest_of rs))
@@ -575,7 +574,6 @@ sure_after stated rs way sure =
     record {
       to_end = both.0;
       within = both.1;
-      goes_on = no_flaw (may_go_on rest after) kinds.PairAfter (slice_get after end) none.1.1.0;
       went_on = no_flaw (may_have_gone_on rest after) kinds.MayBeShifted (slice_get rest 0)
           none.1.1.1.0;
     }
@@ -650,14 +648,9 @@ stands_after stated rs way only right sure e =
           (are_pairs (first_set inner) by) other
           (subst (λ (l : List Sight). (length (first_set inner) ≤ 4)
           ⊎ Any (λ r. r.second ≡ true) l) lead some));
-      goes_on = λ by a b more is two. false≢true (sym (sym (ap begins_with_pair is)
-          ∙ ap begins_with_pair (left_after rs way right)
-          ∙ not_then (are_by_targets rest) (begins_with_pair left) doubt.goes_on (by_targets by))
-          ∙ are_pair a b two);
-      went_on = λ by. subst (λ (l : List Sight). All (λ r. r.second ≡ true → Any (IsPair r) l) l)
-          (sym (left_after rs way right))
-          (all_paired left (not_then (are_by_targets rest) (has_lone_second left) doubt.went_on
-          (by_targets by)));
+      went_on = λ by. subst (λ (l : List Sight). AreInOne l) (sym (left_after rs way right))
+          (none_pass (λ r. r.second) left (not_then (are_by_targets rest)
+          (list_any (λ r. r.second) left) doubt.went_on (by_targets by)));
     }
 
 -- So the sets of a station stand.

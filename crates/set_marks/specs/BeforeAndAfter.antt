@@ -63,8 +63,7 @@ pub record LeadToOne (set before leading : List Sight) : Type 0 where
 -- with one target; and no detail stands among them. Before sets by targets a leading reading in face
 -- II is of the opening target, or of none that the sets have; and none is of the target that ends
 -- the first set and does not begin it, where one is in face II or the set has two targets. After
--- them, but for details, no pair follows, and each reading in face II has its pair among those that
--- do.
+-- them, but for details, all are in face I.
 pub record StandsBetween (rs : List Sight) (span : Span) : Type 0 where
   pub at_most : length (leading_in span rs) ≤ MOST_READINGS
   pub few : (length (leading_in span rs) ≤ 3) ⊎ AreInOne (leading_in span rs)
@@ -85,9 +84,5 @@ pub record StandsBetween (rs : List Sight) (span : Span) : Type 0 where
       → (length (first_set (in_span span rs)) ≤ 4)
       ⊎ Any (λ r. r.second ≡ true) (leading_in span rs)
       → All (λ r. r.target ≢ last_target (first_set (in_span span rs))) (leading_in span rs)
-  pub goes_on : ArePairs (first_set (in_span span rs))
-      → (a b : Sight) (more : List Sight)
-      → without_details rs (drop span.to rs) ≡ a ∷ b ∷ more → ¬ IsPair a b
   pub went_on : ArePairs (first_set (in_span span rs))
-      → All (λ r. r.second ≡ true → Any (IsPair r) (without_details rs (drop span.to rs)))
-      (without_details rs (drop span.to rs))
+      → AreInOne (without_details rs (drop span.to rs))

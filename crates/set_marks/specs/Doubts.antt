@@ -66,12 +66,12 @@ abbrev pub may_go_on : List Sight → List Sight → Bool
 may_go_on sets rs =
     are_by_targets sets && begins_with_pair (drop (cut_end (starts_of sets) sets) rs)
 
--- Sets that are read by targets may have gone on: a reading after them is in face II, and none after
--- them is of its target in face I. Where that one is lost, the two were a target as the next of a
--- set is. So the sets may begin with another target.
+-- Sets that are read by targets may have gone on: a reading after them is in face II. It may be of
+-- a target as the next of a set is, of which a reading is lost or was read once more. So the sets
+-- may begin with another target.
 abbrev pub may_have_gone_on : List Sight → List Sight → Bool
 may_have_gone_on sets rs =
-    are_by_targets sets && has_lone_second (drop (cut_end (starts_of sets) sets) rs)
+    are_by_targets sets && list_any (λ r. r.second) (drop (cut_end (starts_of sets) sets) rs)
 
 -- Why the sets of these readings can't be taken by the numbers that are stated. It is the first of
 -- these that is found: another number of sets is stated; there is one set, read by targets, and no

@@ -5,7 +5,6 @@ ghost use Rattle.std.specs.Prelude.{not, true, ◌&&◌, ◌==◌, drop, is_none
 ghost use Rattle.std.specs.Bool.{OnFalse, OnTrue};
 ghost use Rattle.std.specs.List.{list_any};
 ghost use Rattle.adjust_kernel.specs.declared.bounds.TheConstants.{MOST_SETS};
-ghost use Rattle.station_book.specs.Places.{is_among};
 ghost use Rattle.set_marks.specs.declared.fault.MarkKind.TheVariants.{OtherTargets};
 ghost use Rattle.set_marks.specs.declared.sight.Sight.{Sight};
 ghost use Rattle.job_statements.specs.declared.stated.Numbers.{Numbers};
@@ -20,12 +19,11 @@ ghost use Rattle.set_marks.specs.Doubts.{numbers_flaw, doubt_after};
 ghost use Rattle.set_marks.specs.Ways.{divided, divided_by, ways_of};
 ghost use Rattle.job_statements.specs.Numbers.{is_another};
 
-use crate::bounds::{FEW_READINGS, MOST_READINGS, READINGS_OF_TWO};
+use crate::bounds::{MOST_READINGS, READINGS_OF_TWO};
 use crate::details::{has_no_sets, known_in, seconds_of};
 use crate::fault::MarkKind;
 use crate::flaw::{Flaw, flaw_at, flaw_found};
-use crate::known::{Known, count_targets, targets_in_one};
-use crate::names::Names;
+use crate::known::{Known, count_targets};
 use crate::outside::Ending;
 use crate::set::{
     begins_with_pair, first_target, front, has_pair, has_second, is_by_targets, is_clean, is_of,
@@ -273,48 +271,13 @@ fn may_go_on(end: usize, sets: &[Sight], sights: &[Sight]) -> bool
     are_by_targets(sets) && begins_with_pair(rest_after(end, sights))
 }
 
-/// Whether one of these readings is in face II, of a target that is none of these.
-fn has_second_of_others(names: &mut Names, sights: &[Sight]) -> bool
-    ensures value { result
-        ≡ list_any (λ r. r.second && not (is_among names.old r.target)) sights.now }
-    ensures unchanged { names.new ≡ names.old }
-{
-    let mut left = sights;
-    'sights: while let Some((sight, rest)) = left.split_first() {
-        if sight.second && !names.has(&sight.target) {
-            return true;
-        }
-        left = rest;
-    }
-    false
-}
-
-/// Whether one of these readings, however many, is in face II, and none of them is its pair.
-fn has_lone_second_of_many(alloc: Global, sights: &[Sight]) -> Result<bool, AllocError>
-    ensures { IfOk result (λ b. b ≡ has_lone_second sights.now) }
-{
-    if sights.len() <= FEW_READINGS {
-        return Ok(has_lone_second(sights));
-    }
-    let mut ones = targets_in_one(alloc, sights)?;
-    Ok(has_second_of_others(&mut ones, sights))
-}
-
 /// Whether sets that were read by targets, of which the last ends at this place, are followed by a
-/// reading in face II whose target isn't read in face I after them.
-fn may_have_gone_on(
-    alloc: Global,
-    end: usize,
-    sets: &[Sight],
-    sights: &[Sight],
-) -> Result<bool, AllocError>
+/// reading in face II.
+fn may_have_gone_on(end: usize, sets: &[Sight], sights: &[Sight]) -> bool
     requires { end ≡ cut_end (starts_of sets.now) sets.now }
-    ensures { IfOk result (λ b. b ≡ may_have_gone_on sets.now sights.now) }
+    ensures { result ≡ may_have_gone_on sets.now sights.now }
 {
-    if !are_by_targets(sets) {
-        return Ok(false);
-    }
-    has_lone_second_of_many(alloc, rest_after(end, sights))
+    are_by_targets(sets) && has_second(rest_after(end, sights))
 }
 
 /// How many of these readings are of targets that are known.
@@ -476,7 +439,7 @@ fn doubt_after(
     if may_go_on(end, sets, sights) {
         return Ok(Some(flaw_at(MarkKind::PairAfter, sight_at(sights, end))));
     }
-    if may_have_gone_on(alloc, end, sets, sights)? {
+    if may_have_gone_on(end, sets, sights) {
         return Ok(Some(flaw_at(MarkKind::MayBeShifted, first)));
     }
     if let Some(flaw) = numbers_flaw(alloc, stated, starts, end, sets)? {

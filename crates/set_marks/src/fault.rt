@@ -68,8 +68,8 @@ pub enum MarkKind {
     #[error("after other readings the first set begins in face II")]
     FirstFace,
     /// The readings before the first set may belong to the sets, and these be shifted, as a reading
-    /// in face II alone after sets by targets shows too; or the sets can be read in two ways, since
-    /// those at the end may be check sights or not. Mark a copy without these readings.
+    /// in face II after sets by targets shows too; or the sets can be read in two ways, since those
+    /// at the end may be check sights or not. Mark a copy without these readings.
     #[error("the sets may begin or end elsewhere")]
     MayBeShifted,
     /// The station's sets are read by targets, and a target in both faces follows them, as a set

@@ -2,7 +2,6 @@
 
 ghost use Rattle.std.specs.Prelude.{◌≡◌, [], IfOk, length, option_map};
 ghost use Rattle.set_marks.specs.Divisions.{one_too_many, targets_of};
-ghost use Rattle.set_marks.specs.Outside.{firsts_of};
 ghost use Rattle.set_marks.specs.Searching.{knows, KnowsTargetsOf};
 
 use crate::bounds::{FEW_READINGS, MOST_READINGS};
@@ -30,21 +29,6 @@ pub(crate) fn targets_of(alloc: Global, sights: &[Sight]) -> Result<Names, Alloc
     let mut left = sights;
     'sights: while let Some((sight, rest)) = left.split_first() {
         names.add(&sight.target)?;
-        left = rest;
-    }
-    Ok(names)
-}
-
-/// The targets of those of these readings that are in face I, each once.
-pub(crate) fn targets_in_one(alloc: Global, sights: &[Sight]) -> Result<Names, AllocError>
-    ensures { IfOk result (λ names. names ≡ targets_of (firsts_of sights.now)) }
-{
-    let mut names = Names::new(alloc);
-    let mut left = sights;
-    'sights: while let Some((sight, rest)) = left.split_first() {
-        if !sight.second {
-            names.add(&sight.target)?;
-        }
         left = rest;
     }
     Ok(names)

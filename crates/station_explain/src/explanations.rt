@@ -707,9 +707,9 @@ ones of the sets, as 2,14,26, and LAST ends them.",
 The readings fit as sets if the first set begins with this reading. But a reading before it is in
 face II without its reading in face I; or the sets are read target by target, and before them stands
 a pair to another of their targets than the first, or a sight to the one that ends them, where they
-have two targets or a pair stands there too, or after them a reading in face II without its reading
-in face I: then each set may be shifted by some readings. Or the last readings can be taken in two
-ways, as check sights and as readings to targets of no set.",
+have two targets or a pair stands there too, or after them a reading in face II: then each set may
+be shifted by some readings. Or the last readings can be taken in two ways, as check sights and as
+readings to targets of no set.",
         example: "refused: block 3: mark: MayBeShifted",
         remedy: "\
 See in the field book which target opened the first set, and put the codes in with
