@@ -2,8 +2,8 @@
 // with its handle where the browser has one, by which it is read again.
 
 /**
- * A file that comes in, with its path in the folder that was handed in, or else its name. A folder
- * in which nothing is has a path alone.
+ * A file that comes in, with its path in the folder that was handed in, or else its name. One that
+ * can't be read has a path alone, and so has a folder in which nothing is: a slash ends that.
  * @typedef {{ path: string, file?: File, handle?: any }} Given
  */
 
@@ -34,6 +34,20 @@ async function handlesIn(/** @type {any} */ folder) {
 }
 
 /**
+ * The file of a handle, as it is now.
+ * @param {any} handle
+ * @param {string} path
+ * @returns {Promise<Given>}
+ */
+export async function givenOf(handle, path) {
+  try {
+    return { path, file: await handle.getFile(), handle };
+  } catch {
+    return { path, handle };
+  }
+}
+
+/**
  * The files of what is a file or a folder, as a browser has it: as a handle or an entry.
  * @param {any} one
  * @param {string} [before] the path of the folder in which it is
@@ -41,9 +55,9 @@ async function handlesIn(/** @type {any} */ folder) {
  */
 async function filesOfPath(one, before = '') {
   const path = before + one.name;
-  if (one.kind === 'file') return [{ path, file: await one.getFile(), handle: one }];
+  if (one.kind === 'file') return [await givenOf(one, path)];
   if (one.isFile)
-    return [{ path, file: await new Promise((done, failed) => one.file(done, failed)) }];
+    return [{ path, file: await new Promise(done => one.file(done, () => done(undefined))) }];
   const inside = one.kind ? await handlesIn(one) : await entriesIn(one), all = [];
   inside.sort((part, other) => part.name < other.name ? -1 : 1);
   for (const part of inside)

@@ -3,7 +3,7 @@ import { judge, makeCards, resultsOf } from './answers.js';
 import { showCard } from './cards.js';
 import { button, element, save } from './elements.js';
 import { HEAD, isChosen, isUsed, kindOf, originalOf, placeName, tellApart } from './files.js';
-import { dropped, givenBy } from './gather.js';
+import { dropped, givenBy, givenOf } from './gather.js';
 import { kindText, saidOfCard, titleOf } from './headlines.js';
 import { limitsLine, limitsNow, LIMITS, showLimit, wrongLimit } from './limits.js';
 import { recallNotes } from './notes.js';
@@ -424,7 +424,8 @@ const MOST_OF_BOOK = 20_000_000;
  * @returns {Promise<Input>}
  */
 async function inputOf({ file, path, handle }) {
-  const { name } = file, about = { name, path, handle, shown: name, digest: '' };
+  const name = path.slice(path.lastIndexOf('/') + 1);
+  const about = { name, path, handle, shown: name, digest: '' };
   try {
     const head = new Uint8Array(await file.slice(0, HEAD).arrayBuffer()), kind = kindOf(name, head);
     const isBook = kind === 'spreadsheet' && file.size <= MOST_OF_BOOK;
@@ -453,8 +454,7 @@ const MOST_SKIPPED = 8;
 let readAt = new Date();
 
 /** Whether a file is told of in a line alone: it came in a folder, and is none of the page's. */
-const isSkipped = (/** @type {Input} */ { path, kind }) =>
-  path.includes('/') && ['other', 'empty', 'unread'].includes(kind);
+const isSkipped = (/** @type {Input} */ { path, kind }) => path.includes('/') && kind === 'other';
 
 /**
  * Adds files to those that are there; one of the same path takes the place of the older, and it is
@@ -464,9 +464,10 @@ async function add(/** @type {import('./gather.js').Given[]} */ given) {
   if (given.length === 0) return;
   busy(true);
   await worded;
-  const all = await Promise.all(given.filter(({ file }) => file).map(inputOf));
-  const read = all.filter(one => !isSkipped(one)), bare = given.filter(({ file }) => !file);
-  skipped = [...all.filter(isSkipped), ...bare].map(({ path }) => path);
+  const folders = given.filter(({ path }) => path.endsWith('/'));
+  const all = await Promise.all(given.filter(one => !folders.includes(one)).map(inputOf));
+  const read = all.filter(one => !isSkipped(one));
+  skipped = [...all.filter(isSkipped), ...folders].map(({ path }) => path);
   const isGone = (/** @type {Input} */ one) => read.some(more => more.path === one.path);
   replaced = inputs.filter(isGone).map(one => one.shown);
   inputs = [...inputs.filter(one => !isGone(one)), ...read];
@@ -479,12 +480,7 @@ async function readAgain() {
   busy(true);
   for (const input of inputs.filter(one => one.handle)) {
     const { path, handle } = input;
-    try {
-      const read = await inputOf({ file: await handle.getFile(), path, handle });
-      Object.assign(input, { taken: undefined }, read);
-    } catch {
-      Object.assign(input, { taken: undefined, bytes: new Uint8Array(), kind: 'unread' });
-    }
+    Object.assign(input, { taken: undefined }, await inputOf(await givenOf(handle, path)));
   }
   readAt = new Date();
   await checkAll();

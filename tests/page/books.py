@@ -27,10 +27,10 @@ def write(path: Path, rows: list[list[str | float]], prefix: str = "", packed: b
         return f"<{prefix}{name}{more}>{inside}</{prefix}{name}>"
 
     def cell(column: str, number: int, value: str | float) -> str:
-        is_text = isinstance(value, str)
-        text = str(shared.index(value)) if is_text else repr(value)
-        kind = ' t="s"' if is_text else ""
-        return part("c", part("v", text), f' r="{column}{number}"{kind}')
+        place = f' r="{column}{number}"'
+        if isinstance(value, str):
+            return part("c", part("v", str(shared.index(value))), f'{place} t="s"')
+        return part("c", part("v", repr(value)), place)
 
     lines = [
         part("row", "".join(cell(column, number, one) for column, one in zip(COLUMNS, row)), f' r="{number}"')

@@ -1051,6 +1051,7 @@ class PageInBrowserTest(TimedTest):
                 shutil.copy(EXAMPLES / f"station_{station}{end}", week / day / name)
         (week / "mon" / "photo.jpg").write_bytes(UNUSED[-1][1])
         (week / ".hidden.gsi").write_bytes(FIELD.read_bytes())
+        (week / "tue" / "lost.gsi").write_bytes(b"")
         return week
 
     def test_the_files_of_a_folder_belong_together_by_their_folders(self):
@@ -1064,7 +1065,9 @@ class PageInBrowserTest(TimedTest):
                 page.give(week, button="choose-folder")
             with self.subTest(way):
                 names = [f"week/{day}/{name}" for day in ("mon", "tue") for name in ("job.gsi", "t.csv")]
-                self.assertEqual(names, sorted(page.texts("#inputs .name")))
+                self.assertEqual(["lost.gsi", *names], sorted(page.texts("#inputs .name")))
+                # A job of which nothing is there is no file that is left aside.
+                self.assertEqual("not used: the file is empty", page.text("#inputs .kind"))
                 self.assertEqual("Not used, of folders: week/mon/photo.jpg.", page.text("#skipped"))
                 self.assertEqual("2 computed rightly", page.text("#verdict"))
                 self.assertEqual({"good"}, {card[0] for card in self.cards(page)})
