@@ -38,15 +38,19 @@ from shapes import Shape, field_file, job_file
 
 ROOT = Path(__file__).resolve().parent.parent
 PROGRAM = Path(os.environ.get("STATION_CHECK", ROOT / "build/station_check")).resolve()
-PAGE = ROOT / "bench" / "MEASURED.md"
+DATA = ROOT / "bench" / "measured.txt"
+PAGE = ROOT / "bench" / "README.md"
 
-# What the page of what was measured begins with, and how a table of it begins.
+# What the file of what was measured begins with, and how a table of it begins.
 HEAD = """\
-# Measured
-
-This page is made by `make bench BENCH='--page ..'`: [README](README.md) says what is measured and how, and what the marks are. A mark that is not kept is in bold. Each table has the commit of its code, its machine, and how busy other work kept that meanwhile: where that is more than a tenth of a thread, times are too long, and their ratios uncertain.
+Made by `make bench BENCH='--page ..'`; README.md says what is measured and how, and what the marks
+are. Each table has the commit of its code, its machine, and how busy other work kept that meanwhile:
+where that is more than a tenth of a thread, times are too long, and their ratios uncertain.
 """
 BEGIN = "Commit "
+
+# What the page shows of it: these commands of this file, and the heads of its columns.
+SHORT, SHORT_HEADS = "16 MB, 10 targets", ["ours, ms", "tuned, ms", "plain, ms", "kept"]
 
 # How rustc builds the plain programs: the fastest way that was found.
 RUSTC = ["-C", "opt-level=3", "-C", "lto=fat", "-C", "codegen-units=1", "-C", "panic=abort"]
@@ -230,7 +234,7 @@ class Bench:
 
 
 def yes(is_so: bool) -> str:
-    return "yes" if is_so else "**no**"
+    return "yes" if is_so else "no"
 
 
 def clock(bench: Bench) -> Table:
@@ -244,7 +248,7 @@ def clock(bench: Bench) -> Table:
             commands = [[program, *words] for program in bench.programs.values()]
             times = dict(zip(names, bench.times(commands)))
             ratios = {other: times["ours"] / times[other] for other in names[1:]}
-            row = [shape.name(), f"`{name}`", *(f"{one:.2f}" for one in times.values())]
+            row = [shape.name(), name, *(f"{one:.2f}" for one in times.values())]
             row += [f"{one:.3f}" for one in ratios.values()]
             is_long = name == "words" and shape.width == 16
             most = TIMES_TUNED_OF_LONG_WORDS if is_long else TIMES_TUNED
@@ -263,7 +267,7 @@ def clock(bench: Bench) -> Table:
 
 def counted(bench: Bench) -> Table:
     """The instructions of these commands a byte of smaller files: ours, and ours of the others'."""
-    table = Table("instructions", "file", "`words`", "`list`", "`means`", "`check`")
+    table = Table("instructions", "file", "words", "list", "means", "check")
     empty, starts = bench.folder / "empty", dict[str, list[int]]()
     empty.touch()
     for shape in COUNTED:
@@ -292,7 +296,7 @@ def adjusting(bench: Bench) -> Table:
     """What adjusts: beside `means` where sets are complete, and beside `directions`."""
     printing = ["differences", "residuals", "report", "report --csv", "report --table"]
     names = ["means", "directions", "compare", *printing]
-    table = Table("adjusting", "file", *(f"`{name}`" for name in names), "kept")
+    table = Table("adjusting", "file", *names, "kept")
     sheet = bench.folder / "table.csv"
     more: dict[str, Sequence[str | Path]]
     more = {"compare": [sheet], "differences": [sheet], "report --table": [f"--table={sheet}"]}
@@ -323,7 +327,7 @@ def adjusting(bench: Bench) -> Table:
 
 def rows(bench: Bench) -> Table:
     """The rows of the list beside its lines."""
-    table = Table("rows", "file", "`list`", "`list --csv`", "times", "kept")
+    table = Table("rows", "file", "list", "list --csv", "times", "kept")
     for shape in LISTED:
         gsi = bench.file(field_file(shape))
         commands: list[Command] = [[PROGRAM, "list", gsi], [PROGRAM, "list", "--csv", gsi]]
@@ -337,7 +341,7 @@ def rows(bench: Bench) -> Table:
 
 def digests(bench: Bench) -> Table:
     """What digests cost, and what one costs another program."""
-    table = Table("digests", "file", "`check`", "`check --sha256`", "`sha256sum`")
+    table = Table("digests", "file", "check", "check --sha256", "sha256sum")
     shape = LARGE[0]
     words = bench.of_all(shape)["check"][1:]
     commands: list[Command] = [[PROGRAM, "check", *words], [PROGRAM, "check", "--sha256", *words]]
@@ -350,8 +354,8 @@ def digests(bench: Bench) -> Table:
 
 def marking(bench: Bench) -> Table:
     """`mark` beside `list` of the same jobs without codes: instructions a byte, and pages."""
-    held = ["`list`, pages", "`mark`, pages", "`mark`, KB"] if bench.can_weigh else []
-    table = Table("mark", "job", "`list`", "`mark`", "times", "kept", *held)
+    held = ["list, pages", "mark, pages", "mark, KB"] if bench.can_weigh else []
+    table = Table("mark", "job", "list", "mark", "times", "kept", *held)
     for shape in JOBS:
         gsi = bench.file(job_file(shape))
         commands: list[Command] = [[PROGRAM, "list", gsi], [PROGRAM, "mark", gsi]]
@@ -378,11 +382,11 @@ def parts(bench: Bench) -> Table:
         (bench.folder / "job.gsi").write_text(job_file(shape), newline="")
         for name, words in asked.items():
             most = [
-                f"`{function}` {share:.0f}"
+                f"{function} {share:.0f}"
                 for function, share in shares([PROGRAM, *words], bench.folder)
                 if share >= LEAST_SHARE
             ]
-            table.add([shape.name(), f"`{name}`", ", ".join(most)])
+            table.add([shape.name(), name, ", ".join(most)])
     return table
 
 
@@ -397,7 +401,7 @@ TABLES = {
     "parts": parts,
 }
 
-# What each is called on the page, and what it shows.
+# What each is called in the file, and what it shows.
 TITLES = {
     "clock": (
         "By the clock",
@@ -406,19 +410,19 @@ TITLES = {
     "instructions": (
         "In instructions",
         "A byte of the field file, less what the same command takes on empty files; then how much "
-        "that is of *plain* and of *tuned*. The bytes of the sheet don't count: on small files, where "
-        "it is a large part of what is read or written, `means` and `check` cost the most a byte.",
+        "that is of plain and of tuned. The bytes of the sheet don't count: on small files, where "
+        "it is a large part of what is read or written, means and check cost the most a byte.",
     ),
     "adjusting": (
         "Directions, and what prints more",
-        "Milliseconds, and millions of instructions of the whole process. *Plain* and *tuned* have "
-        "none of these but `means`.",
+        "Milliseconds, and millions of instructions of the whole process. Plain and tuned have "
+        "none of these but means.",
     ),
-    "rows": ("Rows", "`list --csv` beside `list`: milliseconds, and millions of instructions."),
-    "digests": ("Digests", "Milliseconds. Without `--sha256` nothing is digested."),
+    "rows": ("Rows", "list --csv beside list: milliseconds, and millions of instructions."),
+    "digests": ("Digests", "Milliseconds. Without --sha256 nothing is digested."),
     "mark": (
         "Mark",
-        "Jobs without codes, beside `list` of the same job, which finds no set there: milliseconds, "
+        "Jobs without codes, beside list of the same job, which finds no set there: milliseconds, "
         "instructions a byte, and the pages of memory that were brought in.",
     ),
     "parts": (
@@ -451,24 +455,39 @@ def machine() -> str:
     return f"{os.cpu_count()} threads of {name or 'an unknown processor'}{kind}"
 
 
-def tables_of(page: str) -> dict[str, str]:
-    """The tables of a page by their names, each with what is said of how it was measured."""
-    parts = [part.split("\n", 1) for part in page.split("\n## ")[1:]]
-    bodies = {title: body[body.index(BEGIN) :].rstrip("\n") for title, body in parts}
-    return {name: bodies[title] for name, (title, _) in TITLES.items() if title in bodies}
+def tables_of(data: str) -> dict[str, str]:
+    """The tables of a file by their names, each with what is said of how it was measured."""
+    parts = [part.split("]", 1) for part in data.split("\n[")[1:]]
+    return {name: body[body.index(BEGIN) :].rstrip("\n") for name, body in parts}
 
 
-def page_of(tables: dict[str, str]) -> str:
-    """The page that has these tables."""
-    titled = [(*TITLES[name], tables[name]) for name in TITLES if name in tables]
-    return HEAD + "".join(f"\n## {title}\n\n{what}\n\n{made}\n" for title, what, made in titled)
+def data_of(tables: dict[str, str]) -> str:
+    """The file that has these tables."""
+    titled = [(name, *TITLES[name], tables[name]) for name in TITLES if name in tables]
+    return HEAD + "".join(f"\n[{name}] {title}. {what}\n{made}\n" for name, title, what, made in titled)
 
 
 def write_part(table: Table, said: str) -> None:
-    """Puts a table into the page, below what is said of how it was measured. The others stay."""
-    tables = tables_of(PAGE.read_text()) if PAGE.exists() else {}
-    tables[table.name] = "\n".join([said, "", *map(line_of, table.rows)])
-    PAGE.write_text(page_of(tables))
+    """Puts a table into the file, below what is said of how it was measured, and what is shown of it
+    into the page. The others stay."""
+    tables = tables_of(DATA.read_text()) if DATA.exists() else {}
+    tables[table.name] = "\n".join([said, *("\t".join(row) for row in table.rows if row[0] != "---")])
+    DATA.write_text(data_of(tables))
+    PAGE.write_text(with_short(PAGE.read_text(), tables))
+
+
+def short_of(tables: dict[str, str]) -> str:
+    """What the page shows of the tables: the commands of one file by the clock."""
+    commit, heads, *rows = [line.split("\t") for line in tables["clock"].splitlines()]
+    places = [heads.index(head) for head in ["command", *SHORT_HEADS]]
+    shown = [[row[place] for place in places] for row in rows if row[0] == SHORT]
+    table = [["Command", *SHORT_HEADS], ["---"] * len(places), *shown]
+    return f"Of {SHORT}, by the clock ({commit[0].split(',')[0].lower()}):\n\n" + "\n".join(map(line_of, table))
+
+
+def with_short(page: str, tables: dict[str, str]) -> str:
+    """The page with what it shows of these tables."""
+    return re.sub(rf"Of {SHORT}, by the clock .*\n\n(?:\|.*\n)+", lambda _: f"{short_of(tables)}\n", page)
 
 
 def build(source: Path, folder: Path) -> Path:
@@ -519,7 +538,7 @@ def main() -> int:
     parser.add_argument("--turns", type=int, default=25, help=turns)
     only = "only this table; it may be said more than once"
     parser.add_argument("--only", action="append", choices=TABLES, help=only)
-    page = f"put the tables into {PAGE.relative_to(ROOT)}"
+    page = f"put the tables into {DATA.relative_to(ROOT)}"
     parser.add_argument("--page", action="store_true", help=page)
     options = parser.parse_args()
     if not os.access(PROGRAM, os.X_OK):

@@ -20,6 +20,9 @@ from shapes import Shape
 SAME = "#!/bin/sh\necho of $1\n"
 OTHER = "#!/bin/sh\necho of other $1\n"
 
+# The heads of a table that has what the page shows.
+HEADS = ["file", "command", *bench.SHORT_HEADS, "of tuned"]
+
 
 class BenchTest(ProgramTest):
     def program(self, name, text=SAME):
@@ -100,29 +103,30 @@ class BenchTest(ProgramTest):
             self.assertEqual([True] * marks, [mark.is_kept() for mark in one.marks])
             self.assertIn(f"no program tuned was named: marks are beside {beside}\n", said)
 
-    def test_the_page_of_what_was_measured_is_made(self):
-        """All of it but the tables themselves stands in bench.py."""
-        page = bench.PAGE.read_text()
+    def test_the_file_of_what_was_measured_is_made_and_the_page_shows_some(self):
+        """All of the file but the tables themselves stands in bench.py."""
+        data, page = bench.DATA.read_text(), bench.PAGE.read_text()
         self.assertEqual([*bench.TABLES], [*bench.TITLES])
-        self.assertEqual([*bench.TABLES], [*bench.tables_of(page)])
-        self.assertEqual(page, bench.page_of(bench.tables_of(page)))
+        self.assertEqual([*bench.TABLES], [*bench.tables_of(data)])
+        self.assertEqual(data, bench.data_of(bench.tables_of(data)))
+        self.assertIn(bench.short_of(bench.tables_of(data)), page)
 
     def test_a_table_is_put_into_its_place_and_the_others_stay(self):
-        page, was = self.folder / "page.md", bench.PAGE.read_text()
+        data, page, was = self.folder / "data.txt", self.folder / "page.md", bench.DATA.read_text()
+        shown = bench.PAGE.read_text()
         for name in bench.TABLES:
-            with self.subTest(name), mock.patch.object(bench, "PAGE", page):
+            with self.subTest(name), mock.patch.multiple(bench, DATA=data, PAGE=page):
                 with mock.patch.object(sys, "stdout", io.StringIO()):
-                    table = bench.Table(name, "a", "b")
-                    table.add(["1", "2"])
+                    table = bench.Table(name, *HEADS)
+                    table.add(row := [bench.SHORT, *"123456"])
                 said = "Commit 1, measured so."
-                made = {name: f"{said}\n\n| a | b |\n| --- | --- |\n| 1 | 2 |"}
-                page.write_text(was)
+                made = {name: "\n".join([said, "\t".join(HEADS), "\t".join(row)])}
+                data.write_text(was)
+                page.write_text(shown)
                 bench.write_part(table, said)
-                self.assertEqual(bench.page_of({**bench.tables_of(was), **made}), page.read_text())
-                page.unlink()
-                bench.write_part(table, said)
-                self.assertEqual(bench.page_of(made), page.read_text())
-                self.assertEqual(made, bench.tables_of(page.read_text()))
+                self.assertEqual(bench.data_of({**bench.tables_of(was), **made}), data.read_text())
+                self.assertEqual(name != "clock", page.read_text() == shown)
+                self.assertIn(bench.short_of({**bench.tables_of(was), **made}), page.read_text())
 
     def test_the_page_of_speed_has_the_marks(self):
         page = (ROOT / "bench" / "README.md").read_text()

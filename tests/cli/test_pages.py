@@ -69,7 +69,6 @@ LINKED = [
     ROOT / "README.md",
     *sorted(ROOT.glob("docs/*.md")),
     *sorted(ROOT.glob("crates/*/README.md")),
-    ROOT / "bench" / "MEASURED.md",
     ROOT / "bench" / "README.md",
     ROOT / "conformance" / "README.md",
     ROOT / "examples" / "README.md",
