@@ -57,11 +57,11 @@ What the contracts speak of: which files a verifier reads, in which order. `tool
 
 1. [What an answer says](TRUST.md), in words.
 2. Of an acceptance [the promise](PROMISE.md), in one sitting: its main sentences of the bytes alone, with all their definitions.
-3. The promise as the contract has it, which is one page: of an acceptance [`Accepted`](../crates/station_check/specs/Accepted.antt), of an agreement [`Agreeing`](../crates/station_compare/specs/Agreeing.antt); and what it cites, in the lists below, where each file rests on those before it alone. A contract is as good as its definitions, so they are short, and not the program written again: a relation on a whole line, lines cut at all line ends at once, a sum over rows, 'there is no division into two parts'. Where one does go line by line, a law says the same in another way.
+3. The promise as the contract has it, which is one page: of an acceptance [`Accepted`](../crates/station_check/specs/Accepted.antt), of an agreement [`Agreeing`](../crates/station_compare/specs/Agreeing.antt); and what it cites, in the lists below, where each file rests on those before it alone. They are not the program written again, but a relation on a whole line, a sum over rows, 'there is no division into two parts'; where one does go line by line, a law says the same in another way.
 4. [`check_bytes`](../crates/station_check/src/check.rt), whose contract it is, and [of which bytes](#of-which-bytes-it-is-said) it is said.
 5. [The lines that no contract reaches](TRUST.md#where-the-program-meets-the-system).
 
-That the program keeps the promise is proved, and needs no reading. So whoever believes these definitions, and what [the first page](../README.md#what-is-trusted) says is trusted, may believe an answer.
+Whoever believes these definitions, and what [the first page](../README.md#what-is-trusted) says is trusted, may believe an answer: that the program keeps the promise is proved.
 """
 
 EVERY_READER = """\
@@ -69,10 +69,10 @@ EVERY_READER = """\
 
 A source may *tell* contracts which bytes it still gives, and whether it then fails. A slice does; a file or a terminal tells nothing beforehand. What is promised is said of each alike, and of the very bytes that it gave:
 
-- Every source has *histories*: by number, which bytes it may have given since it was made. Each read adds to all of them what it gave (`Adds`); that no other bytes are in them is not said. `HasGiven` says of a reader that by some reads these were the bytes: its histories have grown by them, and whatever it may give now, it might then have given these bytes and after them that.
-- The contract of `check_bytes` names bytes of the field file and of the sheet that their readers have given so, and keeps the promise of these and of whatever may be left in the readers. Where it accepts, both have ended, so the bytes are all.
-- `check_bytes` is one function for every source, and can't tell which histories a source keeps. So what is proved of it holds of a reader that keeps each byte as of a file, of which the standard library's contract says nothing: an acceptance is of exactly the bytes that `Keeping` kept, whatever reader is under it ([`check_kept`](../crates/station_check/src/kept.rt)). Of functions over the type of a file [a test](TRUST.md#of-which-bytes-it-is-said) has to see.
-- The field file's reader is taken in and dropped: by `UntilDropped` there is a state of it after that of which the promise is kept. That leaves open a read after it, of which no answer tells; `check_sources` gives the reader back, and says it of the very state.
+- Every source has *histories*, which bytes it may have given since it was made; each read adds to all of them what it gave. `HasGiven` says of a reader that by some reads these were the bytes: whatever it may give now, it might then have given these bytes and after them that.
+- The contract of `check_bytes` names bytes that its readers have given so, and keeps the promise of these and of whatever may be left in the readers. Where it accepts, both have ended, so the bytes are all.
+- `check_bytes` is one function for every source, and can't tell which histories a source keeps. So what is proved of a reader that keeps each byte holds of a file, of which the standard library's contract says nothing: an acceptance is of exactly the bytes that `Keeping` kept ([`check_kept`](../crates/station_check/src/kept.rt)). Of functions over the type of a file [a test](TRUST.md#of-which-bytes-it-is-said) has to see.
+- `check_bytes` drops the field file's reader, and speaks of a state before that (`UntilDropped`), which leaves open a read of which no answer tells; `check_sources` gives it back, and says it of the very state.
 - `Digesting` of [`byte_digests`](../crates/byte_digests/README.md) is a source over a source: its first history is what a digest stands for.
 """
 
@@ -274,15 +274,15 @@ def belief_of_printed(known: list[Spec]) -> Iterator[str]:
     """What has to be believed of what is printed, a line for each command."""
     yield "## What you have to believe of what is printed\n"
     yield (
-        "What a command prints means what its file says, with what that cites, however far: files above, "
-        "and others of so many lines.\n"
+        "What a command prints means what its file says, with what that cites: files above, and others of "
+        "so many lines.\n"
     )
     known = list(known)
     for what, root in PRINTED.items():
         promise = Spec(*root)
         more = [spec for spec in closure(promise) if spec not in known]
         lines = sum(spec.lines() for spec in more)
-        yield f"- of {what}: {promise.link} of `{promise.crate}`, {lines:,} lines in {counted(len(more), 'file')}."
+        yield f"- of {what}: {promise.link}, {lines:,} lines in {counted(len(more), 'file')}."
         known += more
     yield ""
 
@@ -305,7 +305,7 @@ def by_name(specs: list[Spec]) -> Iterator[str]:
 
 
 OTHERS = """\
-On the other definitions, of refusals and of how the code keeps things, nothing above rests. `specs/Lib.antt` of each crate lists its files in the order in which a reader needs them, the public ones first.
+On other definitions nothing above rests. `specs/Lib.antt` of each crate lists its files in the order in which a reader needs them, the public ones first.
 """
 
 

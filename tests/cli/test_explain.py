@@ -1,4 +1,4 @@
-"""`explain`: each fault is explained, its example is met, and the page made from it is up to date."""
+"""`explain`: each fault is explained, and its example is met."""
 
 import re
 import sys
@@ -229,9 +229,3 @@ class ExplainTest(ProgramTest):
             "residual changes by that.\n"
         )
         self.assertEqual(expected, explained("Datum"))
-
-
-class PageTest(ProgramTest):
-    def test_the_page_is_up_to_date(self):
-        """Where this fails, `python3 tools/faults.py` makes it anew."""
-        self.assertEqual(faults.guide_page(PROGRAM), faults.GUIDE_PAGE.read_text())

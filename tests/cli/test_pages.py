@@ -14,15 +14,15 @@ import unittest
 from fractions import Fraction
 
 from pages import SHOWN, checked, page_steps
-from program import EXAMPLE, ROOT, TimedTest, answer_of
+from program import EXAMPLE, PROGRAM, ROOT, TimedTest, answer_of
 
-sys.path.insert(0, str(ROOT / "tests"))
+sys.path[:0] = [str(ROOT / name) for name in ("tests", "tools")]
 
+import faults
 import gate
 
 GUIDE = ROOT / "docs" / "GUIDE.md"
 FORMATS = ROOT / "docs" / "FORMATS.md"
-FAULTS = ROOT / "docs" / "FAULTS.md"
 TABLES = ROOT / "docs" / "TABLES.md"
 
 # The bounds that a reader of the formats meets, as the laws of these crates have them in digits; and
@@ -133,13 +133,12 @@ class PagesTest(TimedTest):
 
     def test_the_table_of_refusals_has_each_fault_of_mark_and_each_option_of_prepare(self):
         rows = GUIDE.read_text().partition(REFUSALS)[2].partition("\n\n")[0].splitlines()[1:]
-        faults = set(re.findall(r"`(\w+)`", " ".join(row.split(" | ")[0] for row in rows)))
+        named = set(re.findall(r"`(\w+)`", " ".join(row.split(" | ")[0] for row in rows)))
         section = FORMATS.read_text().partition("### Where sets begin and end")[2].partition("### The code lines")[0]
         of_mark = set(re.findall(r"`([A-Z]\w+)`", " ".join(re.findall(r"^\| (`.*?) \|", section, re.MULTILINE))))
         self.assertGreater(len(of_mark), 20)
-        self.assertEqual(set(), of_mark - faults - OF_A_READING)
-        explained = set(re.findall(r"`(\w+)`", " ".join(re.findall(r"^- (.*?):", FAULTS.read_text(), re.MULTILINE))))
-        self.assertEqual(set(), faults - explained)
+        self.assertEqual(set(), of_mark - named - OF_A_READING)
+        self.assertEqual(set(), named - {fault.name for fault in faults.listed(PROGRAM)})
         sys.path.insert(0, str(ROOT / "examples"))
         help_of_prepare = importlib.import_module("prepare").command_line().format_help()
         options = set(re.findall(r"^  (?:-\w, )?(--[a-z-]+)", help_of_prepare, re.MULTILINE))

@@ -8,8 +8,9 @@ from program import ROOT, TimedTest
 
 REFUSALS = ROOT / "page" / "refusals"
 
-# The page of all faults, made of what the program prints: the first name of each stands here.
-EXPLAINED = re.compile(r"^- `([\w ]+)`", re.MULTILINE)
+# What the program explains: the first name of each fault stands here.
+EXPLANATIONS = ROOT / "crates" / "station_explain" / "src" / "explanations.rt"
+EXPLAINED = re.compile(r'^ +names: &\["([\w ]+)"', re.MULTILINE)
 
 # The languages, of which English says what a fault is in the words of the program.
 LANGUAGES = {"en": {"todo"}, "de": {"what", "todo"}, "fr": {"what", "todo"}}
@@ -23,7 +24,7 @@ class RefusalsTest(TimedTest):
         self.texts = {path.stem: json.loads(path.read_text()) for path in REFUSALS.iterdir()}
 
     def test_each_fault_has_its_texts_in_each_language(self):
-        names = EXPLAINED.findall((ROOT / "docs" / "FAULTS.md").read_text())
+        names = EXPLAINED.findall(EXPLANATIONS.read_text())
         self.assertGreater(len(names), 70)
         self.assertEqual(sorted(LANGUAGES), sorted(self.texts))
         for language, parts in LANGUAGES.items():

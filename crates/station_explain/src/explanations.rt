@@ -1,5 +1,5 @@
 //! What each fault means that the line of a refusal can name: when it comes, a line that names it,
-//! and what to do. The man page and `docs/FAULTS.md` are made from these texts.
+//! and what to do. `explain` prints these texts, and the page shows them.
 
 ghost use Rattle.std.specs.Prelude.{IfSome, IfNone, IsTrue, IsFalse, All, Any, Contains};
 ghost use Rattle.station_explain.specs.Naming.{HasName, HasNameInAnyCase, LacksName};
