@@ -30,20 +30,36 @@ import { zenithsOf } from './zeniths.js';
  * was refused for it: then no residuals are told.
  * @typedef {{ isKept: boolean, residuals?: Answer, command?: string,
  *   greatest?: import('./records.js').Residual }} Judged
- * What is shown of a station, or of a file without one, which is `file`: `readings` counts those of
- * a file without sets, `waiting` has the files that are not checked yet, `isStopped` says that the
- * work was stopped before they were, `unplaced` is the text that says why a file has no place,
- * `marked` the answer when codes were put into a copy, and `recognized` what it told of the card's
- * station, and at the first card of a copy of the stations without sets too; of a job that needs a
- * name what would be recognized by any; of a refused job with several stations what is told of each.
- * @typedef {{ title: string, mood: Mood, file: Input, field?: Input, station?: Station,
- *   answers: Answer[], waiting: Input[], isStopped?: boolean, readings?: number, unplaced?: string,
- *   marked?: Answer, recognized?: import('./records.js').Recognized[], judged?: Judged,
- *   results?: Results }} Card
+ * What every card has: the file that it is of, the answers to results that were handed in, and
+ * `waiting`, those that are not checked yet; `isStopped` says that the work was stopped before they
+ * were. `readings` counts those of a file without sets, `unplaced` is the text that says why a file
+ * has no place, `marked` the answer when codes were put into a copy, and `recognized` what it told of
+ * the card's station, and at the first card of a copy of the stations without sets too; of a job
+ * that needs a name what would be recognized by any; of a refused job with several stations what is
+ * told of each.
+ * @typedef {{ title: string, mood: Mood, file: Input, answers: Answer[], waiting: Input[],
+ *   isStopped?: boolean, readings?: number, unplaced?: string, marked?: Answer,
+ *   recognized?: import('./records.js').Recognized[], judged?: Judged, results?: Results }} AnyCard
+ * A card of a station; one whose results are at hand.
+ * @typedef {AnyCard & { field: Input, station: Station }} StationCard
+ * @typedef {StationCard & { results: Results }} ReadyCard
+ * A card of a field file, which is refused, or has no sets; one of a job into which no codes could
+ * be put.
+ * @typedef {AnyCard & { field: Input, station?: undefined }} FieldCard
+ * @typedef {FieldCard & { marked: Answer }} UnmarkedCard
+ * A card of a file that has no place.
+ * @typedef {AnyCard & { field?: undefined, station?: undefined }} FileCard
+ * @typedef {StationCard | FieldCard | FileCard} Card
  * The results of a station, and the zenith angles that the page itself takes of it.
  * @typedef {{ directions: Answer, residuals: Answer, report: Answer,
  *   zeniths: import('./zeniths.js').Zeniths[] }} Results
  */
+
+/**
+ * Whether a card is that of a station.
+ * @returns {card is StationCard}
+ */
+export const isOfStation = (/** @type {Card} */ card) => card.station !== undefined;
 
 /** Statuses of a call: those of the program's command, and the call's own. */
 export const ACCEPTED = 0, REFUSED = 1, OUT_OF_RANGE = 2, TOO_LITTLE_ROOM = 3;
@@ -83,15 +99,15 @@ async function answered({ status, text }, about) {
  * table after its workbook.
  */
 export const filesOf = (/** @type {Card} */ { field, answers }) =>
-  [field, ...answers.map(answer => answer.other)].filter(file => file !== undefined)
-    .flatMap(file => file.original ? [file.original, file] : [file]);
+  [field, ...answers.map(answer => answer.other)]
+    .flatMap(file => file ? file.original ? [file.original, file] : [file] : []);
 
 // ---------------------------------------------------------------- field files
 
 /**
  * A card of a file of which nothing is known yet.
  * @param {Input} file
- * @returns {Card}
+ * @returns {FileCard}
  */
 const cardOfFile = file =>
   ({ title: file.shown, mood: 'open', file, answers: [], waiting: [] });
@@ -130,7 +146,7 @@ async function cardsWithoutSets(field, limits) {
   if (readings === 0 || field.original) return [card];
   const marked = await answerOfMark(field, field.station);
   if (isWithoutName(marked)) return [{ ...card, ...await tried(marked) }];
-  if (marked.status !== ACCEPTED) return [{ ...card, marked, recognized: toldBeside(marked) }];
+  if (!marked.other) return [{ ...card, marked, recognized: toldBeside(marked) }];
   const told = recognizedIn(marked.line), cards = await cardsOfField(marked.other, limits);
   return cards.map((one, nth) => {
     const recognized = told.filter(({ station, sets }) =>
@@ -165,10 +181,10 @@ async function tried(marked) {
 }
 
 /** What a refusal told of each station, where there are several. */
-const toldBeside = (/** @type {Answer} */ { told }) => told.length > 1 ? told : undefined;
+const toldBeside = (/** @type {Answer} */ { told = [] }) => told.length > 1 ? told : undefined;
 
 /** Whether some stations may be left outside, and the others marked. */
-export const mayLeaveOut = (/** @type {Answer} */ { told, field }) =>
+export const mayLeaveOut = (/** @type {Answer} */ { told = [], field }) =>
   !field.others && told.some(({ sets }) => sets > 0) && told.some(({ fault }) => fault)
   && !told.some(({ fault }) => fault === 'StationTwice');
 
@@ -187,7 +203,7 @@ const numbersOf = ({ numbers = new Map() }, which) => [...numbers]
  * @param {Input} field
  * @param {import('./records.js').Recognized[]} told
  */
-function forgets({ numbers }, told) {
+function forgets({ numbers = new Map() }, told) {
   const there = told.filter(({ sets, fault }) => sets > 0 || fault).map(({ station }) => station);
   const gone = [...numbers.keys()].filter(name => name && !there.includes(name));
   for (const name of gone) numbers.delete(name);
@@ -218,7 +234,7 @@ async function answerOfMark(field, station = '') {
   ];
   const command = `${commandOf('mark', [], {}, [field.name], stated)} > ${copy}`;
   // At a refusal its line comes after what is told of each station.
-  const text = status === ACCEPTED ? beside : beside.trimEnd().split('\n').at(-1);
+  const text = status === ACCEPTED ? beside : beside.trimEnd().split('\n').at(-1) ?? '';
   const told = recognizedIn(beside);
   const isGone = /: mark: NoSuchStation$/.test(text);
   if (isGone && forgets(field, told)) return answerOfMark(field, station);
@@ -246,7 +262,7 @@ async function answerOfSheet(sheet, field, station, limits) {
   const files = [field.name, sheet.name];
   const command = commandOf('check', ['twoC', 'twoI', 'residual'], limits, files);
   const answer = await answered(reply, { asked: 'check', field, other: sheet, station, command });
-  if (answer.status !== ACCEPTED) return answer;
+  if (answer.status !== ACCEPTED || !station) return answer;
   const residuals = await residualsOf(station, limits);
   if (residuals.status !== ACCEPTED) return answer;
   return { ...answer, greatest: greatestOf(residualsIn(residuals.line)) };
@@ -426,12 +442,12 @@ async function placeFile(file, cards, fields, stations, limits) {
   const lone = field ?? (fields.length === 1 ? fields[0] : undefined);
   const blocked = lone && !stations.some(one => one.field === lone);
   if (blocked) {
-    cards.find(card => card.field === lone).waiting.push(file);
-  } else if (isSheet ? !field : !station) {
+    cards.find(card => card.field === lone)?.waiting.push(file);
+  } else if (!field) {
     const unplaced = isSheet || stations.length === 0 ? 'noFieldFor' : 'noStationFor';
     cards.push({ ...cardOfFile(file), unplaced });
   } else {
-    const answer = isSheet
+    const answer = isSheet || !station
       ? await answerOfSheet(file, field, station, limits)
       : await answerOfTable(file, station, limits);
     let card = cards.find(one => station && one.station === station);
@@ -478,7 +494,7 @@ async function reportOf(/** @type {Station} */ station, /** @type {Limits} */ li
 
 /**
  * The results of a station: asked for when they are first shown.
- * @param {Card} card
+ * @param {StationCard} card
  * @param {Limits} limits
  * @returns {Promise<Results>}
  */
@@ -491,7 +507,7 @@ export async function resultsOf({ station }, limits) {
 
 /** The zenith angles of a station, of which the report is there. */
 async function zenithsIn(/** @type {Station} */ { field, listed, report }) {
-  if (report.status !== ACCEPTED || field.bytes.length > MOST_ANGLES) return [];
+  if (report?.status !== ACCEPTED || field.bytes.length > MOST_ANGLES) return [];
   const { text } = await ask('angles', field.bytes, listed.name);
   return zenithsOf(text, readingsOf(report.line));
 }

@@ -3,6 +3,7 @@ import {
   ACCEPTED, OUT_OF_RANGE, REFUSED, filesOf, isCountedOtherwise, isTwice, isUncounted, isWithoutName,
   mayLeaveOut, meansOf, moodOfAnswer,
 } from './answers.js';
+import { handOnTo } from './drawing.js';
 import { button, element, menuOf, ofProgram, save } from './elements.js';
 import { originalOf, stemOf, textOf } from './files.js';
 import {
@@ -23,14 +24,16 @@ import { text } from './texts.js';
 
 /**
  * @typedef {import('./answers.js').Card} Card
+ * @typedef {import('./answers.js').StationCard} StationCard
+ * @typedef {import('./answers.js').ReadyCard} ReadyCard
+ * @typedef {import('./answers.js').UnmarkedCard} UnmarkedCard
  * @typedef {import('./answers.js').Answer} Answer
- * What a card asks of the page: the limits, to load its results, to give the keyboard its place
- * where that is among what was shown now, what its protocol says of what else was handed in, to
- * print it, to name the station of a field file, or the code whose blocks begin its stations, to
- * state the numbers of sets and targets of stations, what one is whose name comes again, or that
- * stations that aren't recognized stay outside.
- * @typedef {{ limits: import('./limits.js').Limits, load: (card: Card) => Promise<void>,
- *   regain: () => void, beside: (card: Card) => string[], print: (card: Card) => void,
+ * What a card asks of the page: the limits, to load its results, what its protocol says of what
+ * else was handed in, to print it, to name the station of a field file, or the code whose blocks
+ * begin its stations, to state the numbers of sets and targets of stations, what one is whose name
+ * comes again, or that stations that aren't recognized stay outside.
+ * @typedef {{ limits: import('./limits.js').Limits, load: (card: StationCard) => Promise<void>,
+ *   beside: (card: Card) => string[], print: (card: Card) => void,
  *   name: (field: Input, station: string) => void,
  *   begin: (field: Input, code: string) => void,
  *   count: (field: Input, stations: string[], numbers: import('./files.js').Numbers) => void,
@@ -48,7 +51,7 @@ import { text } from './texts.js';
  * @param {{ command: string, line?: string, status?: number }} answer
  * @param {Element} parent
  */
-function showCommand({ line, command, status }, parent) {
+function showCommand({ line = '', command, status = OUT_OF_RANGE }, parent) {
   const part = element('dl', '', parent, { className: 'exact' });
   if (status <= REFUSED) {
     element('dt', text('program'), part);
@@ -68,7 +71,7 @@ function showAnswer(answer, card, parent) {
   const { status, line, other, explanation } = answer;
   const part = element('div', '', parent, { className: `answer ${moodOfAnswer(answer, card)}` });
   if (other) element('p', other.shown, part, { className: 'label name' });
-  if (other?.original) showTaken(other, part);
+  if (other?.original) showTaken(other, other.original, part);
   const headline = element('h3', headlineOf(answer), part, { className: 'headline' });
   if (status === REFUSED && !isApart(line) && explanation) {
     headline.append(' ');
@@ -86,11 +89,12 @@ const FEW_ROWS = 12;
 /**
  * What was taken of a workbook, before anything is said of it: nothing of that is proved.
  * @param {Input} table
+ * @param {Input} workbook
  * @param {Element} parent
  */
-function showTaken({ original, name, bytes }, parent) {
+function showTaken({ name, bytes }, workbook, parent) {
   const rows = textOf(bytes), part = element('div', '', parent, { className: 'marked' });
-  element('p', text('takenFrom', { name: original.shown }), part);
+  element('p', text('takenFrom', { name: workbook.shown }), part);
   const open = rows.split('\n').length <= FEW_ROWS, fold = element('details', '', part, { open });
   element('summary', text('taken'), fold);
   element('pre', rows, fold);
@@ -106,7 +110,7 @@ function showTaken({ original, name, bytes }, parent) {
  */
 function showJudged(card, desk, parent) {
   const said = judgedText(card, desk.limits), { judged, station } = card;
-  if (!said) return;
+  if (!judged?.residuals) return;
   if (judged.isKept) {
     element('p', said, parent);
     return;
@@ -114,7 +118,7 @@ function showJudged(card, desk, parent) {
   const part = element('div', '', parent, { className: 'answer bad' });
   element('h3', said, part, { className: 'headline' });
   showFault({ ...judged.residuals, station }, part);
-  showCommand(judged.greatest ? { command: judged.command } : judged.residuals, part);
+  showCommand(judged.command ? { command: judged.command } : judged.residuals, part);
 }
 
 // ---------------------------------------------------------------- results
@@ -122,7 +126,7 @@ function showJudged(card, desk, parent) {
 /**
  * What is said of a saved report, which has the largest limit of residuals, where another is in
  * force.
- * @param {Card} card
+ * @param {StationCard} card
  * @param {import('./limits.js').Limits} limits
  */
 function ofReport({ station, field }, limits) {
@@ -134,7 +138,7 @@ function ofReport({ station, field }, limits) {
 
 /**
  * What can be saved of a station, and printed.
- * @param {Card} card
+ * @param {ReadyCard} card
  * @param {Desk} desk
  * @param {Element} parent
  */
@@ -145,16 +149,20 @@ function showButtons(card, desk, parent) {
   const menu = menuOf(text('save'), part);
   const said = element('p', '', parent, { className: 'quiet' });
   said.setAttribute('role', 'status');
+  const saved = originalOf(field).saved ??= new Map();
+  const say = () => { said.textContent = saved.get(name)?.() ?? ''; };
+  say();
   /**
-   * @type {(label: string, file: string, content: Content, type?: string, more?: string)
+   * @type {(label: string, file: string, content: Content, type?: string, more?: () => string)
    *   => Element}
    */
-  const offer = (label, file, content, type = 'text/csv', more = '') =>
+  const offer = (label, file, content, type = 'text/csv', more = () => '') =>
     button(text(label), menu, async () => {
       const whole = await content();
       if (whole === null) return;
       save(file, whole, type);
-      said.textContent = `${text('saved', { name: file })} ${more}`.trimEnd();
+      saved.set(name, () => `${text('saved', { name: file })} ${more()}`.trimEnd());
+      say();
     });
   const protocol = `${nameOfProtocol(card)}.html`;
   offer('saveProtocol', protocol, () => protocolFile(card, desk.limits, desk.beside(card)),
@@ -172,10 +180,11 @@ function showButtons(card, desk, parent) {
   }
   if (results.report.status === ACCEPTED) {
     const content = () => `${results.report.line}\n`;
-    offer('saveReport', `${name}_report.txt`, content, 'text/plain', ofReport(card, desk.limits));
+    const more = () => ofReport(card, desk.limits);
+    offer('saveReport', `${name}_report.txt`, content, 'text/plain', more);
   }
   for (const { differences, other } of card.answers) {
-    const file = `${stemOf(other)}_differences.csv`;
+    const file = `${stemOf(other ?? field)}_differences.csv`;
     if (differences) offer('saveDifferences', file, () => differences);
   }
   offer('saveFaces', `${name}_faces.csv`, () => facesFile(station));
@@ -187,9 +196,8 @@ function showButtons(card, desk, parent) {
 }
 
 /**
- * The results, which are asked for when they are first opened; those that are there already are
- * shown at once, so that the keyboard finds its place again.
- * @param {Card} card
+ * The results, which are asked for when they are first opened.
+ * @param {StationCard} card
  * @param {Desk} desk
  * @param {boolean} isOpen
  * @param {Element} parent
@@ -200,26 +208,20 @@ function showOpening(card, desk, isOpen, parent) {
   const names = ['directions', 'residuals', 'faces'].map(name => text(name));
   element('summary', names.join(' · '), part);
   let isFilled = false;
-  const fill = async () => {
-    if (isFilled) return;
-    isFilled = true;
-    if (!card.results) await desk.load(card);
-    isFilled = card.results !== undefined;
-    if (isFilled) {
-      showButtons(card, desk, part);
-      await showResultsInTurn(card, part);
+  part.open = isOpen;
+  // (the browser tells of the first state too)
+  part.ontoggle = async () => {
+    if (!part.open || isFilled) return;
+    const { results } = card;
+    isFilled = results !== undefined;
+    // (the card is drawn anew when they are there)
+    if (!results) await desk.load(card);
+    else {
+      showButtons({ ...card, results }, desk, part);
+      await showResultsInTurn({ ...card, results }, part);
     }
     part.classList.add('filled');
-    desk.regain();
-  };
-  let was = part.open = isOpen;
-  if (isOpen) fill();
-  part.ontoggle = () => {
-    const field = originalOf(card.field);
-    // (the browser tells of the first state too)
-    if (part.open !== was) (field.opened ??= new Map()).set(card.title, part.open);
-    was = part.open;
-    if (part.open) fill();
+    handOnTo(part);
   };
 }
 
@@ -228,18 +230,19 @@ function showOpening(card, desk, isOpen, parent) {
 /**
  * What was recognized in a job without codes, to be compared with the field book, and the copy to
  * be saved.
- * @param {Card} card
+ * @param {Answer} marked
+ * @param {Input} copy
+ * @param {import('./records.js').Recognized[]} recognized
  * @param {Desk} desk
  * @param {Element} parent
  */
-function showMarked({ marked, recognized }, desk, parent) {
-  const { line, other, field, command } = marked;
+function showMarked({ line, field, command }, copy, recognized, desk, parent) {
   const part = element('div', '', parent, { className: 'marked' });
   element('p', text('markedCopy', { name: field.shown }), part, { className: 'label' });
   for (const said of recognized.flatMap(recognizedTexts)) element('p', said, part);
   element('p', text('compareBook'), part);
   const buttons = element('div', '', part, { className: 'buttons' });
-  button(text('saveMarked'), buttons, () => save(other.name, other.bytes, 'text/plain'));
+  button(text('saveMarked'), buttons, () => save(copy.name, copy.bytes, 'text/plain'));
   if (field.station) askName(field, desk, 'changeName', buttons);
   if (field.code) askCode(field, desk, 'changeCode', buttons);
   const counted = ['', ...recognized.map(({ station }) => station)];
@@ -361,11 +364,11 @@ function askSetUp(field, station, name, desk, parent) {
  * Asks for what the fault of a station needs to be stated, if it needs anything: just below what is
  * told of it.
  * @param {import('./records.js').Recognized} told
- * @param {Card} card
+ * @param {UnmarkedCard} card
  * @param {Desk} desk
  * @param {Element} parent
  */
-function askOf(told, { field, recognized }, desk, parent) {
+function askOf(told, { field, recognized = [] }, desk, parent) {
   const { station, fault } = told, before = recognized.slice(0, recognized.indexOf(told));
   const isCounted = (/** @type {typeof told} */ one) => one.station === station
     && (one.sets > 0 || one.fault);
@@ -381,7 +384,7 @@ function askOf(told, { field, recognized }, desk, parent) {
 
 /**
  * Why the sets of a job without codes are not recognized, and what to do.
- * @param {Card} card
+ * @param {UnmarkedCard} card
  * @param {Desk} desk
  * @param {Element} parent
  */
@@ -406,7 +409,7 @@ function showUnmarked(card, desk, parent) {
   if (mayLeaveOut(marked)) button(text('leaveOut'), parent, () => desk.leaveOut(field, true));
   if (!isAsked && field.station) askName(field, desk, 'changeName', parent);
   if (!isAsked && field.code) askCode(field, desk, 'changeCode', parent);
-  const outside = text('outside', { n: card.readings });
+  const outside = text('outside', { n: card.readings ?? 0 });
   if (!recognized) element('p', outside, parent, { className: 'quiet' });
   showCommand(marked, parent);
 }
@@ -427,13 +430,13 @@ function askAlone(marked, desk, parent) {
 
 /**
  * What is to be done of a field file without sets.
- * @param {Card} card
+ * @param {import('./answers.js').FieldCard} card
  * @param {Desk} desk
  * @param {Element} parent
  */
 function showTodo(card, desk, parent) {
   if (card.readings === 0) element('p', text('noReadings'), parent);
-  else if (card.marked) showUnmarked(card, desk, parent);
+  else if (card.marked) showUnmarked({ ...card, marked: card.marked }, desk, parent);
 }
 
 function showDigests(/** @type {Card} */ card, /** @type {Element} */ parent) {
@@ -448,31 +451,35 @@ function showDigests(/** @type {Card} */ card, /** @type {Element} */ parent) {
   }
 }
 
+/** By what a card is known, whatever else is answered. */
+export const keyOfCard = (/** @type {Card} */ { file, title }) =>
+  `${originalOf(file).shown} ${title}`;
+
 /**
  * Shows a card.
  * @param {Card} card
  * @param {Desk} desk
- * @param {boolean} isFew whether its results are open where the user has not said it
+ * @param {boolean} isFew whether its results are open at first
  * @param {Element} parent
  */
 export function showCard(card, desk, isFew, parent) {
   const part = element('article', '', parent, { className: `card ${card.mood}` });
-  part.dataset.key = `${originalOf(card.file).shown} ${card.title}`;
   const head = element('header', '', part);
   element('span', text(MOODS[card.mood]), head, { className: 'mood' });
   part.setAttribute('aria-label', titleOf(card));
   element('h2', titleOf(card), head, { className: card.station ? '' : 'name' });
   if (card.station) element('span', card.field.shown, head, { className: 'quiet name' });
-  if (card.marked?.other) showMarked(card, desk, part);
+  const { marked, recognized = [] } = card;
+  if (marked?.other) showMarked(marked, marked.other, recognized, desk, part);
   for (const answer of card.answers) showAnswer(answer, card, part);
   if (card.answers.length === 0)
     element('h3', headlineOfCard(card), part, { className: 'headline' });
   showJudged(card, desk, part);
   if (card.station && card.answers.length === 0) element('p', text('nothingCompared'), part);
-  if (card.readings !== undefined) showTodo(card, desk, part);
+  if (card.field && !card.station && card.readings !== undefined) showTodo(card, desk, part);
   if (card.waiting.length > 0) element('p', waitingText(card), part);
   else if (card.isStopped) element('p', text('notJudged'), part);
-  const opened = card.station && originalOf(card.field).opened?.get(card.title);
-  if (card.station) showOpening(card, desk, opened ?? isFew, part);
+  if (card.station) showOpening(card, desk, isFew, part);
   showDigests(card, part);
+  return part;
 }

@@ -15,15 +15,15 @@ import { each, recordsOf } from './records.js';
  * only one by no name, and `typing` what is being typed of them. `code` is the one whose blocks
  * begin stations, `again` what a name that comes again is; `others` says whether stations that
  * aren't recognized stay outside.
- * `opened` says of the stations of a field file by their names whether the user opened or closed
- * their results, and `unfolded` has those whose readings are. The digest is there once the file was
+ * `saved` says of the stations of a field file by their names what was saved of them last, and
+ * `unfolded` has those whose readings the user unfolded. The digest is there once the file was
  * judged.
  * @typedef {{ name: string, path: string, handle?: any, shown: string, bytes: Uint8Array,
  *   kind: Kind, digest: string, choice?: { field: Input, name: string }, station?: string,
  *   typed?: string, original?: Input, taken?: Input,
  *   numbers?: Map<string, Numbers>, typing?: Map<string, Record<string, string>>, code?: string,
  *   typedCode?: string, again?: Again, others?: boolean,
- *   opened?: Map<string, boolean>, unfolded?: Set<string> }} Input
+ *   saved?: Map<string, () => string>, unfolded?: Set<string> }} Input
  * How many sets were read to the end at a station, and how many targets they have: each 0 where it
  * is not stated.
  * @typedef {{ sets: number, targets: number }} Numbers

@@ -86,7 +86,9 @@ export const countsOf = ({ sets, targets, directions }) => ({
 function setsText(/** @type {import('./records.js').Recognized} */ one) {
   const { station, sets, targets, opening, turning, before, after, fault, block } = one;
   if (fault)
-    return text('recognizedNot', { station, block, fault: nameOrWhat(fault), n: after });
+    return text('recognizedNot', {
+      station, block: String(block), fault: nameOrWhat(fault), n: after,
+    });
   if (sets + after === 0) return text('recognizedUnread', { station });
   if (sets === 0) return text('recognizedNone', { station, n: after });
   const about = { station, opening, turning, ...countsOf({ sets, targets, directions: 0 }) };
@@ -101,7 +103,7 @@ export function recognizedTexts(/** @type {import('./records.js').Recognized} */
   return [
     setsText(one),
     ...isAgain ? [text('recognizedAgain', { station: one.station })] : [],
-    ...missing > 0 ? [text('recognizedMissing', { n: missing, full })] : [],
+    ...missing > 0 ? [text('recognizedMissing', { n: missing, full: full ?? 0 })] : [],
     ...others > 0 ? [text('recognizedOthers', { n: others })] : [],
     ...isOpenedAgain ? [text('recognizedOpenedAgain', { opening })] : [],
     ...equal.map(pair => text('recognizedEqual', pair)),

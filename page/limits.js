@@ -9,8 +9,9 @@ import { text } from './texts.js';
  * none is stated.
  * @typedef {{ id: string, label: string, per: number, usual: number | null, least: number,
  *   most: number }} Limit
- * The limits in force, in units: null where none is stated.
- * @typedef {Record<string, number | null>} Limits
+ * The limits in force, in units: that of tables is null where none is stated.
+ * @typedef {Record<string, number | null> & { twoC: number, twoI: number, residual: number,
+ *   within: number | null, decimals: number }} Limits
  */
 
 /** @type {Record<string, Limit>} */
@@ -45,7 +46,8 @@ function numberOf(/** @type {string} */ name) {
 }
 
 /** The limits in force; undefined where a field is wrong. */
-export const limitsNow = () => Object.fromEntries(NAMES.map(name => [name, numberOf(name)]));
+export const limitsNow = () => /** @type {Limits} */ (
+  Object.fromEntries(NAMES.map(name => [name, numberOf(name)])));
 
 /** What is wrong of the limits, in words; nothing where all are right. Each field says so too. */
 export function wrongLimit() {
@@ -84,9 +86,9 @@ export function limitsLine(limits, { residual, within }) {
 }
 
 /** A limit as the program takes it: in mgon, where it is one. */
-function statedOf(/** @type {string} */ name, /** @type {number} */ units) {
+function statedOf(/** @type {string} */ name, /** @type {number | null} */ units) {
   const { per } = LIMITS[name];
-  return per === 1 ? String(units) : `${mgonOf(units, per)}mgon`;
+  return per === 1 || units === null ? String(units) : `${mgonOf(units, per)}mgon`;
 }
 
 /**
@@ -94,7 +96,7 @@ function statedOf(/** @type {string} */ name, /** @type {number} */ units) {
  * not the usual ones.
  * @param {string} command
  * @param {string[]} names
- * @param {Limits} limits
+ * @param {Partial<Limits>} limits
  * @param {string[]} operands
  * @param {string[]} [more] further options
  */
@@ -102,7 +104,7 @@ export function commandOf(command, names, limits, operands, more = []) {
   const isStated = (/** @type {string} */ name) =>
     name === 'residual' || limits[name] !== LIMITS[name].usual;
   const options = names.filter(isStated)
-    .flatMap(name => [`--${LIMITS[name].id}`, statedOf(name, limits[name])]);
+    .flatMap(name => [`--${LIMITS[name].id}`, statedOf(name, limits[name] ?? null)]);
   const rest = operands.some(word => word.startsWith('-')) ? ['--'] : [];
   const words = [...options, ...more.map(quoted), ...rest, ...operands.map(quoted)];
   return ['station_check', command, ...words].join(' ');

@@ -30,10 +30,10 @@ function accuracyOf(/** @type {Card} */ { station }) {
  */
 export function overviewTable(cards, fill, parent) {
   const rows = cards.map(card => {
-    const { station, field, mood } = card, said = { text: text(MOODS[mood]), mark: `said ${mood}` };
+    const { station, mood } = card, said = { text: text(MOODS[mood]), mark: `said ${mood}` };
     const counts = [station?.listed.sets ?? NONE, station?.listed.targets ?? NONE].map(String);
     const numbers = [...accuracyOf(card), ...counts].map(one => ({ text: one }));
-    return ['', said, ...numbers, { text: station ? originalOf(field).shown : NONE }];
+    return ['', said, ...numbers, { text: station ? originalOf(station.field).shown : NONE }];
   });
   const names = ['stationOrFile', 'answer', 'greatestResidual', 's', 'sets', 'targetsRead'];
   const heads = [...names, 'fieldFile'].map(name => text(name));

@@ -13,7 +13,7 @@ export function bytesOfText(/** @type {string} */ text) {
     // (what is missing at the end is as if it were the last letter)
     const letters = text.slice(5 * group, 5 * group + 5).padEnd(5, LETTERS.at(-1));
     let four = 0;
-    for (const letter of letters) four = LETTERS.length * four + values.get(letter);
+    for (const letter of letters) four = LETTERS.length * four + (values.get(letter) ?? 0);
     view.setUint32(4 * group, four);
   }
   return new Uint8Array(view.buffer, 0, text.length - groups);

@@ -1,6 +1,7 @@
-// What the user does: files come in, limits are stated, and each time the cards are made anew.
-import { judge, makeCards, resultsOf } from './answers.js';
-import { showCard } from './cards.js';
+// What the user does: files come in, limits are stated. All that is shown is drawn of one state.
+import { isOfStation, judge, makeCards, resultsOf } from './answers.js';
+import { keyOfCard, showCard } from './cards.js';
+import { isOther, redraw, redrawEach } from './drawing.js';
 import { button, element, save } from './elements.js';
 import { HEAD, isChosen, isUsed, kindOf, originalOf, placeName, tellApart } from './files.js';
 import { dropped, givenBy, givenOf } from './gather.js';
@@ -13,69 +14,118 @@ import {
 } from './protocol.js';
 import { exampleFiles, readTexts } from './stored.js';
 import { LANGUAGES, languageOf, speak, spoken, text } from './texts.js';
-import { Stopped, start, stop } from './work.js';
+import { Stopped, isAsked, start, stop } from './work.js';
 import { withTable } from './workbook.js';
 
 /**
  * @typedef {import('./files.js').Input} Input
  * @typedef {import('./answers.js').Card} Card
+ * @typedef {import('./answers.js').StationCard} StationCard
  */
 
-const $ = (/** @type {string} */ id) => document.getElementById(id);
+const $ = (/** @type {string} */ id) =>
+  /** @type {HTMLElement} */ (document.getElementById(id));
+
+/** Writes a text into the part of this name, where another one stands. */
+function write(/** @type {string} */ id, /** @type {string} */ said) {
+  if ($(id).textContent !== said) $(id).textContent = said;
+}
 
 /** So many cards have their results open at once. */
 const FEW = 3;
 
-/** @type {Input[]} */
-let inputs = [];
-/** @type {Card[]} */
-let cards = [];
-/** @type {import('./limits.js').Limits} */
-let limits = {};
+/**
+ * How it stands: the module is made ready, files are read, or checked; a limit is wrong; all is
+ * done, or it did not come to its end.
+ * @typedef {{ is: 'starting' | 'reading' | 'checking' | 'wrong' | 'done' }
+ *   | { is: 'failed', error: unknown }} Phase
+ * How far the work is: the file or the station that is at hand, the nth of so many.
+ * @typedef {{ done: number, all: number, name: string }} Far
+ * All that is shown is drawn of this. `turn` counts the changes of what is to be answered: an
+ * answer to an earlier one is dropped. `cards` have what was answered last, with the `limits` that
+ * it was held to, and `loading` those whose results are asked for. `replaced` has how the files
+ * were shown whose place others of the same paths took, `skipped` the paths of what lay in folders
+ * and holds nothing for the page, `readAt` is when the files were read last, and `only` the one
+ * card that is printed: else all are, and all files.
+ * @typedef {{ turn: number, phase: Phase, inputs: Input[], cards: Card[],
+ *   limits: import('./limits.js').Limits, loading: StationCard[], far?: Far, replaced: string[],
+ *   skipped: string[], readAt: Date, only?: Card }} State
+ */
+
+/** @type {State} */
+let now = {
+  turn: 0, phase: { is: 'starting' }, inputs: [], cards: [], limits: limitsNow(), loading: [],
+  replaced: [], skipped: [], readAt: new Date(),
+};
+
+/** Goes on to another state, and draws it. */
+function go(/** @type {Partial<State>} */ more) {
+  now = { ...now, ...more };
+  draw();
+}
+
+/** Whether something is under way. */
+const isBusy = () =>
+  ['starting', 'reading', 'checking'].includes(now.phase.is) || now.loading.length > 0;
+
+/** Whether the cards are those of an earlier state: they stay in sight, and can't be used. */
+const isStale = () => ['checking', 'wrong'].includes(now.phase.is);
 
 // ---------------------------------------------------------------- what is said
 
-/** Says how it stands, in one line that is read out when it changes. */
-function say(/** @type {string} */ mood, /** @type {string} */ said) {
-  $('verdict').className = mood;
-  $('verdict').textContent = said;
-}
-
-/** Says what was said last, in the language that is spoken. */
-let sayAgain = () => {};
-
-/** Says something, and again in another language when that is chosen. */
-function tell(/** @type {() => void} */ saying) {
-  sayAgain = saying;
-  saying();
-}
-
 /**
- * The line above the cards: of one answer its headline, of several how many there are of each kind.
+ * What is said of how it stands, in one line: in which mood, and of several cards a part for each
+ * kind, which leads to the first of it.
+ * @returns {{ mood: string, said: string, isLeading?: boolean }[]}
  */
-function sayHow() {
-  if (inputs.length === 0) return say('quiet', text('ready'));
-  if (cards.length === 0) return say('open', text('needField'));
+function verdicts() {
+  const { phase, cards, inputs, limits } = now;
+  if (phase.is === 'starting') return [{ mood: 'quiet', said: text('gettingReady') }];
+  if (phase.is === 'wrong') return [{ mood: 'bad', said: wrongLimit() }];
+  if (phase.is === 'failed') return [{ mood: 'bad', said: whyIn(phase.error) }];
+  if (phase.is !== 'done') return [{ mood: 'quiet', said: text('checking') }];
+  if (inputs.length === 0) return [{ mood: 'quiet', said: text('ready') }];
+  if (cards.length === 0) return [{ mood: 'open', said: text('needField') }];
   // (what the one card says is read out, and not shown twice)
   if (cards.length === 1) {
     const [card] = cards, said = saidOfCard(card, limits), label = titleOf(card);
-    return say(`${card.mood} unseen`, card.station ? text('labelled', { label, said }) : said);
+    const whole = card.station ? text('labelled', { label, said }) : said;
+    return [{ mood: `${card.mood} unseen`, said: whole }];
   }
   const count = (/** @type {string} */ mood) => cards.filter(card => card.mood === mood).length;
-  const met = Object.keys(SUMMARIES).filter(mood => count(mood) > 0);
-  say(met[0], '');
-  for (const mood of met) {
-    if (mood !== met[0]) $('verdict').append(text('between'));
-    const said = text(SUMMARIES[mood], { n: count(mood) });
-    const first = cards.find(card => card.mood === mood);
-    button(said, $('verdict'), () => leadTo(first), `to ${mood}`);
-  }
+  return Object.keys(SUMMARIES).filter(mood => count(mood) > 0)
+    .map(mood => ({ mood, said: text(SUMMARIES[mood], { n: count(mood) }), isLeading: true }));
+}
+
+const isUnable = (/** @type {unknown} */ error) =>
+  /CompileError|DecompressionStream/.test(String(error));
+
+/** Why the work did not come to its end. */
+function whyIn(/** @type {unknown} */ error) {
+  if (error instanceof Stopped) return text('stopped');
+  return isUnable(error) ? text('cannotRun') : text('cannotFinish', { why: String(error) });
+}
+
+/** Says how it stands: it is read out when it changes. */
+function drawVerdict() {
+  const said = verdicts(), part = $('verdict');
+  redraw(part, said.flatMap(one => [one.mood, one.said]), room => {
+    said.forEach(({ mood, said: words, isLeading }, nth) => {
+      if (nth > 0) room.append(text('between'));
+      const lead = () => leadTo(now.cards.find(card => card.mood === mood));
+      if (isLeading) button(words, room, lead, `to ${mood}`);
+      else room.append(words);
+    });
+  });
+  part.className = said[0].mood;
 }
 
 /** Leads to a card, or to what it asks for. */
-function leadTo(/** @type {Card} */ card) {
-  const part = /** @type {HTMLElement} */ ($('answers').children[cards.indexOf(card)]);
-  if (!part) return; // (it is of a later state, and not shown yet)
+function leadTo(/** @type {Card | undefined} */ card) {
+  if (!card) return;
+  const part = $('answers').children[now.cards.indexOf(card)];
+  // (there is none of an earlier state)
+  if (!(part instanceof HTMLElement)) return;
   const asked = card.mood === 'open' && part.querySelector('input');
   part.tabIndex = -1;
   (asked || part).focus({ preventScroll: true });
@@ -102,7 +152,7 @@ const FEW_STATIONS = 20;
 
 /** Where a sheet or a table belongs, to be chosen where there are several stations. */
 function showChoice(/** @type {Input} */ input, /** @type {Element} */ parent) {
-  const stations = cards.flatMap(card => card.station ?? []);
+  const stations = now.cards.flatMap(card => card.station ?? []);
   if (stations.length < 2 || !['sheet', 'table', 'workbook'].includes(input.kind)) return;
   const choice = /** @type {HTMLSelectElement} */ (element('select', '', parent));
   choice.setAttribute('aria-label', text('belongsTo', { name: input.shown }));
@@ -123,249 +173,180 @@ function showChoice(/** @type {Input} */ input, /** @type {Element} */ parent) {
   };
 }
 
-function showInputs() {
+/** Shows a file that was handed in. */
+function showInput(/** @type {Input} */ input, /** @type {Element} */ list) {
+  const item = element('li', '', list, { className: isUsed(input) ? '' : 'unused' });
+  element('span', input.shown, item, { className: 'name' });
+  element('span', kindText(input), item, { className: 'kind' });
+  showChoice(input, item);
+  const gone = button('×', item, () => {
+    go({ replaced: [], skipped: [], inputs: now.inputs.filter(one => one !== input) });
+    checkAll();
+    if (now.inputs.length === 0) choose.focus();
+  }, 'button small');
+  gone.setAttribute('aria-label', text('remove', { name: input.shown }));
+  return item;
+}
+
+function drawInputs() {
+  const { inputs, cards, replaced, skipped, readAt } = now;
   // (what is not used comes first, so that it is seen)
   const shown = [...inputs.filter(input => !isUsed(input)), ...inputs.filter(isUsed)];
   document.body.classList.toggle('has-files', inputs.length > 0);
-  $('choose-text').textContent = text(inputs.length > 0 ? 'addMore' : 'choose');
-  $('inputs').textContent = '';
-  for (const input of shown) {
-    const item = element('li', '', $('inputs'), { className: isUsed(input) ? '' : 'unused' });
-    item.dataset.key = input.shown;
-    element('span', input.shown, item, { className: 'name' });
-    element('span', kindText(input), item, { className: 'kind' });
-    showChoice(input, item);
-    const gone = button('×', item, () => {
-      [replaced, skipped] = [[], []];
-      inputs = inputs.filter(one => one !== input);
-      checkAll();
-      if (inputs.length === 0) choose.focus();
-    }, 'button small');
-    gone.setAttribute('aria-label', text('remove', { name: input.shown }));
-  }
+  write('choose-text', text(inputs.length > 0 ? 'addMore' : 'choose'));
+  const of = (/** @type {Input} */ input) => [input, cards, input.choice, kindText(input)];
+  redrawEach($('inputs'), shown, input => input.shown, of, showInput);
   const names = replaced.join(', ');
-  $('replaced').textContent = names && text('replaced', { names });
+  write('replaced', names && text('replaced', { names }));
   const few = skipped.slice(0, MOST_SKIPPED).join(', ');
   const all = few + (skipped.length > MOST_SKIPPED ? ', …' : '');
-  $('skipped').textContent = few && text('skipped', { names: all });
+  write('skipped', few && text('skipped', { names: all }));
   $('remove-all').hidden = inputs.length === 0;
   $('read-again').hidden = !inputs.some(input => input.handle);
   const time = readAt.toLocaleTimeString(DATES[spoken()]);
-  $('read-again').textContent = text('readAgain', { time });
+  write('read-again', text('readAgain', { time }));
 }
 
-// ---------------------------------------------------------------- the keyboard's place
+// ---------------------------------------------------------------- what is drawn
 
-/** The kinds of parts that are drawn anew, and what the keyboard reaches in them. */
-const PARTS = ['#inputs > li', '#answers > .card', '#overview'];
-const REACHED = 'button, input, select, summary';
-const RESULT = '.results > :not(summary), .results > :not(summary) *';
-
-/**
- * Where the keyboard is: in the nth part of a kind, which has a key by which it is known, within
- * its results or not, at the nth of what it reaches there; nowhere once it is turned to something
- * else.
- * @type {{ kind: string, part: number, key?: string, isResult: boolean, at: number } | null}
- */
-let inHand = null;
-for (const turned of ['focusin', 'pointerdown'])
-  document.addEventListener(turned, () => { inHand = null; });
-
-/**
- * What the keyboard reaches in a part, within its results or outside of them.
- * @param {Element | undefined} part
- * @param {boolean} isResult
- */
-const reachedIn = (part, isResult) =>
-  /** @type {HTMLElement[]} */ ([...part?.querySelectorAll(REACHED) ?? []])
-    .filter(one => one.matches(RESULT) === isResult);
-
-/** All parts of a kind. */
-const partsOf = (/** @type {string} */ kind) =>
-  /** @type {HTMLElement[]} */ ([...document.querySelectorAll(kind)]);
-
-/** Keeps in mind where the keyboard is, before all is drawn anew. */
-function keepFocus() {
-  const here = /** @type {HTMLElement} */ (document.activeElement);
-  for (const kind of PARTS) {
-    const parts = partsOf(kind), part = parts.findIndex(one => one.contains(here));
-    for (const isResult of [true, false]) {
-      const at = reachedIn(parts[part], isResult).indexOf(here);
-      if (at >= 0) inHand = { kind, part, key: parts[part].dataset.key, isResult, at };
-    }
-  }
-}
-
-/**
- * Leaves the keyboard in the part where it was, or in the one that has its place, as soon as that
- * is there.
- */
-function giveFocus() {
-  if (!inHand || document.activeElement !== document.body) return;
-  const { kind, part, key, isResult, at } = inHand, parts = partsOf(kind);
-  const known = parts.find(({ dataset }) => key && dataset.key === key);
-  const here = known ?? parts[part] ?? parts.at(-1);
-  reachedIn(here, isResult)[at]?.focus({ preventScroll: true });
-}
-
-/** Shows all that is known, and leaves the keyboard where it was. */
-function show() {
-  keepFocus();
-  draw();
-  giveFocus();
-}
-
-/** Shows all that is known, in the language that is spoken. */
-function draw() {
-  document.documentElement.lang = spoken();
+/** The words that stand in the page, in the language that is spoken. */
+function drawWords() {
+  const page = document.documentElement;
+  // (the texts come after the page)
+  if (!isOther(page, [spoken(), text('ready')])) return;
+  page.lang = spoken();
   /** @type {(selector: string) => NodeListOf<HTMLElement>} */
   const all = selector => document.querySelectorAll(selector);
+  const about = /** @type {Record<string, string>} */ ({ ...$('made').dataset });
   for (const part of all('[data-text]'))
-    part.textContent = text(part.dataset.text, { ...$('made').dataset }) || part.textContent;
+    part.textContent = text(part.dataset.text ?? '', about) || part.textContent;
   for (const part of all('[data-label]'))
-    part.setAttribute('aria-label', text(part.dataset.label));
+    part.setAttribute('aria-label', text(part.dataset.label ?? ''));
   for (const part of all('[data-placeholder]'))
-    part.setAttribute('placeholder', text(part.dataset.placeholder));
-  $('in-force').textContent = limitsLine(limits, { residual: true, within: true });
-  showInputs();
-  $('several').hidden = cards.length < 2;
-  $('overview').textContent = '';
+    part.setAttribute('placeholder', text(part.dataset.placeholder ?? ''));
+}
+
+/** That something is under way, how far it is, and whether it can be begun again. */
+function drawProgress() {
+  const { phase, far } = now, bar = /** @type {HTMLProgressElement} */ ($('progress-bar'));
+  $('main').setAttribute('aria-busy', String(isBusy()));
+  $('progress').hidden = !isBusy();
+  write('progress-text', far ? text('working', far) : '');
+  $('again').hidden = phase.is !== 'failed' || !(phase.error instanceof Stopped);
+  document.body.classList.toggle('unable', phase.is === 'failed' && isUnable(phase.error));
+  if (far) [bar.max, bar.value] = [far.all, far.done - 1];
+  // (of a single file it is not known how far it is)
+  if (!far || far.all === 1) bar.removeAttribute('value');
+}
+
+/** The cards, and of several the table above them. */
+function drawCards() {
+  const { cards, limits } = now, words = text('ready'), isFew = cards.length <= FEW;
   const lead = (/** @type {Card} */ card, /** @type {Element} */ head) =>
     button(card.title, head, () => leadTo(card), 'to name');
-  if (cards.length > 1) overviewTable(cards, lead, $('overview'));
-  $('answers').textContent = '';
-  $('answers').className = cards.length > FEW ? 'many' : '';
-  for (const card of cards) showCard(card, desk, cards.length <= FEW, $('answers'));
+  const seen = cards.flatMap(({ mood, station }) => [mood, station?.residuals, station?.report]);
+  $('several').hidden = cards.length < 2;
+  redraw($('overview'), [cards, words, ...seen], room => {
+    if (cards.length > 1) overviewTable(cards, lead, room);
+  });
+  $('answered').classList.toggle('stale', isStale());
+  $('answers').className = isFew ? '' : 'many';
+  redrawEach($('answers'), cards, keyOfCard,
+    card => [card, words, limits, card.mood, card.judged, card.results],
+    (card, room) => showCard(card, desk, isFew, room));
+}
+
+/** Draws the state. */
+function draw() {
+  drawWords();
+  drawVerdict();
+  drawProgress();
+  write('in-force', limitsLine(now.limits, { residual: true, within: true }));
+  drawInputs();
+  drawCards();
 }
 
 // ---------------------------------------------------------------- work
 
-/** Counts the changes of what is to be answered: an answer to an older state is dropped. */
-let state = 0;
-
-/** How many works are under way for the present state. */
-let underWay = 0;
-
-/** Shows that something is under way, and how far it is. */
-function busy(/** @type {boolean} */ isBusy) {
-  $('main').setAttribute('aria-busy', String(isBusy));
-  $('progress').hidden = !isBusy;
+/**
+ * Says how far it is.
+ * @type {(done: number, all: number, name: string) => void}
+ */
+function told(done, all, name) {
+  now = { ...now, far: { done, all, name } };
+  drawProgress();
 }
 
-/** Says again how far it is. */
-let progressAgain = () => {};
-
-function told(/** @type {number} */ done, /** @type {number} */ all, /** @type {string} */ name) {
-  progressAgain = () => {
-    $('progress-text').textContent = text('working', { done, all, name });
-  };
-  progressAgain();
-  const bar = /** @type {HTMLProgressElement} */ ($('progress-bar'));
-  [bar.max, bar.value] = [all, done - 1];
-  // (of a single file it is not known how far it is)
-  if (all === 1) bar.removeAttribute('value');
-}
-
-/** Says why the work did not come to its end. */
-function sayWhy(/** @type {unknown} */ error) {
-  const why = String(error), isUnable = /CompileError|DecompressionStream/.test(why);
-  tell(() => say('bad', error instanceof Stopped ? text('stopped')
-    : isUnable ? text('cannotRun') : text('cannotFinish', { why })));
-  document.body.classList.toggle('unable', isUnable);
-  $('again').hidden = !(error instanceof Stopped);
-}
-
-/** Works with the bar shown; what goes wrong is said. Answers whether it came to its end. */
-async function worked(/** @type {() => Promise<void>} */ work) {
-  const begun = state;
-  underWay++;
-  busy(true);
+/**
+ * Works for the state as it is. Answers whether that came to its end, and is still asked for; what
+ * went wrong is the next state.
+ * @param {() => Promise<void>} work
+ * @param {() => Partial<State>} then what is known then, also where it did not come to its end
+ */
+async function worked(work, then = () => ({})) {
+  const { turn } = now;
+  /** @type {Phase | undefined} */
+  let phase;
   try {
     await work();
-    return begun === state;
   } catch (error) {
-    if (begun !== state) return false;
-    sayWhy(error);
-    return false;
-  } finally {
-    if (begun === state) busy(--underWay > 0);
+    phase = { is: 'failed', error };
   }
+  if (turn !== now.turn) return false;
+  go({ ...then(), far: undefined, ...phase && { phase } });
+  return !phase;
 }
 
 /** Checks all files that are there, with the limits that are stated. */
 async function checkAll() {
-  const mine = ++state;
-  tellApart(inputs);
-  if (underWay > 0) stop();
-  underWay = 0;
-  const wrong = wrongLimit();
+  const isWrong = wrongLimit() !== '', limits = limitsNow(), { inputs } = now;
   /** @type {Card[]} */
-  const made = [];
-  cards = made;
-  $('again').hidden = true;
-  if (wrong) {
-    show();
-    busy(false);
-    return tell(() => say('bad', wrongLimit()));
-  }
-  limits = limitsNow();
-  keepFocus();
-  draw();
-  tell(() => say('quiet', text('checking')));
-  const isDone = await worked(() => makeCards(inputs, limits, made, told));
-  if (mine !== state) return;
-  made.sort((one, other) => ORDER[one.mood] - ORDER[other.mood]);
-  show();
-  if (isDone) tell(sayHow);
+  const cards = [];
+  tellApart(inputs);
+  if (isAsked()) stop();
+  const turn = now.turn + 1;
+  go({ turn, phase: { is: isWrong ? 'wrong' : 'checking' }, loading: [], far: undefined });
+  if (isWrong) return;
+  await worked(() => makeCards(inputs, limits, cards, told), () => {
+    cards.sort((one, other) => ORDER[one.mood] - ORDER[other.mood]);
+    return { cards, limits, phase: { is: 'done' } };
+  });
 }
 
 /** Checks all, and leads to the first card of a field file of which something was stated. */
 async function checkAgain(/** @type {Input} */ field) {
   await checkAll();
   // (all cards are new, and the one that was worked at may have been far below)
-  const first = cards.find(card => card.field && originalOf(card.field) === field);
+  const first = now.cards.find(card => card.field && originalOf(card.field) === field);
   if (first) leadTo(first);
 }
 
-/** Has the results of all stations at hand; answers whether it came to its end. */
-async function loadAll() {
-  const left = cards.filter(card => card.station && !card.results), all = left.length;
-  const isDone = await worked(async () => {
+/** Has the results of these cards at hand; answers whether it came to its end. */
+function loaded(/** @type {Card[]} */ cards) {
+  const left = cards.filter(isOfStation)
+    .filter(card => !card.results && !now.loading.includes(card));
+  if (left.length === 0) return Promise.resolve(true);
+  go({ loading: [...now.loading, ...left] });
+  return worked(async () => {
     for (const [nth, card] of left.entries()) {
-      told(nth + 1, all, card.title);
-      card.results = await resultsOf(card, limits);
-      await judge(card, limits);
+      told(nth + 1, left.length, card.title);
+      card.results = await resultsOf(card, now.limits);
+      await judge(card, now.limits);
     }
-  });
-  if (!isDone || all === 0) return isDone;
-  // (what the residuals say changes the cards and what is said of all)
-  show();
-  tell(sayHow);
-  return true;
+  }, () => ({ loading: now.loading.filter(card => !left.includes(card)) }));
 }
 
 /** What the cards ask of the page. */
 const desk = {
-  get limits() { return limits; },
-  async load(/** @type {Card} */ card) {
-    if (card.results) return;
-    told(1, 1, card.title);
-    const { judged } = card;
-    const isDone = await worked(async () => {
-      card.results = await resultsOf(card, limits);
-      await judge(card, limits);
-    });
-    // (what the residuals say changes the card and what is said of all)
-    if (!isDone || judged || !cards.includes(card)) return;
-    show();
-    if (sayAgain === sayHow) sayHow();
+  get limits() { return now.limits; },
+  async load(/** @type {StationCard} */ card) {
+    if (now.cards.includes(card)) await loaded([card]);
   },
-  regain() { giveFocus(); },
-  beside(/** @type {Card} */ card) { return besideOf(card, inputs, cards, limits); },
+  beside(/** @type {Card} */ card) { return besideOf(card, now.inputs, now.cards, now.limits); },
   print(/** @type {Card} */ card) {
-    only = card;
+    now.only = card;
     window.print();
-    only = null;
+    now.only = undefined;
   },
   async name(/** @type {Input} */ field, /** @type {string} */ station) {
     field.station = station;
@@ -377,8 +358,8 @@ const desk = {
   },
   /** @type {import('./cards.js').Desk['count']} */
   async count(field, stations, numbers) {
-    field.numbers ??= new Map();
-    for (const station of stations) field.numbers.set(station, numbers);
+    const stated = field.numbers ??= new Map();
+    for (const station of stations) stated.set(station, numbers);
     await checkAgain(field);
   },
   async begin(/** @type {Input} */ field, /** @type {string} */ code) {
@@ -392,16 +373,11 @@ const desk = {
   },
 };
 
-/**
- * The one card that is printed; else all are, and all files.
- * @type {Card | null}
- */
-let only = null;
-
 /** What the page is called while it isn't printed. */
 const UNPRINTED = document.title;
 
 onbeforeprint = () => {
+  const { inputs, limits, only } = now, cards = isStale() ? [] : now.cards;
   const [alone] = only ? [only] : cards.length === 1 ? cards : [];
   // (by its title the file is called that a browser prints to)
   if (inputs.length > 0)
@@ -409,7 +385,7 @@ onbeforeprint = () => {
   $('protocol').textContent = '';
   if (only) showProtocol(only, limits, $('protocol'), '', desk.beside(only));
   else if (inputs.length > 0)
-    showProtocols(inputs, cards, limits, $('verdict').textContent, $('protocol'));
+    showProtocols(inputs, cards, limits, $('verdict').textContent ?? '', $('protocol'));
 };
 onafterprint = () => { document.title = UNPRINTED; };
 
@@ -426,6 +402,9 @@ const MOST_OF_BOOK = 20_000_000;
 async function inputOf({ file, path, handle }) {
   const name = path.slice(path.lastIndexOf('/') + 1);
   const about = { name, path, handle, shown: name, digest: '' };
+  /** @type {Input} */
+  const unread = { ...about, bytes: new Uint8Array(), kind: 'unread' };
+  if (!file) return unread;
   try {
     const head = new Uint8Array(await file.slice(0, HEAD).arrayBuffer()), kind = kindOf(name, head);
     const isBook = kind === 'spreadsheet' && file.size <= MOST_OF_BOOK;
@@ -433,25 +412,12 @@ async function inputOf({ file, path, handle }) {
     const input = { ...about, bytes: new Uint8Array(await file.arrayBuffer()), kind };
     return isBook ? await withTable(input) : input;
   } catch {
-    return { ...about, bytes: new Uint8Array(), kind: 'unread' };
+    return unread;
   }
 }
 
-/**
- * How the files were shown whose place others of the same paths took.
- * @type {string[]}
- */
-let replaced = [];
-
-/**
- * The paths of what lay in folders and holds nothing for the page: so many are named at most.
- * @type {string[]}
- */
-let skipped = [];
+/** So many paths of what holds nothing for the page are named at most. */
 const MOST_SKIPPED = 8;
-
-/** When the files were read last. */
-let readAt = new Date();
 
 /** Whether a file is told of in a line alone: it came in a folder, and is none of the page's. */
 const isSkipped = (/** @type {Input} */ { path, kind }) => path.includes('/') && kind === 'other';
@@ -462,27 +428,29 @@ const isSkipped = (/** @type {Input} */ { path, kind }) => path.includes('/') &&
  */
 async function add(/** @type {import('./gather.js').Given[]} */ given) {
   if (given.length === 0) return;
-  busy(true);
+  go({ phase: { is: 'reading' } });
   await worded;
   const folders = given.filter(({ path }) => path.endsWith('/'));
   const all = await Promise.all(given.filter(one => !folders.includes(one)).map(inputOf));
   const read = all.filter(one => !isSkipped(one));
-  skipped = [...all.filter(isSkipped), ...folders].map(({ path }) => path);
+  const skipped = [...all.filter(isSkipped), ...folders].map(({ path }) => path);
   const isGone = (/** @type {Input} */ one) => read.some(more => more.path === one.path);
-  replaced = inputs.filter(isGone).map(one => one.shown);
-  inputs = [...inputs.filter(one => !isGone(one)), ...read];
-  readAt = new Date();
+  const replaced = now.inputs.filter(isGone).map(one => one.shown);
+  const inputs = [...now.inputs.filter(one => !isGone(one)), ...read];
+  tellApart(inputs);
+  go({ skipped, replaced, inputs, readAt: new Date() });
   await checkAll();
 }
 
 /** Reads all files again of which the browser has a handle; what was stated of them stays. */
 async function readAgain() {
-  busy(true);
-  for (const input of inputs.filter(one => one.handle)) {
+  go({ phase: { is: 'reading' } });
+  for (const input of now.inputs.filter(one => one.handle)) {
     const { path, handle } = input;
     Object.assign(input, { taken: undefined }, await inputOf(await givenOf(handle, path)));
   }
-  readAt = new Date();
+  tellApart(now.inputs);
+  go({ readAt: new Date() });
   await checkAll();
 }
 
@@ -492,7 +460,7 @@ const showOver = () => document.body.classList.toggle('over', over > 0);
 
 document.ondragenter = event => {
   // (a text that is dragged is no file)
-  if (!event.dataTransfer.types.includes('Files')) return;
+  if (!event.dataTransfer?.types.includes('Files')) return;
   event.preventDefault();
   over++;
   showOver();
@@ -506,7 +474,7 @@ document.ondrop = async event => {
   event.preventDefault();
   over = 0;
   showOver();
-  add(await dropped(event.dataTransfer));
+  if (event.dataTransfer) add(await dropped(event.dataTransfer));
 };
 
 const choose = /** @type {HTMLInputElement} */ ($('choose'));
@@ -514,20 +482,21 @@ for (const id of ['choose', 'choose-folder']) {
   const button = /** @type {HTMLInputElement} */ ($(id));
   // A file that has changed meanwhile may be chosen again. Where none is chosen, nothing is changed.
   button.onclick = () => { button.value = ''; };
-  button.onchange = () => add(givenBy(button.files));
+  button.onchange = () => add(givenBy(button.files ?? []));
 }
 $('try').onclick = async () => add(givenBy(await exampleFiles()));
 $('read-again').onclick = () => readAgain();
 $('remove-all').onclick = () => {
-  [inputs, replaced, skipped] = [[], [], []];
+  go({ inputs: [], replaced: [], skipped: [] });
   checkAll();
 };
 $('stop').onclick = () => stop();
 $('again').onclick = () => checkAll();
-$('print-all').onclick = async () => { if (await loadAll()) window.print(); };
+$('print-all').onclick = async () => { if (await loaded(now.cards)) window.print(); };
 $('save-all').onclick = async () => {
-  if (!await loadAll()) return;
-  const whole = protocolsFile(inputs, cards, limits, $('verdict').textContent);
+  if (!await loaded(now.cards)) return;
+  const { inputs, cards, limits } = now;
+  const whole = protocolsFile(inputs, cards, limits, $('verdict').textContent ?? '');
   save('station_check_protocols.html', whole, 'text/html');
 };
 for (const name of Object.keys(LIMITS)) {
@@ -540,16 +509,23 @@ for (const [code, name] of Object.entries(LANGUAGES))
   element('option', name, languages, { value: code, lang: code });
 languages.onchange = () => {
   speak(languages.value);
-  show();
-  progressAgain();
-  sayAgain();
+  draw();
 };
+// What is stale can't be pressed: it would act on an earlier state.
+for (const done of ['click', 'submit']) {
+  $('answered').addEventListener(done, event => {
+    const { target } = event, isPressed = target instanceof Element && target.closest('button');
+    if (!isStale() || done === 'click' && !isPressed) return;
+    event.preventDefault();
+    event.stopPropagation();
+  }, true);
+}
 
 speak(languageOf(navigator.languages));
 languages.value = spoken();
 recallNotes();
-limits = limitsNow();
-tell(() => say('quiet', text('gettingReady')));
+go({ limits: limitsNow() });
 /** Comes when the texts are at hand; where they can't be unpacked the worker can't either. */
-const worded = readTexts().then(show, () => {});
-worked(async () => { await Promise.all([start(), worded]); }).then(isReady => isReady && checkAll());
+const worded = readTexts().then(draw, () => {});
+worked(async () => { await Promise.all([start(), worded]); })
+  .then(isReady => { if (isReady) checkAll(); });

@@ -116,7 +116,7 @@ function panelsOf(/** @type {Residuals} */ { rows, sets, targets }) {
       (2 * levels.indexOf(row[other]) + 1) / levels.length - 1;
     const all = names[key].map(name => ({ name, rows: rows.filter(row => row[key] === name) }));
     return grouped(all).map((strips, _, groups) => {
-      const part = groups.length > 1 ? `, ${strips[0].name} – ${strips.at(-1).name}` : '';
+      const part = groups.length > 1 ? `, ${strips[0].name} – ${strips.at(-1)?.name}` : '';
       return { title: title + part, heading: text(key), strips, levelOf };
     });
   };
@@ -278,6 +278,7 @@ function drawPanel({ heading, strips, levelOf }, axis, parent) {
     const placeOf = (/** @type {Residual} */ row) =>
       [axis.x(unitsOf(row)), middle + levelOf(row) * SPREAD];
     const others = rows.filter(row => !isGreatest(row)), isSparse = rows.length <= SPARSE;
+    /** @type {Record<string, string | number>} */
     const look = isGreatest(most) ? { fill: GREATEST, 'font-weight': 700 } : { fill: INK };
     const letters = { y: middle + BELOW, ...look }, number = signedNumeral(most.residual);
     shape('text', { x: GAP, 'font-family': ONE_WIDTH, class: 'name', ...letters }, parent, name);
@@ -345,7 +346,7 @@ function inLight(/** @type {Element} */ svg) {
   probe.style.colorScheme = 'light';
   for (const name of ['fill', 'stroke']) {
     for (const part of svg.querySelectorAll(`[${name}^=var]`)) {
-      probe.style.color = part.getAttribute(name);
+      probe.style.color = part.getAttribute(name) ?? '';
       part.setAttribute(name, getComputedStyle(probe).color);
     }
   }

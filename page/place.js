@@ -60,14 +60,18 @@ function around(lines, meant, shown) {
     ({ number: String(first + nth + 1), text: shown(line), isMeant: first + nth === meant }));
 }
 
-/** Which part of a line a fault speaks of: a byte, or a word with its content. */
+/**
+ * Which part of a line a fault speaks of: a byte, or a word with its content.
+ * @returns {[number, number]}
+ */
 function meantIn(/** @type {string} */ line, /** @type {string} */ fault) {
   const [, what, number] = fault.match(/^(Byte|Word) (\d+)/) ?? [];
   if (what === 'Byte') return [Number(number) - 1, Number(number)];
   const words = [...line.matchAll(/\S+/g)];
   const found = what === 'Word' ? words[Number(number) - 1]
     : words.find(word => word[0].replace('*', '').startsWith(wordOf(fault)));
-  return found ? [found.index, found.index + found[0].length] : [0, line.length];
+  const at = found?.index ?? 0;
+  return found ? [at, at + found[0].length] : [0, line.length];
 }
 
 /**
@@ -107,11 +111,12 @@ function blockIn(file, block, fault) {
 
 /**
  * A row of a sheet or a table: the nth of all, or of those of a kind.
- * @param {Input} file
+ * @param {Input | undefined} file
  * @param {number} nth
  * @returns {Place | null}
  */
 function rowIn(file, nth, kind = '') {
+  if (!file) return null;
   const all = textOf(file.bytes), rows = recordsOf(all);
   const row = rows.filter(({ fields }) => !kind || fields[0] === kind)[nth - 1];
   if (!row) return null;

@@ -21,11 +21,13 @@ export const DATES = { en: 'en-GB', de: 'de', fr: 'fr' };
 
 /**
  * @typedef {import('./answers.js').Card} Card
+ * @typedef {import('./answers.js').Answer} Answer
  * @typedef {import('./files.js').Input} Input
  */
 
 /** What the page is made of, as its foot says it. */
-const made = () => document.getElementById('made').dataset;
+const made = () =>
+  /** @type {Record<string, string>} */ ({ ...document.getElementById('made')?.dataset });
 
 /** A row of the facts: the text of this name, and room for what it says. */
 function row(/** @type {string} */ label, /** @type {Element} */ parent) {
@@ -91,9 +93,9 @@ function showAnswers(card, limits, parent) {
     if (answer.status <= REFUSED) ofProgram('samp', answer.line, element('div', '', parent));
     ofProgram('code', answer.command, element('div', '', parent));
   }
-  const said = judgedText(card, limits), { isKept, greatest, command } = card.judged ?? {};
+  const said = judgedText(card, limits), { isKept, command } = card.judged ?? {};
   if (said) say(said, isKept ? 'read' : 'bad');
-  if (greatest && !isKept) ofProgram('code', command, element('div', '', parent));
+  if (command && !isKept) ofProgram('code', command, element('div', '', parent));
   if (card.waiting.length > 0) say(waitingText(card), 'open');
 }
 
@@ -112,10 +114,11 @@ function showFaults(/** @type {Card} */ card, /** @type {Element} */ parent) {
 
 /**
  * What was recognized where codes were put into a copy, and the command that makes it.
+ * @param {Answer} marked
  * @param {Card} card
  * @param {Element} parent
  */
-function showMarks({ marked, recognized, title }, parent) {
+function showMarks(marked, { recognized = [], title }, parent) {
   const told = recognized.filter(({ station }) => station === title);
   for (const said of told.flatMap(recognizedTexts)) element('div', said, parent);
   ofProgram('code', marked.command, element('div', '', parent));
@@ -126,7 +129,7 @@ function showMarks({ marked, recognized, title }, parent) {
  * is never a part of the style.
  */
 function inStyle(/** @type {string} */ said) {
-  const signs = Array.from(said, sign => sign.codePointAt(0).toString(16).padStart(6, '0'));
+  const signs = Array.from(said, sign => (sign.codePointAt(0) ?? 0).toString(16).padStart(6, '0'));
   return `"${signs.map(digits => `\\${digits}`).join('')}"`;
 }
 
@@ -180,7 +183,7 @@ export function showProtocol(card, limits, parent, page = '', beside = []) {
   const part = element('article', '', parent, { className });
   const title = station ? text('protocol', { name: station.listed.name })
     : text('checkOf', { name: card.title });
-  if (!isBrief) nameItsPages(part, station ? `${title}, ${card.field.shown}` : title, page);
+  if (!isBrief) nameItsPages(part, card.station ? `${title}, ${card.field.shown}` : title, page);
   if (page) part.id = page;
   element('h1', title, part);
   const facts = element('dl', '', part, { className: 'facts' });
@@ -189,20 +192,20 @@ export function showProtocol(card, limits, parent, page = '', beside = []) {
   for (const file of allFilesOf(card)) showFile(file, files);
   showDate(facts);
   if (station) row('observed', facts).textContent = text('counts', countsOf(station.listed));
-  if (station && card.marked) showMarks(card, row('marks', facts));
+  if (station && card.marked) showMarks(card.marked, card, row('marks', facts));
   const isCompared = card.answers.some(({ asked, status, line }) =>
     asked === 'compare' && (status === ACCEPTED || /^refused: compare: /.test(line)));
   const held = { residual: isHeld(card), within: isCompared };
   if (card.field) row('limits', facts).textContent = limitsLine(limits, held);
   showAnswers(card, limits, row('answer', facts));
-  const others = beside.length > 0 ? row('handedIn', facts) : null;
+  const others = beside.length > 0 ? row('handedIn', facts) : facts;
   for (const said of beside) element('div', said, others);
   showFaults(card, part);
-  if (card.results) showResults(card, part);
+  if (card.station && card.results) showResults({ ...card, results: card.results }, part);
   else if (station) element('p', text('notOpened'), part);
   if (isBrief) return;
   showSigns(part);
-  element('p', text('madeBy', { ...made() }), part, { className: 'quiet foot' });
+  element('p', text('madeBy', made()), part, { className: 'quiet foot' });
 }
 
 /** Whether a card speaks of a file. */
@@ -239,7 +242,7 @@ export function showProtocols(inputs, cards, limits, verdict, parent) {
     for (const [mood, said] of saidOfFile(file, cards, limits))
       element('div', said, item, { className: `said ${mood}` });
   }
-  element('p', text('madeBy', { ...made() }), part, { className: 'quiet foot' });
+  element('p', text('madeBy', made()), part, { className: 'quiet foot' });
   cards.forEach((card, nth) => showProtocol(card, limits, parent, pageOf(nth)));
 }
 
@@ -247,8 +250,8 @@ export function showProtocols(inputs, cards, limits, verdict, parent) {
 const pageOf = (/** @type {number} */ nth) => `protocol${nth}`;
 
 /** What a protocol is called as a file: by its field file and its station. */
-export const nameOfProtocol = (/** @type {Card} */ { field, station, title }) =>
-  station ? `${stemOf(originalOf(field))}_${title}` : title;
+export const nameOfProtocol = (/** @type {Card} */ card) =>
+  card.station ? `${stemOf(originalOf(card.field))}_${card.title}` : card.title;
 
 /**
  * A file of its own of this title, with the style of the page.
@@ -259,7 +262,7 @@ function fileOf(title, fill) {
   const whole = document.implementation.createHTMLDocument(title);
   whole.documentElement.lang = spoken();
   element('meta', '', whole.head).setAttribute('charset', 'utf-8');
-  element('style', document.querySelector('style').textContent, whole.head);
+  element('style', document.querySelector('style')?.textContent ?? '', whole.head);
   whole.body.className = 'saved';
   fill(whole.body);
   return `<!doctype html>\n${whole.documentElement.outerHTML}\n`;

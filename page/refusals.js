@@ -70,7 +70,7 @@ function showInFull(explanation, parent, open) {
   element('summary', text('inFull'), part);
   const [, ...paragraphs] = paragraphsOf(explanation);
   for (const paragraph of paragraphs) {
-    const [, lead, rest] = paragraph.match(/^(What to do: )?([^]*)$/);
+    const [, lead, rest] = paragraph.match(/^(What to do: )?([^]*)$/) ?? [];
     const said = ofProgram('p', '', part);
     if (lead) element('strong', lead, said);
     said.append(rest);

@@ -9,8 +9,9 @@ import { languageOf, speak, spoken, text } from './texts.js';
 /** Shows the residuals of the station of this name. */
 function showResiduals(/** @type {string} */ name) {
   const [heading, shown, buttons, printed, summary] =
-    ['h1', '#shown', '#buttons', '#printed', 'summary'].map(one => document.querySelector(one));
-  const residuals = residualsIn(printed.textContent), title = text('residualsOf', { name });
+    ['h1', '#shown', '#buttons', '#printed', 'summary']
+      .map(one => /** @type {Element} */ (document.querySelector(one)));
+  const residuals = residualsIn(printed.textContent ?? ''), title = text('residualsOf', { name });
   document.documentElement.lang = spoken();
   document.title = heading.textContent = title;
   showPicture(residuals, '', element('section', '', shown, { className: 'across' }));
@@ -19,7 +20,7 @@ function showResiduals(/** @type {string} */ name) {
   button(text('savePicture'), buttons, () =>
     save(`${name}_residuals.svg`, pictureFile(title, [], residuals, ''), 'image/svg+xml'));
   summary.textContent = text('printed');
-  summary.parentElement.removeAttribute('open');
+  summary.parentElement?.removeAttribute('open');
 }
 
 speak(languageOf(navigator.languages));

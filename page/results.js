@@ -14,7 +14,7 @@ import { text } from './texts.js';
 
 /**
  * @typedef {import('./answers.js').Answer} Answer
- * @typedef {import('./answers.js').Card} Card
+ * @typedef {import('./answers.js').ReadyCard} ReadyCard
  */
 
 /**
@@ -39,7 +39,7 @@ function showRefused(/** @type {Answer} */ answer, /** @type {Element} */ parent
 /**
  * The readings of a station: folded in the window; on paper they have the face differences too, and
  * the zenith angles where the user wants them.
- * @param {Card} card
+ * @param {ReadyCard} card
  * @param {boolean} isOnPaper
  * @returns {Section[]}
  */
@@ -64,7 +64,7 @@ function sectionsOfReadings({ station, results: { report, zeniths } }, isOnPaper
 
 /**
  * The results of a station, section by section.
- * @param {Card} card
+ * @param {ReadyCard} card
  * @param {boolean} isOnPaper
  * @returns {Section[]}
  */
@@ -72,13 +72,13 @@ function sectionsOf(card, isOnPaper) {
   const { station, results, answers } = card;
   const { directions, residuals, report } = results;
   /** @type {Section[]} */
-  const sections = answers.filter(one => one.differences).map(({ differences, other }) => ({
+  const sections = answers.flatMap(({ differences, other }) => differences && other ? [{
     title: text('differences', { name: other.shown }),
     fill(part) {
       differencesTable(differencesIn(differences), decimalsIn(other), part);
       element('p', text('differencesNote'), part, { className: 'quiet note' });
     },
-  }));
+  }] : []);
   sections.push({
     title: text('directions'),
     fill(part) {
@@ -124,7 +124,7 @@ function showSection({ title, fill, className = '', isUnfolded, unfold }, parent
   const fold = /** @type {HTMLDetailsElement} */ (element('details', '', part));
   element('h3', title, element('summary', '', fold));
   const show = () => { if (fold.childElementCount === 1) fill(fold); };
-  fold.open = isUnfolded;
+  fold.open = isUnfolded === true;
   if (isUnfolded) show();
   fold.ontoggle = () => {
     unfold(fold.open);
@@ -133,13 +133,17 @@ function showSection({ title, fill, className = '', isUnfolded, unfold }, parent
 }
 
 /** Shows the results of a station in its protocol. */
-export function showResults(/** @type {Card} */ card, /** @type {Element} */ parent) {
+export function showResults(/** @type {ReadyCard} */ card, /** @type {Element} */ parent) {
   const around = element('div', '', parent, { className: 'beside' });
   for (const section of sectionsOf(card, true)) showSection(section, around);
 }
 
-/** Shows them one after the other, so that no large station holds the window. */
-export async function showResultsInTurn(/** @type {Card} */ card, /** @type {Element} */ parent) {
+/**
+ * Shows them one after the other, so that no large station holds the window.
+ * @param {ReadyCard} card
+ * @param {Element} parent
+ */
+export async function showResultsInTurn(card, parent) {
   const around = element('div', '', parent, { className: 'beside' });
   for (const section of sectionsOf(card, false)) {
     showSection(section, around);

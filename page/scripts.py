@@ -21,7 +21,7 @@ SCRIPTS = {
         "texts.js", "numbers.js", "records.js", "zeniths.js", "files.js", "packed.js", "stored.js", "work.js",
         "limits.js", "notes.js", "place.js", "answers.js", "elements.js", "tables.js", "readings.js", "picture.js",
         "faults.js", "headlines.js", "results.js", "refusals.js", "overview.js", "protocol.js",
-        "cards.js", "gather.js", "workbook.js", "page.js",
+        "drawing.js", "cards.js", "gather.js", "workbook.js", "page.js",
     ],
     "residuals": [
         "texts.js", "numbers.js", "records.js", "elements.js", "tables.js", "picture.js",

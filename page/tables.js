@@ -27,7 +27,7 @@ const NOT_OBSERVED = { text: '\u00d7', mark: 'missing' };
 function bySets(caption, targets, sets, cell, parent, className) {
   for (let first = 0; first < sets.length; first += ABREAST) {
     const group = sets.slice(first, first + ABREAST), isAll = group.length === sets.length;
-    const part = isAll ? '' : `, ${text('setsOf', { first: group[0], last: group.at(-1) })}`;
+    const part = isAll ? '' : `, ${text('setsOf', { first: group[0], last: String(group.at(-1)) })}`;
     const headings = [text('target'), ...group.map(set => text('setNumber', { set }))];
     const rows = targets.map(target =>
       [target, ...group.map(set => cell(set, target) ?? NOT_OBSERVED)]);

@@ -772,7 +772,7 @@ export function speak(/** @type {string} */ code) {
   language = code;
   const land = navigator.languages.find(one => one.startsWith(code)) ?? code;
   const parts = new Intl.NumberFormat(land).formatToParts(0.5);
-  point = parts.find(({ type }) => type === 'decimal').value;
+  point = parts.find(({ type }) => type === 'decimal')?.value ?? '.';
 }
 
 export const spoken = () => language;

@@ -12,8 +12,8 @@ export class Stopped extends Error {}
 
 const bytesOf = (/** @type {string} */ text) => new TextEncoder().encode(text);
 
-/** @type {Worker | null} */
-let worker = null;
+/** @type {Worker | undefined} */
+let worker;
 /** The script of the worker, once it is unpacked. */
 let script = '';
 /** @type {Map<number, { resolve: Function, reject: Function }>} */
@@ -24,7 +24,7 @@ let count = 0;
 function sent(/** @type {object} */ message) {
   return new Promise((resolve, reject) => {
     waiting.set(++count, { resolve, reject });
-    worker.postMessage({ id: count, ...message });
+    /** @type {Worker} */ (worker).postMessage({ id: count, ...message });
   });
 }
 
@@ -48,6 +48,9 @@ export async function start() {
   await sent({ module: bytesOfText(part('module')) });
 }
 
+/** Whether a call is under way. */
+export const isAsked = () => waiting.size > 0;
+
 /** Ends what is under way; the next calls go to a new worker. */
 export function stop() {
   worker?.terminate();
@@ -59,7 +62,7 @@ export function stop() {
 /**
  * Asks a proved call, with files as bytes, names as texts, numbers in their units, and flags.
  * @param {string} name
- * @param {(Uint8Array | string | number | boolean)[]} inputs
+ * @param {(Uint8Array | string | number | boolean | null)[]} inputs
  * @returns {Promise<Reply>}
  */
 export async function ask(name, ...inputs) {
@@ -75,5 +78,5 @@ export async function ask(name, ...inputs) {
  */
 export async function digestOf({ name, bytes }) {
   const { text } = await ask('digest', bytes, name);
-  return text.match(/[0-9a-f]{64}/)[0];
+  return text.match(/[0-9a-f]{64}/)?.[0] ?? '';
 }

@@ -67,16 +67,17 @@ function cellText(/** @type {Element} */ cell, /** @type {string[]} */ shared) {
 async function rowsOf(book) {
   const parts = partsInZip(book);
   const xml = async (/** @type {string} */ name) => {
-    const { bytes, isPacked } = parts.get(name);
+    const { bytes, isPacked } = /** @type {Part} */ (parts.get(name));
     const text = new TextDecoder().decode(isPacked ? await unpacked(bytes, 'deflate-raw') : bytes);
     return new DOMParser().parseFromString(text, 'application/xml');
   };
   const isShared = parts.has('xl/sharedStrings.xml');
   const shared = isShared ? elementsIn(await xml('xl/sharedStrings.xml'), 'si').map(textIn) : [];
   const [first] = elementsIn(await xml('xl/workbook.xml'), 'sheet');
-  const id = [...first.attributes].find(({ localName, prefix }) => prefix && localName === 'id').value;
+  const id = [...first.attributes].find(({ localName, prefix }) => prefix && localName === 'id');
   const links = elementsIn(await xml('xl/_rels/workbook.xml.rels'), 'Relationship');
-  const target = links.find(one => one.getAttribute('Id') === id).getAttribute('Target');
+  const link = links.find(one => one.getAttribute('Id') === id?.value);
+  const target = link?.getAttribute('Target') ?? '';
   const sheet = await xml(target.startsWith('/') ? target.slice(1) : `xl/${target}`);
   return elementsIn(sheet, 'row').map(row => {
     /** @type {Record<string, string>} */

@@ -169,9 +169,9 @@ class Page:
     @contextmanager
     def answered(self) -> Iterator[None]:
         """What is done in it changes what is asked: waits until that is answered."""
-        before = self.js("state")
+        before = self.js("now.turn")
         yield
-        self.wait(f"state > {before}")
+        self.wait(f"now.turn > {before}")
         self.settle()
 
     def settle(self) -> None:

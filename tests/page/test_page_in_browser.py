@@ -1292,12 +1292,42 @@ class PageInBrowserTest(TimedTest):
             page.js("{ const gone = document.querySelector('#inputs li:nth-child(4) button'); gone.focus(); gone.click() }")
         self.assertTrue(page.js("document.activeElement.closest('#inputs li:nth-child(4)') !== null"))
 
+    def test_what_was_saved_stays_said_and_what_was_unfolded_stays_so(self):
+        """With another language, another limit, and one that is wrong."""
+        page = self.page(P7_FIELD, P7_TABLE)
+        page.saved("Save directions (CSV)", "P7_directions.csv")
+        page.js("document.querySelector('.results section details').open = true")
+        folds = "[...document.querySelectorAll('.card details')].map(one => one.open)"
+        before = page.js(folds)
+        for code, said in [("de", "Gespeichert als"), ("fr", "Enregistr\u00e9 sous"), ("en", "Saved as")]:
+            self.speak(page, code)
+            self.assertEqual(f"{said} P7_directions.csv.", page.text(".results [role=status]"))
+            self.assertEqual(before, page.js(folds))
+        for limit in ("0.3", "x", ""):
+            page.fill("residual", limit)
+            self.assertEqual("Saved as P7_directions.csv.", page.text(".results [role=status]"))
+            self.assertEqual(before, page.js(folds))
+
+    def test_an_earlier_answer_stays_in_grey_and_cannot_be_used(self):
+        """As long as a limit is wrong: nothing of it is printed, and no button of it does anything."""
+        page = self.page(P7_FIELD, P7_SHEET)
+        page.js("window.print = () => { throw new Error('printed') }")
+        page.fill("two-c", "x")
+        self.assertTrue(page.js("$('answered').matches('.stale') && getComputedStyle($('answered')).filter === 'grayscale(1)'"))
+        page.press("Print protocol")
+        self.assertEqual([], page.complaints())
+        page.js("onbeforeprint()")
+        self.assertNotIn("Accepted", page.text("#protocol"))
+        page.fill("two-c", "")
+        self.assertFalse(page.js("$('answered').matches('.stale')"))
+        self.assertEqual([["good", "Station P7", P7_HEADLINE]], self.cards(page))
+
     def test_what_was_said_is_said_in_the_language_that_is_chosen(self):
         page = self.page()
         for do, said in [
-            ("tell(() => say('quiet', text('checking')))", "Wird geprüft …"),
-            ("sayWhy(new Stopped())", "Abgebrochen. Was kein Ergebnis hat, wurde nicht geprüft."),
-            ("sayWhy(new Error('CompileError'))", "Dieser Browser kann nicht prüfen"),
+            ("go({ phase: { is: 'checking' } })", "Wird geprüft …"),
+            ("go({ phase: { is: 'failed', error: new Stopped() } })", "Abgebrochen. Was kein Ergebnis hat, wurde nicht geprüft."),
+            ("go({ phase: { is: 'failed', error: new Error('CompileError') } })", "Dieser Browser kann nicht prüfen"),
         ]:
             page.js(f"{do}; languages.value = 'de'; languages.onchange()")
             self.assertTrue(page.text("#verdict").startswith(said), page.text("#verdict"))
@@ -1459,9 +1489,9 @@ class PageInBrowserTest(TimedTest):
         labels = dict(zip(page.js("(onbeforeprint(), [...document.querySelectorAll('#protocol .facts dt')].map(one => one.textContent))"), page.texts("#protocol .facts dd")))
         self.assertEqual([said["project"], "A. Mayer, TS60 887766"], [labels[name] for name in ("Project", "Observer, instrument")])
         self.assertEqual(["Checked by: place, date, signature"], page.texts(".signs p"))
-        self.assertIn("&lt;b&gt;Dam &amp; ", page.js("protocolFile(cards[0], limits)"))
+        self.assertIn("&lt;b&gt;Dam &amp; ", page.js("protocolFile(now.cards[0], now.limits)"))
         page.call("Page.reload")
-        page.wait("document.readyState === 'complete' && typeof state !== 'undefined' && state > 0")
+        page.wait("document.readyState === 'complete' && typeof now !== 'undefined' && now.turn > 0")
         self.assertEqual([*said.values()], page.js("['project', 'instrument', 'observer'].map(name => $(name).value)"))
         page.empty()
         page.give(P7_FIELD)
@@ -1539,11 +1569,11 @@ class PageInBrowserTest(TimedTest):
         page.js("$('zeniths').checked = true; $('zeniths').onchange()")
         self.assertIn("Zenith angles", self.printed_text(page))
         page.call("Page.reload")
-        page.wait("document.readyState === 'complete' && typeof state !== 'undefined' && state > 0")
+        page.wait("document.readyState === 'complete' && typeof now !== 'undefined' && now.turn > 0")
         self.assertTrue(page.js("$('zeniths').checked"))
         # Of lines that give another direction or another 2i, or none, nothing is shown.
         page.give(P7_FIELD)
-        angles = page.js("ask('angles', cards[0].field.bytes, 'P7').then(({ text }) => text)")
+        angles = page.js("ask('angles', now.cards[0].field.bytes, 'P7').then(({ text }) => text)")
         self.assertTrue(angles.startswith("1\tTOWER\t0000000039999942\t0000000020000090\t0000000009812404\t0000000030187674\n"))
         readings = "readingsOf(cards[0].results.report.line)"
         for text in (angles.replace("39999942", "39999943"), angles.replace("09812404", "09812405"), "", angles.partition("\n")[2]):
@@ -1552,7 +1582,7 @@ class PageInBrowserTest(TimedTest):
         # In a job without codes they are those of the copy.
         page.empty()
         page.give(JOB)
-        self.assertEqual([22, 6], page.js("cards.map(card => card.results.zeniths.length)"))
+        self.assertEqual([22, 6], page.js("now.cards.map(card => card.results.zeniths.length)"))
 
     def test_all_protocols_are_printed_and_saved_together(self):
         """Those that were not opened too; what is saved has a list of what is in it, which leads there."""
@@ -1582,7 +1612,7 @@ class PageInBrowserTest(TimedTest):
         self.assertEqual(["station_check", "station_p7_P7", "station_check"], names)
         page.give(FIELD)
         self.assertEqual("Check of 3 files", page.js("(onbeforeprint(), document.title)"))
-        self.assertEqual("station_s1_S1", page.js("(only = cards[1], onbeforeprint(), only = null, document.title)"))
+        self.assertEqual("station_s1_S1", page.js("(now.only = now.cards[1], onbeforeprint(), now.only = undefined, document.title)"))
 
     def test_each_table_has_one_caption_and_each_verdict_is_a_heading(self):
         page = self.page(P7_FIELD, P7_SHEET, self.file("four.csv", FOUR_DECIMALS))
@@ -1620,11 +1650,11 @@ class PageInBrowserTest(TimedTest):
             self.assertIn(" ".join(said.split()), " ".join(first.split()))
         self.assertIn("A target is read in one face only before the next set begins.", " ".join(" ".join(rest).split()))
         # The protocol of one station, printed or saved alone, names what was refused, open or not used.
-        page.js("only = cards.find(card => card.mood === 'good'); onbeforeprint()")
-        for alone in (page.text("#protocol"), page.js("protocolFile(only, limits, desk.beside(only))")):
+        page.js("now.only = now.cards.find(card => card.mood === 'good'); onbeforeprint()")
+        for alone in (page.text("#protocol"), page.js("protocolFile(now.only, now.limits, desk.beside(now.only))")):
             for said in ("fault_hz.gsi: Refused. An angle is not digits alone.", f"{UNUSED[0][0]}: not used: ", f"rain.gsi: {NOTHING_RECOGNIZED}"):
                 self.assertIn(said, alone)
-        page.js("only = null")
+        page.js("now.only = undefined")
         all_of = "".join(rest)
         titles = ["Protocol of sets: Station P7", "Protocol of sets: Station S1", "Check of fault_hz.gsi", "Check of rain.gsi", "Check of odd.csv"]
         for title in titles:
@@ -1674,9 +1704,9 @@ class PageInBrowserTest(TimedTest):
                 self.assertIn(f"{shown}", page.text("#protocol"))
                 # It stands at the foot of the page, which may cut it.
                 self.assertIn(f"Protocol of sets: Station P7, {shown}"[:40], printed)
-                self.assertIn("Refused. ", page.js("protocolFile(cards[0], limits)"))
+                self.assertIn("Refused. ", page.js("protocolFile(now.cards[0], now.limits)"))
                 # The command that is shown is one, by that name.
-                word = page.js("commandOf('list', [], {}, [cards[0].field.name])").removeprefix("station_check list ")
+                word = page.js("commandOf('list', [], {}, [now.cards[0].field.name])").removeprefix("station_check list ")
                 echoed = subprocess.run(["bash", "-c", f"printf %s {word}"], capture_output=True, check=True).stdout
                 self.assertEqual((name, False), (echoed.decode(), "\n" in word))
 
@@ -1900,7 +1930,7 @@ class PageInBrowserTest(TimedTest):
                 numbers = [re.findall(r"\d+[.,]\d+", one) for one in page.js(words)]
                 self.assertEqual([re.findall(r"\d+[.,]\d+", one.replace(".", ",")) for one in english], numbers)
                 self.assertGreater(len([one for one in numbers if one]), 50)
-        self.assertEqual(saved, page.js("cards[0].results.directions.line").encode() + b"\n")
+        self.assertEqual(saved, page.js("now.cards[0].results.directions.line").encode() + b"\n")
 
     # ------------------------------------------------------------ large files
 
