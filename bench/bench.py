@@ -294,7 +294,7 @@ def with_count(time: float, count: float | None) -> str:
 
 def adjusting(bench: Bench) -> Table:
     """What adjusts: beside `means` where sets are complete, and beside `directions`."""
-    printing = ["differences", "residuals", "report", "report --csv", "report --table"]
+    printing = ["differences", "report", "report --csv", "report --table"]
     names = ["means", "directions", "compare", *printing]
     table = Table("adjusting", "file", *names, "kept")
     sheet = bench.folder / "table.csv"

@@ -8,9 +8,10 @@
         print(refused.line, station_check.explain(refused.line), sep="\\n")
 
 Whole files are bytes, as read. A call answers what the command of its name prints, a single line
-without its line feed, and raises Refused where the command refuses. Limits have the units of the
-command's options; one that is out of its range, or a name that no station can have where it must be
-one, is a ValueError. Only `check` takes a limit of residuals: for the others it is 10 mgon.
+without its line feed, and raises Refused where the command refuses; `residuals` has some columns of
+`report --csv`. Limits have the units of the command's options; one that is out of its range, or a
+name that no station can have where it must be one, is a ValueError. Only `check` takes a limit of
+residuals: for the others it is 10 mgon.
 
 The library is the one that STATION_CHECK_LIBRARY names, else that of the installation which this
 file belongs to, else the one that the system finds.

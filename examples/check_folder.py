@@ -13,8 +13,8 @@ sheet or a table that agrees. The answer to each sheet and table is printed, and
 beside NAME.csv, in the place of an older answer; a file of that name that holds none is left as it
 is, and NAME.csv is then not checked. Nothing else is written or removed: an answer whose sheet or
 table is gone is named. A table that belongs to no field file, or to one of its stations by no name,
-is said to be skipped, which is no mistake. So is a file of rows that station_check itself printed:
-by `list --csv`, `residuals`, `differences` or `report --csv`.
+is said to be skipped, which is no mistake. So is a file of rows that station_check itself printed,
+by `list --csv`, `differences` or `report --csv`, or of residuals that its page saved.
 
 Exit status: 0 if there are field files, each is done, and nothing was refused; 1 if not;
 2 if nothing could be checked: a mistake on the command line, no such folder, one that takes no
@@ -75,13 +75,14 @@ TABLE_ROW = re.compile(
     rb"^[^,;\t ].*[,;\t ]\"?[+-]?\d[\d.,'\"\xc2\xb0-]*\"?[,;\s]*$", re.MULTILINE
 )
 
-# The rows of titles of what station_check prints as rows, and by which command.
+# The rows of titles of what station_check prints as rows, and by which command; and of what its page
+# saves.
 TITLES = {
     b"station,set,target,direction,2c,2i": "list --csv",
-    b"set,target,direction,adjusted,residual": "residuals",
     b"target,stated,least squares,difference,from the median": "differences",
     b"station,set,target,face one,face two,direction,2c,2i,adjusted,residual": "report --csv",
 }
+SAVED_TITLES = b"set,target,direction,adjusted,residual"
 
 
 class Refused(Exception):
@@ -150,10 +151,12 @@ def is_table(name: str, path: str) -> bool:
     return name.lower().endswith(TABLE) or bool(TABLE_ROW.search(head))
 
 
-def printed_by(path: str) -> str | None:
-    """The command of station_check that printed the rows of a file, as its first row tells."""
-    first = head_of(path).removeprefix(b"\xef\xbb\xbf").partition(b"\n")[0]
-    return TITLES.get(first.rstrip(b"\r"))
+def origin_of(path: str) -> str | None:
+    """Where a file of rows of station_check is from, as its first row tells."""
+    first = head_of(path).removeprefix(b"\xef\xbb\xbf").partition(b"\n")[0].rstrip(b"\r")
+    if first in TITLES:
+        return f"'station_check {TITLES[first]}' printed"
+    return "the page saved" if first == SAVED_TITLES else None
 
 
 class Claim(NamedTuple):
@@ -242,13 +245,13 @@ class Folder:
         paths = [path for path in os.listdir() if not path.startswith(".")]
         self.fields = files_by_name(paths, FIELD)
         self.claims: list[Claim] = []
-        # The names of files of rows that station_check printed, and by which command.
+        # The names of files of rows of station_check, and where they are from.
         self.printed: dict[str, str] = {}
         for name, given in files_by_name(paths, CLAIM).items():
             files = []
             for path in given:
-                if command := printed_by(path):
-                    self.printed[name] = command
+                if origin := origin_of(path):
+                    self.printed[name] = origin
                 else:
                     files.append(path)
             if not files:
@@ -360,8 +363,8 @@ class Folder:
         well."""
         for claim in self.claims:
             print(shown(f"{claim.name}: {self.results[claim.name][1]}"))
-        for name, command in self.printed.items():
-            print(shown(f"{name}: rows that 'station_check {command}' printed"))
+        for name, origin in self.printed.items():
+            print(shown(f"{name}: rows that {origin}"))
         for path in self.left_over:
             print(shown(f"{path}: an answer of before; no sheet or table has its name"))
         left = {field: self.left(field) for field in self.fields}

@@ -1,7 +1,7 @@
 #!/usr/bin/env python3
 """Draws the residuals of a station: a file that any browser opens, and that can be printed.
 
-    station_check residuals FIELD.gsi STATION | python3 residuals.py STATION > PICTURE.html
+    station_check report --csv FIELD.gsi STATION | python3 residuals.py STATION > PICTURE.html
 
 It has the residuals in mgon as a picture, which can be saved as SVG, and as a table by target and
 set. The page that checks in a browser draws the same. They are those that station_check prints,
@@ -25,8 +25,10 @@ SCRIPT = Path(sys.argv[0]).name
 PAGE = Path(__file__).resolve().with_suffix(".html")
 PLACES = re.compile("@(STATION|RESIDUALS)@")
 
-# What station_check prints: its row of titles, and a residual in mgon.
-TITLES = ["set", "target", "direction", "adjusted", "residual"]
+# What station_check prints: its row of titles, and a residual in mgon. The page has some of its
+# columns.
+TITLES = "station,set,target,face one,face two,direction,2c,2i,adjusted,residual".split(",")
+SHOWN = "set,target,direction,adjusted,residual".split(",")
 IN_MGON = re.compile(r"-?[0-9]+\.[0-9]{3}")
 
 
@@ -39,28 +41,33 @@ def is_observation(row: list[str]) -> bool:
     return len(row) == len(TITLES) and IN_MGON.fullmatch(row[-1]) is not None
 
 
-def check(printed: str) -> None:
-    """Refuses a text that 'station_check residuals' doesn't print."""
+def residuals_in(printed: str) -> str:
+    """The columns that the page has, of what 'station_check report --csv' printed; another text is
+    refused."""
     titles, *rows = [row for row in csv.reader(io.StringIO(printed)) if row] or [[]]
     if not rows:
         raise Refused("standard input has no residuals: nothing is drawn")
-    is_twice = len({tuple(row[:2]) for row in rows}) < len(rows)
+    is_twice = len({tuple(row[:3]) for row in rows}) < len(rows)
     if titles != TITLES or is_twice or not all(map(is_observation, rows)):
-        raise Refused("standard input is not what 'station_check residuals' prints")
+        raise Refused("standard input is not what 'station_check report --csv' prints")
+    places, text = [TITLES.index(title) for title in SHOWN], io.StringIO()
+    shown = ([row[place] for place in places] for row in [titles, *rows])
+    csv.writer(text, lineterminator="\n").writerows(shown)
+    return text.getvalue()
 
 
-def drawn(station: str, printed: str) -> str:
+def drawn(station: str, residuals: str) -> str:
     """The page that shows these residuals of a station."""
-    values = {"STATION": escape(station), "RESIDUALS": escape(printed)}
+    values = {"STATION": escape(station), "RESIDUALS": escape(residuals)}
     return PLACES.sub(lambda place: values[place[1]], PAGE.read_text(encoding="utf-8"))
 
 
 def command_line() -> argparse.ArgumentParser:
     parser = argparse.ArgumentParser(
         description="Draws the residuals of a station, in mgon, as a page on standard output, "
-        "which any browser opens. What 'station_check residuals' printed is read from standard "
+        "which any browser opens. What 'station_check report --csv' printed is read from standard "
         "input.",
-        epilog="Example: station_check residuals FIELD.gsi STATION | %(prog)s STATION "
+        epilog="Example: station_check report --csv FIELD.gsi STATION | %(prog)s STATION "
         "> PICTURE.html. Exit status: 0 drawn, 1 not drawn (standard error says why), 2 a mistake "
         "on the command line.",
     )
@@ -75,9 +82,7 @@ def main() -> None:
     if isinstance(sys.stdout, io.TextIOWrapper):
         sys.stdout.reconfigure(encoding="utf-8", errors="replace", newline="\n")
     try:
-        printed = sys.stdin.read()
-        check(printed)
-        print(drawn(station, printed), end="")
+        print(drawn(station, residuals_in(sys.stdin.read())), end="")
     except (Refused, csv.Error, OSError) as why:
         sys.exit(f"{SCRIPT}: {why}")
 

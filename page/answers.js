@@ -464,7 +464,7 @@ export const meansOf = (/** @type {Station} */ { field, listed }, /** @type {Lim
   ask('means', field.bytes, listed.name, limits.twoC, limits.twoI);
 
 /**
- * What a command answers of a station, by its numbers of these names, and by the name of the file
+ * What a call answers of a station, by its numbers of these names, and by the name of the file
  * where it says that.
  * @param {string} asked
  * @param {Station} station
@@ -475,7 +475,9 @@ export const meansOf = (/** @type {Station} */ { field, listed }, /** @type {Lim
  */
 async function answerOfStation(asked, { field, listed: { name } }, names, limits, ...path) {
   const reply = await ask(asked, field.bytes, ...path, name, ...names.map(one => limits[one]));
-  const command = commandOf(asked, names, limits, [field.name, name]);
+  // (the program prints residuals among the rows of a report)
+  const [word, ...more] = asked === 'residuals' ? ['report', '--csv'] : [asked];
+  const command = commandOf(word, names, limits, [field.name, name], more);
   return answered(reply, { asked, field, command });
 }
 

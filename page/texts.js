@@ -561,9 +561,9 @@ export const TEXTS = {
     fr: 'Résidus de la station {name}',
   },
   printed: {
-    en: 'What “station_check residuals” printed',
-    de: 'Was „station_check residuals“ ausgegeben hat',
-    fr: 'Ce que « station_check residuals » a écrit',
+    en: 'From the output of “station_check report --csv”',
+    de: 'Aus der Ausgabe von „station_check report --csv“',
+    fr: 'Tiré de la sortie de « station_check report --csv »',
   },
   residualsCaption: {
     en: 'Residuals in mgon: adjusted direction less orientation less reading; × is not observed',

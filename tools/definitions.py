@@ -30,12 +30,12 @@ PRINTED = {
     "`mark`": ("set_marks", "Markings"),
     "the notes of `mark`": ("station_mark", "Notes"),
     "`differences`": ("station_differences", "Stating"),
-    "`residuals`": ("station_residuals", "Stating"),
+    "the residuals of the page and the library": ("station_residuals", "Stating"),
     "`report`": ("station_report", "Stating"),
     "`report --table`": ("table_report", "Stating"),
     "what `compare`, `differences` and `report --table` say of a field file and a table": ("table_answers", "Answers"),
     "`report --csv`": ("report_rows", "Stating"),
-    "what `directions`, `residuals` and `report` say of a field file": ("station_answers", "Answers"),
+    "what `directions` and `report` say of a field file": ("station_answers", "Answers"),
 }
 
 # More letters than most rows of the page have.

@@ -27,7 +27,7 @@ from worked import (
     DIFFERENCES,
     LIST,
     REPORT,
-    RESIDUALS,
+    REPORT_ROWS,
     SHEET,
     STATION,
     TABLE,
@@ -44,8 +44,8 @@ COMMANDS = {
     "differences": ["differences", "{gsi}", "S1", str(EXAMPLE_TABLE)],
     "means": ["means", "{gsi}", "S1"],
     "directions": ["directions", "{gsi}", "S1"],
-    "residuals": ["residuals", "{gsi}", "S1"],
     "report": ["report", "{gsi}", "S1"],
+    "report --csv": ["report", "--csv", "{gsi}", "S1"],
     "list": ["list", "{gsi}"],
     "words": ["words", "{gsi}"],
 }
@@ -56,8 +56,8 @@ OF_EXAMPLE = {
     "differences": DIFFERENCES,
     "means": SHEET,
     "directions": TABLE,
-    "residuals": RESIDUALS,
     "report": REPORT,
+    "report --csv": REPORT_ROWS,
     "list": LIST,
     "words": model.words(STATION)[1],
 }
@@ -71,11 +71,11 @@ def printed(command, path):
 
 
 # The commands that have limits of 2c and 2i. The report tells them in its head.
-LIMITED = ["check", "compare", "differences", "means", "directions", "residuals", "report", "list"]
+LIMITED = ["check", "compare", "differences", "means", "directions", "report", "report --csv", "list"]
 
 # The commands that have a limit of residuals, and those that read a field file and have none.
 HELD = ["check", "compare", "differences", "directions", "report"]
-NOT_HELD = ["means", "residuals", "list", "words", "mark"]
+NOT_HELD = ["means", "list", "words", "mark"]
 
 NO_MEMORY = (1, b"", b"refused: out of memory\n")
 
@@ -200,8 +200,8 @@ class CommandLineTest(ProgramTest):
             ("differences", (1, b"", refused("no station"))),
             ("means", (1, b"", refused("no station"))),
             ("directions", (1, b"", refused("no station"))),
-            ("residuals", (1, b"", refused("no station"))),
             ("report", (1, b"", refused("no station"))),
+            ("report --csv", (1, b"", refused("no station"))),
             ("list", (0, b"", b"")),
             ("words", (0, b"", b"")),
         ]:
@@ -238,19 +238,20 @@ class CommandLineTest(ProgramTest):
             (["means", "a"], missing + b"  <STATION>\n"),
             (["check", "a"], missing + b"  <SHEET>\n"),
             (["directions", "a"], missing + b"  <STATION>\n"),
-            (["residuals", "a"], missing + b"  <STATION>\n"),
             (["report", "a"], missing + b"  <STATION>\n"),
+            (["report", "--csv", "a"], missing + b"  <STATION>\n"),
             (["compare", "a"], missing + b"  <STATION>\n  <TABLE>\n"),
             (["compare", "a", "b"], missing + b"  <TABLE>\n"),
             (["differences", "a"], missing + b"  <STATION>\n  <TABLE>\n"),
             (["differences", "a", "b"], missing + b"  <TABLE>\n"),
             (["nonsense"], b"error: unrecognized subcommand 'nonsense'\n"),
+            (["residuals", "a", "b"], b"error: unrecognized subcommand 'residuals'\n"),
             (["--nonsense"], b"error: unexpected argument '--nonsense' found\n"),
             (["words", "a", "b"], b"error: unexpected argument 'b' found\n"),
             (["check", "a", "b", "c"], b"error: unexpected argument 'c' found\n"),
             (["directions", "a", "b", "c"], b"error: unexpected argument 'c' found\n"),
-            (["residuals", "a", "b", "c"], b"error: unexpected argument 'c' found\n"),
             (["report", "a", "b", "c"], b"error: unexpected argument 'c' found\n"),
+            (["report", "--csv", "a", "b", "c"], b"error: unexpected argument 'c' found\n"),
             (["compare", "a", "b", "c", "d"], b"error: unexpected argument 'd' found\n"),
             (["differences", "a", "b", "c", "d"], b"error: unexpected argument 'd' found\n"),
             (["words", "--two-c", "1", "a"], b"error: unexpected argument '--two-c' found\n"),
@@ -262,7 +263,6 @@ class CommandLineTest(ProgramTest):
                     ["differences", "--within"],
                     ["differences", "--sha256"],
                     ["directions", "--within"],
-                    ["residuals", "--decimals"],
                     ["report", "--decimals"],
                     ["check", "--within"],
                 ]
@@ -323,7 +323,7 @@ class CommandLineTest(ProgramTest):
         other = self.folder / "other"
         other.symlink_to(PROGRAM)
         for args in [
-            *([command, "--two-c=", *COMMANDS[command][1:]] for command in LIMITED),
+            *([COMMANDS[command][0], "--two-c=", *COMMANDS[command][1:]] for command in LIMITED),
             *([command, "--residual=0.3", *COMMANDS[command][1:]] for command in HELD),
             ["compare", "--within=0.3", "a", "b", "c"],
             ["report", "--csv", "--sha256", "a", "b"],
@@ -353,8 +353,8 @@ class CommandLineTest(ProgramTest):
             [b"compare", EXAMPLE, b"S1", b"\xff.csv"],
             [b"differences", EXAMPLE, b"S1", b"\xff.csv"],
             [b"directions", EXAMPLE, b"S\xff"],
-            [b"residuals", EXAMPLE, b"S\xff"],
             [b"report", EXAMPLE, b"S\xff"],
+            [b"report", b"--csv", EXAMPLE, b"S\xff"],
             [b"list", EXAMPLE, b"--two-c", b"\xff"],
             [b"\xff"],
         ]:
@@ -379,10 +379,9 @@ class CommandLineTest(ProgramTest):
             *(([command, "--help"], [b"--degrees", b"59-04-09.18"]) for command in ["compare", "differences", "report"]),
             (["directions", "--help"], [b"--decimals <K>", b"[default: 6]", b"<STATION>"]),
             (["differences", "--help"], [b"<TABLE>", b"--two-c <LIMIT>", b"in mgon with 3"]),
-            (["residuals", "--help"], [b"<STATION>", b"--two-c <LIMIT>", b"in mgon with 3"]),
-            (["report", "--help"], [b"<STATION>", b"--two-c <LIMIT>", b"degrees of freedom"]),
+            (["report", "--help"], [b"<STATION>", b"--two-c <LIMIT>", b"degrees of freedom", b"in mgon with 3"]),
             (["report", "--help"], [b"--table <TABLE>", b"--within <LIMIT>", b"--sha256", b"--csv"]),
-            *(([command, "--help"], FACE_DIFFERENCES) for command in LIMITED),
+            *(([COMMANDS[command][0], "--help"], FACE_DIFFERENCES) for command in LIMITED),
             (["words", "--help"], [b"GSI-8, GSI-16 or both"]),
             (["help", "words"], [b"GSI-8, GSI-16 or both"]),
             (["check", "-h"], [f"Usage: {PROGRAM.name} check [OPTIONS] <GSI> <SHEET>\n".encode()]),
@@ -393,7 +392,7 @@ class CommandLineTest(ProgramTest):
                 for part in parts:
                     self.assertIn(part, stdout)
                 self.assertLessEqual(max(map(len, stdout.splitlines())), 100)
-        for command in [*COMMANDS, "explain"]:
+        for command in [*(words[0] for words in COMMANDS.values()), "explain"]:
             with self.subTest(command=command):
                 stdout = answer_of([command, "--help"])[1]
                 self.assertIn(b"Exit status:\n  0  ", stdout)

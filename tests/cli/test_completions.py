@@ -19,7 +19,7 @@ ZSH = SHARE / "zsh" / "site-functions"
 FISH = SHARE / "fish" / "vendor_completions.d" / "station_check.fish"
 
 COMMANDS = [
-    *["compare", "differences", "directions", "residuals", "report", "check", "means", "mark"],
+    *["compare", "differences", "directions", "report", "check", "means", "mark"],
     *["list", "words"],
     *["explain", "help"],
 ]
@@ -100,8 +100,7 @@ class CompletionsTest(ProgramTest):
         self.assertEqual([*FACE_LIMITS, "--csv", "--help"], self.of_bash("list", "-"))
         of_differences = ["--degrees", *FACE_LIMITS, "--residual", "--help"]
         self.assertEqual(of_differences, self.of_bash("differences", "-"))
-        for command in ["residuals", "means"]:
-            self.assertEqual([*FACE_LIMITS, "--help"], self.of_bash(command, "-"))
+        self.assertEqual([*FACE_LIMITS, "--help"], self.of_bash("means", "-"))
         options = ["--station", "--same-set-up", "--again", "--station-code"]
         options += ["--sets", "--targets", "--others"]
         self.assertEqual([*options, "--help"], self.of_bash("mark", "-"))
@@ -121,7 +120,7 @@ class CompletionsTest(ProgramTest):
         self.assertEqual(["field.gsi", "sheet.csv"], sorted(self.of_bash("report", "--table", "=")))
         for command in ["compare", "differences"]:
             self.assertEqual(["sheet.csv"], self.of_bash(command, "field.gsi", "S1", "s"))
-        named = ["means a", "directions a", "residuals a", "report a", "compare a", "differences a"]
+        named = ["means a", "directions a", "report a", "compare a", "differences a"]
         for words in ["check a b", *named, "compare a b c", "differences a b c", "list a"]:
             self.assertEqual([""], self.of_bash(*words.split(), ""))
 

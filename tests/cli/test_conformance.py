@@ -139,8 +139,6 @@ def model_answer(case):
         return model.means(files[0], station, limits, fails[0])
     if asked.command == "directions":
         return model.directions(files[0], station, limits, asked.decimals, fails[0], **held)
-    if asked.command == "residuals":
-        return model.residuals(files[0], station, limits, fails[0])
     if asked.command == "differences":
         return model.differences(files[0], station, files[1], limits, asked.degrees, fails, **held)
     if asked.command == "report" and asked.csv:

@@ -123,7 +123,7 @@ class AdjustedTest(AgainstModel):
             within = random.choice([None, 0, 10, 51])
             answers = self.compare([
                 Case(f"{place}: directions", "directions", file, decimals=random.randint(1, 8)),
-                Case(f"{place}: residuals", "residuals", file),
+                Case(f"{place}: rows of the report", "report --csv", file),
                 Case(f"{place}: compare", "compare", file, table, within=within),
                 Case(f"{place}: differences", "differences", file, table),
             ])

@@ -41,8 +41,8 @@ class EndsTest(ProgramTest):
             ["means", self.field, "S1"],
             ["check", self.field, self.sheet],
             ["directions", self.field, "S1"],
-            ["residuals", self.field, "S1"],
             ["report", self.field, "S1"],
+            ["report", "--csv", self.field, "S1"],
             ["compare", self.field, "S1", self.table],
             ["differences", self.field, "S1", self.table],
             ["mark", "--station=S1", self.file("job.gsi", JOB)],
@@ -82,7 +82,8 @@ class StreamsTest(EndsTest):
         read += [["mark", folder]]
         of_two = [["check", self.field, folder]]
         of_two += [[command, self.field, "S1", folder] for command in ["compare", "differences"]]
-        named = [[command, self.field, "S2"] for command in ["directions", "residuals", "report"]]
+        named = [[command, self.field, "S2"] for command in ["directions", "report"]]
+        named.append(["report", "--csv", self.field, "S2"])
         above = [[command, "--residual=0", self.field, "S1"] for command in ["directions", "report"]]
         for command in ["compare", "differences"]:
             above.append([command, "--residual=0", self.field, "S1", self.table])
@@ -122,8 +123,8 @@ class FilesTest(EndsTest):
             (["check", self.field, folder], "sheet: Read"),
             (["check", folder, folder], "block 1: Read"),
             (["directions", folder, "S1"], "block 1: Read"),
-            (["residuals", folder, "S1"], "block 1: Read"),
             (["report", folder, "S1"], "block 1: Read"),
+            (["report", "--csv", folder, "S1"], "block 1: Read"),
             (["compare", folder, "S1", self.table], "block 1: Read"),
             (["compare", self.field, "S1", folder], "table: Read"),
             (["compare", self.field, "S2", folder], "no station"),
@@ -172,8 +173,8 @@ class FilesTest(EndsTest):
             (["check", self.field, "/dev/zero"], refused("sheet: TooLong")),
             (["check", "/dev/zero", "/dev/zero"], refused("block 1: LineTooLong")),
             (["directions", "/dev/null", "S1"], refused("no station")),
-            (["residuals", "/dev/null", "S1"], refused("no station")),
             (["report", "/dev/null", "S1"], refused("no station")),
+            (["report", "--csv", "/dev/null", "S1"], refused("no station")),
             (["compare", "/dev/null", "S1", "/dev/zero"], refused("no station")),
             (["compare", self.field, "S1", "/dev/null"], refused("table: Missing 1")),
             (["compare", self.field, "S1", "/dev/zero"], refused("table: TooLong")),
@@ -260,7 +261,8 @@ class SignalsTest(EndsTest):
     def test_a_fault_is_refused_while_more_may_come(self):
         """What comes after the first fault is not waited for."""
         refused = b"refused: block 1: SetOutside\n"
-        named = [[command, "S1"] for command in ["means", "directions", "residuals", "report"]]
+        named = [[command, "S1"] for command in ["means", "directions", "report"]]
+        named.append(["report", "S1", "--csv"])
         for args in [["list"], ["list", "--csv"], *named, ["check", self.sheet]]:
             with self.subTest(args):
                 run = self.started(args[0], "/dev/stdin", *args[1:])

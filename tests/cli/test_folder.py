@@ -68,12 +68,12 @@ IN_DEGREES = [
     "A,0°00'00.0\"\nB,45°00'00.1\"\n".encode(),
 ]
 
-# The rows that station_check prints of the example, and by which command.
+# The rows of the example that station_check prints or its page saves, and where they are from.
 ROWS = [
-    ("list --csv", "job.list.csv", LIST_ROWS),
-    ("residuals", "job.residuals.csv", RESIDUALS),
-    ("differences", "job.S1.differences.CSV", DIFFERENCES),
-    ("report --csv", "job.report.csv", REPORT_ROWS),
+    ("'station_check list --csv' printed", "job.list.csv", LIST_ROWS),
+    ("the page saved", "job.residuals.csv", RESIDUALS),
+    ("'station_check differences' printed", "job.S1.differences.CSV", DIFFERENCES),
+    ("'station_check report --csv' printed", "job.report.csv", REPORT_ROWS),
 ]
 
 
@@ -265,7 +265,7 @@ class FolderTest(ProgramTest):
     def test_rows_that_station_check_printed_are_no_mistake(self):
         """As they are, as a spreadsheet saves them, and their titles alone."""
         files, said = {"job.gsi": STATION, "job.csv": SHEET}, f"job: {ACCEPTED_S1}"
-        skipped = [f"{name[:-4]}: rows that 'station_check {by}' printed" for by, name, _ in ROWS]
+        skipped = [f"{name[:-4]}: rows that {origin}" for origin, name, _ in ROWS]
         lines = [said, *skipped, SUMMARY.format(1, 1, 1, 0, 0)]
         for form in [
             lambda rows: rows,
@@ -279,9 +279,9 @@ class FolderTest(ProgramTest):
 
     def test_rows_that_station_check_printed_do_for_no_sheet(self):
         missing = f"job: {MISSING.format('S1')}"
-        for command, _, rows in ROWS:
-            with self.subTest(command):
-                skipped = f"job: rows that 'station_check {command}' printed"
+        for origin, _, rows in ROWS:
+            with self.subTest(origin):
+                skipped = f"job: rows that {origin}"
                 lines = [skipped, missing, SUMMARY.format(0, 1, 0, 0, 0)]
                 self.assertEqual((1, lines), self.answers({"job.gsi": STATION, "job.csv": rows}))
         # The sheet beside them is checked, and its refusal shows.

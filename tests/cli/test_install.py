@@ -133,7 +133,7 @@ class InstallTest(ProgramTest):
         path = f"{self.folder / 'bin'}{os.pathsep}{os.environ['PATH']}"
         for script in [
             "station_check list station_p7.gsi | station_check_adjust | cmp - station_p7.csv",
-            "station_check residuals station_p7.gsi P7 | station_check_residuals P7",
+            "station_check report --csv station_p7.gsi P7 | station_check_residuals P7",
             "station_check_prepare station_p7.gsi copy.txt --set P7 3 --why 'a test'",
             "station_check_folder .",
         ]:

@@ -1,7 +1,7 @@
 """The shared library, from Python and from C, gives the program's answers and shows its calls alone:
-the cases of conformance/; room that grows; what is out of its range; calls on several threads; the
-program of its page; the C example, and the header as C++ too; memory that is given back. Each export
-takes and says what its call does."""
+the cases of conformance/; residuals beside the rows of reports; room that grows; what is out of its
+range; calls on several threads; the program of its page; the C example, and the header as C++ too;
+memory that is given back. Each export takes and says what its call does."""
 
 import hashlib
 import importlib.util
@@ -14,10 +14,13 @@ import sys
 import unittest
 from concurrent.futures import ThreadPoolExecutor
 from pathlib import Path
+from random import Random
 from typing import Any, NamedTuple
 
+from generated import SEED, station_to_adjust
 from kinds import refusal_in
-from program import PROGRAM, ROOT, Answer, ProgramTest, answer_of, answer_to
+from program import PROGRAM, ROOT, SWEEP, Answer, ProgramTest, answer_of, answer_to
+from rows import answer_of_residuals, as_call
 
 sys.path.insert(0, str(ROOT / "conformance"))
 import run  # noqa: E402
@@ -92,6 +95,9 @@ GIVEN: dict[str, list[bytes | str]] = {
     "residuals": [GSI.read_bytes(), "P7"],
     "mark": [JOB.read_bytes()],
 }
+
+# So many generated stations have residuals, of up to the most sets and targets.
+STATIONS, MOST = 300 if SWEEP else 30, (40, 100)
 
 # So many calls are made at the same time, and so many after each other.
 THREADS, TIMES = 8, 20
@@ -271,13 +277,23 @@ class LibraryTest(ProgramTest):
     # ------------------------------------------------------------ Python
 
     def test_the_calls_answer_as_each_case_says(self) -> None:
-        calls = [(case, call) for case in run.cases() if (call := call_of(case))]
+        calls = [(case, call) for case in map(as_call, run.cases()) if (call := call_of(case))]
         self.assertGreater(len(calls), 230)
-        answered = {path.name for path in (run.FOLDER / "answered").iterdir()}
-        self.assertEqual(answered & set(OPERANDS), {call.command for _, call in calls})
+        answered = {call.command for case, call in calls if case.expected[0] == 0}
+        self.assertEqual(set(OPERANDS), answered)
         for case, call in calls:
             with self.subTest(case.name):
                 self.assertEqual(case.expected, self.answer(*call))
+
+    @unittest.skipUnless(PROGRAM.exists(), "the program is not built")
+    def test_residuals_are_columns_of_the_rows_of_a_report(self) -> None:
+        """Of stations up to the largest, some of which are refused."""
+        field = self.folder / "field.gsi"
+        for place in range(STATIONS):
+            gsi = station_to_adjust(Random(f"{SEED} residuals {place}"), *MOST)
+            field.write_bytes(gsi)
+            with self.subTest(place):
+                self.assertEqual(answer_of_residuals(field, "S1"), self.answer("residuals", [gsi, "S1"], {}))
 
     def test_room_for_a_text_grows_until_it_is_enough(self) -> None:
         usual = {name: self.answer(name, given, {}) for name, given in GIVEN.items()}

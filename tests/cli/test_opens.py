@@ -22,7 +22,6 @@ COMMANDS = {
     "check": ["check", "{field}", "{sheet}"],
     "check --sha256": ["check", "--sha256", "{field}", "{sheet}"],
     "directions": ["directions", "{field}", "S1"],
-    "residuals": ["residuals", "{field}", "S1"],
     "report": ["report", "{field}", "S1"],
     "report --csv": ["report", "--csv", "{field}", "S1"],
     "report --table": ["report", "--sha256", "--table", "{table}", "{field}", "S1"],

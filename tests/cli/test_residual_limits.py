@@ -10,6 +10,7 @@ import model
 from against_model import AgainstModel, Case
 from generated import SEED, changed_table, station_to_adjust
 from program import ROOT, SWEEP, ProgramTest, Run, answer_of
+from rows import answer_of_residuals
 from test_directions import CHAIN, TWO_PARTS, both_faces, one_set, three_sets
 from test_means import largest
 from worked import AGREES, REPORT, STATION, TABLE, TABLE_15, edited, field_file, refused
@@ -137,14 +138,14 @@ class ResidualLimitsTest(ProgramTest):
             self.check([Run(limit, words, file=MOVED, sheet=MOVED_TABLE, **answer)])
         self.check([Run("no limit", args, file=MOVED, sheet=MOVED_TABLE, stdout=MOVED_AGREES)])
         row = b"2,P8,312.763360,312.759959,-3.401\n"
-        _, rows, _ = answer_of(["residuals", self.folder / "field.gsi", "P7"])
+        _, rows, _ = answer_of_residuals(self.folder / "field.gsi", "P7")
         self.assertIn(row, rows.splitlines(keepends=True))
 
     def test_the_residuals_of_a_refused_station_are_printed(self):
-        """They have no limit of their own, so that the residual that was refused is found."""
+        """Where no limit is stated, so that the residual that was refused is found."""
         field = self.folder / "field.gsi"
         field.write_bytes(MOVED)
-        self.assertEqual(model.residuals(MOVED, b"P7"), answer_of(["residuals", field, "P7"]))
+        self.assertEqual(model.reported_rows(MOVED, b"P7"), answer_of(["report", "--csv", field, "P7"]))
 
     def test_no_limit_is_printed_that_did_not_hold(self):
         """Each report tells the limit to which it was held: the stated one, or the largest."""

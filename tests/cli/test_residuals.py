@@ -1,5 +1,6 @@
-"""examples/residuals.py: the page that it fills in is made of the modules that draw now, and has what
-was printed as it is; what `residuals` doesn't print has none. tests/page looks at it in a browser."""
+"""examples/residuals.py: the page that it fills in is made of the modules that draw now, and has the
+residuals as they were printed; what `report --csv` doesn't print has none. tests/page looks at it in a
+browser."""
 
 import html
 import subprocess
@@ -7,7 +8,7 @@ import sys
 import unittest
 
 from program import EXAMPLE, ROOT, ProgramTest, answer_of
-from worked import RESIDUALS, edited
+from worked import REPORT_ROWS, RESIDUALS, edited
 
 sys.path.insert(0, str(ROOT / "page"))
 import scripts  # noqa: E402
@@ -15,7 +16,7 @@ import scripts  # noqa: E402
 SCRIPT = ROOT / "examples" / "residuals.py"
 
 NOTHING = "residuals.py: standard input has no residuals: nothing is drawn\n"
-NOT_THESE = "residuals.py: standard input is not what 'station_check residuals' prints\n"
+NOT_THESE = "residuals.py: standard input is not what 'station_check report --csv' prints\n"
 
 
 def drawn(rows: bytes, name: str = "S1") -> tuple[int, str, str]:
@@ -26,7 +27,7 @@ def drawn(rows: bytes, name: str = "S1") -> tuple[int, str, str]:
 
 
 def printed_in(page: str) -> str:
-    """The text that stands in a page as the program printed it."""
+    """The text that stands in a page, as the program printed it."""
     return html.unescape(page.partition('<pre id="printed">')[2].partition("</pre>")[0])
 
 
@@ -40,49 +41,54 @@ class ResidualsTest(ProgramTest):
             self.assertIn(scripts.dense(scripts.bare(text)), page)
 
     def test_a_page_has_the_residuals_as_they_were_printed(self):
-        status, rows, _ = answer_of(["residuals", EXAMPLE, "S1"])
-        self.assertEqual((0, RESIDUALS), (status, rows))
+        status, rows, _ = answer_of(["report", "--csv", EXAMPLE, "S1"])
+        self.assertEqual((0, REPORT_ROWS), (status, rows))
         status, page, said = drawn(rows)
         self.assertEqual((0, ""), (status, said))
-        self.assertEqual(rows.decode(), printed_in(page))
+        self.assertEqual(RESIDUALS.decode(), printed_in(page))
         self.assertIn("<title>S1</title>", page)
 
     def test_no_name_ends_the_text_or_takes_the_place_of_another(self):
         for name in ["</pre><b>&", "@STATION@", "@RESIDUALS@", "<!--"]:
             with self.subTest(name):
-                rows = RESIDUALS.replace(b"B", name.encode())
+                rows, shown = (text.replace(b",B,", f",{name},".encode()) for text in [REPORT_ROWS, RESIDUALS])
                 status, page, _ = drawn(rows, name)
-                self.assertEqual((0, rows.decode()), (status, printed_in(page)))
+                self.assertEqual((0, shown.decode()), (status, printed_in(page)))
                 self.assertIn(f"<title>{html.escape(name)}</title>", page)
 
     def test_rows_may_end_in_cr_lf(self):
-        self.assertEqual(drawn(RESIDUALS), drawn(RESIDUALS.replace(b"\n", b"\r\n")))
+        self.assertEqual(drawn(REPORT_ROWS), drawn(REPORT_ROWS.replace(b"\n", b"\r\n")))
+
+    def test_a_name_in_quotes_stays_in_them(self):
+        rows, shown = (text.replace(b",B,", b',"B,""1",') for text in [REPORT_ROWS, RESIDUALS])
+        status, page, _ = drawn(rows)
+        self.assertEqual((0, shown.decode()), (status, printed_in(page)))
 
     def test_a_refused_station_has_no_page(self):
-        status, rows, _ = answer_of(["residuals", EXAMPLE, "S2"])
+        status, rows, _ = answer_of(["report", "--csv", EXAMPLE, "S2"])
         self.assertEqual(1, status)
         self.assertEqual((1, "", NOTHING), drawn(rows))
-        self.assertEqual((1, "", NOTHING), drawn(RESIDUALS.splitlines(keepends=True)[0]))
+        self.assertEqual((1, "", NOTHING), drawn(REPORT_ROWS.splitlines(keepends=True)[0]))
 
-    def test_what_residuals_does_not_print_has_no_page(self):
-        first, *rows = RESIDUALS.splitlines(keepends=True)
+    def test_what_a_report_of_rows_does_not_have_has_no_page(self):
+        _, *rows = REPORT_ROWS.splitlines(keepends=True)
         for text in [
             b"".join(rows),
-            edited(RESIDUALS, (b"adjusted", b"other")),
-            edited(RESIDUALS, (b"-0.005", b"-0.0051")),
-            edited(RESIDUALS, (b"-0.005", b"")),
-            RESIDUALS[:-8],
-            RESIDUALS + rows[0],
-            RESIDUALS + b"3,C\n",
+            edited(REPORT_ROWS, (b"adjusted", b"other")),
+            edited(REPORT_ROWS, (b"-0.005", b"-0.0051")),
+            edited(REPORT_ROWS, (b"-0.005", b"")),
+            REPORT_ROWS[:-8],
+            REPORT_ROWS + rows[0],
+            REPORT_ROWS + b"S1,3,C\n",
+            RESIDUALS,
             b"\xff\n\xff\n",
         ]:
             with self.subTest(text):
                 self.assertEqual((1, "", NOT_THESE), drawn(text))
-        self.assertEqual(first.rstrip(), b"set,target,direction,adjusted,residual")
 
     def test_a_name_of_a_station_is_needed(self):
         command = [sys.executable, str(SCRIPT)]
-        done = subprocess.run(command, input=RESIDUALS, capture_output=True, timeout=60)
+        done = subprocess.run(command, input=REPORT_ROWS, capture_output=True, timeout=60)
         self.assertEqual((2, b""), (done.returncode, done.stdout))
 
 

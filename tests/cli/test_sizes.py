@@ -48,7 +48,7 @@ def table_of(targets):
 
 # The commands whose answer the model works out, at each number of sets and of targets.
 OTHERS = [
-    "words", "list --csv", "residuals", "differences", "report", "report --csv", "report --table",
+    "words", "list --csv", "differences", "report", "report --csv", "report --table",
 ]  # fmt: skip
 
 # Those of them that take a limit of residuals, which are all 0.

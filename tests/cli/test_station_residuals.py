@@ -1,6 +1,6 @@
-"""The residuals of stations, observation by observation: examples worked out by hand, and generated
-stations beside the model. Each row adds up, and with the rows of its set and of its target to 0 but
-for rounding."""
+"""The residuals of stations, observation by observation, as `report --csv` prints them: examples worked
+out by hand, and generated stations beside the model. Each row adds up, and with the rows of its set
+and of its target to 0 but for rounding."""
 
 import csv
 import io
@@ -11,6 +11,7 @@ from random import Random
 from against_model import AgainstModel, Case
 from generated import SEED, station_to_adjust
 from program import SWEEP, ProgramTest, Run, answer_of
+from rows import answer_of_residuals
 from test_directions import CHAIN, FAULTS, both_faces, one_set, three_sets
 from test_means import largest
 from worked import RESIDUALS, STATION, field_file, refused, widened
@@ -22,7 +23,7 @@ STATIONS = 300 if SWEEP else 30
 # A full circle, in units of 0.000001 gon.
 CIRCLE = 400_000_000
 
-# What is printed of a field file, worked out by hand.
+# What is printed of the residuals of a field file, worked out by hand.
 PRINTED = [
     ("the example", STATION, RESIDUALS),
     ("GSI-16", widened(STATION), RESIDUALS),
@@ -61,17 +62,20 @@ def units(text, decimals):
 
 class ResidualsTest(ProgramTest):
     def test_residuals_are_printed_or_the_first_fault_is_named(self):
+        field = self.folder / "field.gsi"
         for name, file, printed in PRINTED:
-            self.check([Run(name, ["residuals", "{file}", "S1"], file=file, stdout=printed)])
+            with self.subTest(name):
+                field.write_bytes(file)
+                self.assertEqual((0, printed, b""), answer_of_residuals(field, "S1"))
         for name, file, station, fault in FAULTS:
-            args = ["residuals", "{file}", station]
+            args = ["report", "--csv", "{file}", station]
             self.check([Run(name, args, file=file, stderr=refused(fault), status=1)])
 
     def test_the_largest_station(self):
         _, sets, *_ = largest()
         field = self.folder / "field.gsi"
         field.write_bytes(field_file(sets))
-        status, printed, said = answer_of(["residuals", field, "S1"])
+        status, printed, said = answer_of_residuals(field, "S1")
         rows = printed.decode().splitlines()
         self.assertEqual((0, b"", 4_001), (status, said, len(rows)))
         for row in rows[1:]:
@@ -83,7 +87,7 @@ class GeneratedTest(AgainstModel):
     def test_generated_stations_beside_the_model(self):
         for place in range(STATIONS):
             file = station_to_adjust(Random(f"{SEED} residuals {place}"))
-            self.compare([Case(f"{place}", "residuals", file)])
+            self.compare([Case(f"{place}", "report --csv", file)])
 
     def test_rows_add_up(self):
         """Of stations up to the largest: each row to the last digit; and the residuals of a set, and
@@ -91,7 +95,7 @@ class GeneratedTest(AgainstModel):
         field, printed = self.folder / "field.gsi", 0
         for place in range(STATIONS):
             field.write_bytes(station_to_adjust(Random(f"{SEED} rows {place}"), 40, 100))
-            status, text, _ = answer_of(["residuals", field, "S1"])
+            status, text, _ = answer_of(["report", "--csv", field, "S1"])
             printed += status == 0
             sums = defaultdict(list)
             for row in csv.DictReader(io.StringIO(text.decode())):

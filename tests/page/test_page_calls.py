@@ -21,6 +21,7 @@ from pathlib import Path
 
 from kinds import refusal_in
 from program import EXAMPLE, PROGRAM, ROOT, SWEEP, TimedTest, answer_to
+from rows import answer_of_residuals, as_call
 
 sys.path[:0] = [str(ROOT / name) for name in ("conformance", "page")]
 import build  # noqa: E402
@@ -114,6 +115,11 @@ def is_of_page(case):
     return not is_own and case.expected[0] < 2 and all(path.is_file() for path in paths)
 
 
+def cases_of_page():
+    """The cases whose files can be handed in."""
+    return [case for case in map(as_call, run.cases()) if is_of_page(case)]
+
+
 def sheet_residuals(path):
     """The residuals of a sheet, by set and target, in units of 0.001 mgon, the middle of two upwards."""
     with open(path, encoding="utf-8", newline="") as file:
@@ -178,8 +184,9 @@ class PageCallsTest(TimedTest):
         return page
 
     def test_the_calls_answer_as_each_case_says(self):
-        cases = [case for case in run.cases() if is_of_page(case)]
+        cases = cases_of_page()
         self.assertGreater(len(cases), 230)
+        self.assertIn("residuals", {case.args[0] for case in cases if case.expected[0] == 0 and case.args})
         for case in cases:
             with self.subTest(case.name):
                 self.assertEqual(case.expected, run.answer(self.command(), case))
@@ -188,7 +195,7 @@ class PageCallsTest(TimedTest):
         if not (is_lowered() and (node := node_of_64_bits())):
             self.skipTest("there is one module, or no node that runs the other")
         command = [*node, str(COMMAND_LINE), str(self.other_page("page64.html", MODULE))]
-        for case in [case for case in run.cases() if is_of_page(case)][::EACH]:
+        for case in cases_of_page()[::EACH]:
             with self.subTest(case.name):
                 self.assertEqual(case.expected, run.answer(command, case))
 
@@ -345,13 +352,14 @@ class PageCallsTest(TimedTest):
                         ["mark", job],
                     ]
                 )
+                is_residuals = words[0] == "residuals"
                 with self.subTest(nth, words=words):
-                    answers = [answer_to([*one, *words]) for one in ([PROGRAM], self.command())]
-                    self.assertEqual(*answers)
+                    of_program = answer_of_residuals(*words[1:]) if is_residuals else answer_to([PROGRAM, *words])
+                    self.assertEqual(of_program, answer_to([*self.command(), *words]))
 
     def test_a_refused_allocation_is_answered(self):
         kit, wasm, module = build.prove.kit_of(RT), build.ROOM / "refused.wasm", build.ROOM / "refused32.wasm"
-        commands = [["check", *EXAMPLES[:2]], ["explain", "TwoC"]]
+        commands = [["check", *EXAMPLES[:2]], ["residuals", EXAMPLE, "S1"], ["explain", "TwoC"]]
         usual = [answer_to([*self.command(), *words]) for words in commands]
         # A digest takes no memory.
         digest, line = ["digest", str(JOB), "job"], f"{hashlib.sha256(JOB.read_bytes()).hexdigest()}  job\n"

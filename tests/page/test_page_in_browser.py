@@ -23,6 +23,7 @@ from xml.etree import ElementTree
 import books
 import browser
 from program import ROOT, TimedTest
+from rows import residuals_in
 from test_page_calls import PAGE, RT, make_page
 
 sys.path[:0] = [str(ROOT / "bench")]
@@ -355,7 +356,7 @@ class PageInBrowserTest(TimedTest):
         self.assertTrue(report.endswith(f"Standard deviation    {deviation:.3f} mgon, of one two-face direction\n"))
 
     def test_where_there_is_no_adjustment_it_is_said_once(self):
-        case = ROOT / "conformance" / "refused" / "adjustment" / "fault_adjust_residual_for_residuals"
+        case = ROOT / "conformance" / "refused" / "adjustment" / "fault_adjust_residual_for_report_rows"
         line = (case / "stderr").read_text().rstrip("\n")
         page = self.page(case / "field.gsi")
         self.assertEqual([line], page.texts(".results samp"))
@@ -1207,6 +1208,7 @@ class PageInBrowserTest(TimedTest):
         headline = "Not adjusted, so there are no residuals: A residual is above its limit."
         self.assertIn(headline, self.cards(page)[0])
         self.assertIn("set 2, target P8", page.text(".answer .lines"))
+        self.assertEqual("station_check report --csv moved6000.gsi P7", page.texts(".exact code")[-1])
         self.assertIn("set 2, target P8", self.printed_text(page))
         self.assertEqual("Station P7: Read without a fault: 4 sets, 6 targets, 22 directions. " + headline, page.text("#verdict"))
 
@@ -1225,7 +1227,7 @@ class PageInBrowserTest(TimedTest):
         # A station in two parts has no residuals, and one beyond every limit is refused for them.
         for case, limits in [
             ("fault_adjust_not_connected", "2c 20, 2i 20 mgon"),
-            ("fault_adjust_residual_for_residuals", "2c 20, 2i 20, residuals 10 mgon"),
+            ("fault_adjust_residual_for_report_rows", "2c 20, 2i 20, residuals 10 mgon"),
         ]:
             page.empty()
             page.give(ROOT / "conformance" / "refused" / "adjustment" / case / "field.gsi")
@@ -1390,10 +1392,11 @@ class PageInBrowserTest(TimedTest):
         for button, name, case in [
             ("Save sheet of means", "S1.csv", "means/means_of_the_example"),
             ("Save directions (CSV)", "S1_directions.csv", "directions/directions_of_the_example"),
-            ("Save residuals (CSV)", "S1_residuals.csv", "residuals/residuals_of_the_example"),
         ]:
             with self.subTest(name):
                 self.assertEqual((CASES / case / "stdout").read_bytes(), page.saved(button, name))
+        rows = (CASES / "report" / "report_as_rows" / "stdout").read_bytes()
+        self.assertEqual(residuals_in(rows), page.saved("Save residuals (CSV)", "S1_residuals.csv"))
         faces = "set,target,2c mgon,2i mgon\n1,A,0.06,-0.02\n1,B,0.10,0.00\n"
         self.assertTrue(page.saved("Save 2c and 2i (CSV)", "S1_faces.csv").decode().startswith(faces))
         page.empty()

@@ -40,7 +40,7 @@ class ResidualsInBrowserTest(TimedTest):
 
     def shown(self, field, name, **how):
         """The file that is written of a station, in a browser of its own."""
-        status, rows, said = answer_of(["residuals", field, name])
+        status, rows, said = answer_of(["report", "--csv", field, name])
         self.assertEqual((0, b""), (status, said))
         script = [sys.executable, EXAMPLES / "residuals.py", name]
         path = self.folder / f"{name}.html"

@@ -50,8 +50,6 @@ class Case(NamedTuple):
             return model.means(self.gsi, name, limits)
         if self.command == "directions":
             return model.directions(self.gsi, name, limits, self.decimals, residual=residual)
-        if self.command == "residuals":
-            return model.residuals(self.gsi, name, limits)
         if self.command == "differences":
             given = self.sheet, limits, self.degrees
             return model.differences(self.gsi, name, *given, residual=residual)
@@ -91,7 +89,6 @@ class Case(NamedTuple):
             "directions": [
                 *["directions", *options, f"--decimals={self.decimals}", "--", gsi, self.station]
             ],
-            "residuals": ["residuals", *options, "--", gsi, self.station],
             "differences": ["differences", *options, "--", gsi, self.station, sheet],
             "report": ["report", *options, "--", gsi, self.station],
             "report --csv": ["report", "--csv", *options, "--", gsi, self.station],

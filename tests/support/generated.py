@@ -727,7 +727,6 @@ def cases_of(place: int) -> Iterator[Case]:
     yield Case(
         f"{place}: directions", "directions", field, decimals=decimals, **of_station, **held()
     )
-    yield Case(f"{place}: residuals", "residuals", field, **of_station)
     yield Case(f"{place}: report", "report", field, **of_station, **held())
     yield Case(f"{place}: rows of the report", "report --csv", field, **of_station, **held())
     for nth in range(2):

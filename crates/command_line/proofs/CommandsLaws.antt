@@ -103,7 +103,6 @@ is_plain_command : (s : Subcommand) → (words_of s).is_plain ≡ true
 is_plain_command command.Compare = refl
 is_plain_command command.Differences = refl
 is_plain_command command.Directions = refl
-is_plain_command command.Residuals = refl
 is_plain_command command.Report = refl
 is_plain_command command.Check = refl
 is_plain_command command.Means = refl

@@ -127,8 +127,6 @@ AsksFor name found (request.Differences gsi station table unit limits) =
 AsksFor name found (request.Directions gsi station limits decimals) =
     (name ≡ codes "directions") × AsksForResult found gsi.now station.now limits
     × StatesNumber found (codes "decimals") decimals
-AsksFor name found (request.Residuals gsi station limits) =
-    (name ≡ codes "residuals") × AsksOfStation found gsi.now station.now limits
 AsksFor name found (request.Report gsi station limits digests) =
     (name ≡ codes "report") × AsksToReport found gsi.now station.now limits digests
 AsksFor name found (request.ReportRows gsi station limits) =
@@ -214,7 +212,6 @@ pub data Lacks (name : Text) (found : Found) : Type 0 where
   of_compare : name ≡ codes "compare" → LacksToCompare found → Lacks name found
   of_differences : name ≡ codes "differences" → LacksForDifferences found → Lacks name found
   of_directions : name ≡ codes "directions" → LacksForDirections found → Lacks name found
-  of_residuals : name ≡ codes "residuals" → LacksStation found → Lacks name found
   of_report : name ≡ codes "report" → LacksToReport found → Lacks name found
   of_check : name ≡ codes "check" → LacksToCheck found → Lacks name found
   of_means : name ≡ codes "means" → LacksStation found → Lacks name found
@@ -223,9 +220,9 @@ pub data Lacks (name : Text) (found : Found) : Type 0 where
   of_words : name ≡ codes "words" → IsMissing found (codes "GSI") → Lacks name found
   -- No subcommand of another name can be done.
   of_other_name : (name ≢ codes "compare") × (name ≢ codes "differences")
-      × (name ≢ codes "directions") × (name ≢ codes "residuals") × (name ≢ codes "report")
-      × (name ≢ codes "check") × (name ≢ codes "means") × (name ≢ codes "mark")
-      × (name ≢ codes "list") × (name ≢ codes "words")
+      × (name ≢ codes "directions") × (name ≢ codes "report") × (name ≢ codes "check")
+      × (name ≢ codes "means") × (name ≢ codes "mark") × (name ≢ codes "list")
+      × (name ≢ codes "words")
       → Lacks name found
 
 -- The words of `explain` have this name of a fault: they make one line, with a blank between each

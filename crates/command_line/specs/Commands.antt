@@ -185,11 +185,6 @@ directions_words = of_rules (codes "directions")
     (field_file_rule ∷ station_rule
     ∷ two_c_rule ∷ two_i_rule ∷ residual_rule ∷ decimals_rule ∷ [])
 
--- `residuals GSI STATION`
-abbrev pub residuals_words : Shape
-residuals_words =
-    of_rules (codes "residuals") (field_file_rule ∷ station_rule ∷ two_c_rule ∷ two_i_rule ∷ [])
-
 -- `report GSI STATION`
 abbrev pub report_words : Shape
 report_words = of_rules (codes "report")
@@ -232,7 +227,6 @@ abbrev pub words_of : Subcommand → Shape
 words_of command.Compare = compare_words
 words_of command.Differences = differences_words
 words_of command.Directions = directions_words
-words_of command.Residuals = residuals_words
 words_of command.Report = report_words
 words_of command.Check = check_words
 words_of command.Means = means_words
@@ -252,6 +246,6 @@ program_alone = alone (record (new_shape (codes "station_check")) {
 abbrev pub the_program : App
 the_program = record {
   top = record program_alone.top { is_leaf = false };
-  subs = compare_words ∷ differences_words ∷ directions_words ∷ residuals_words ∷ report_words
-      ∷ check_words ∷ means_words ∷ mark_words ∷ list_words ∷ words_words ∷ explain_words ∷ [];
+  subs = compare_words ∷ differences_words ∷ directions_words ∷ report_words ∷ check_words
+      ∷ means_words ∷ mark_words ∷ list_words ∷ words_words ∷ explain_words ∷ [];
 }

@@ -17,7 +17,6 @@ enum Subcommand {
     Compare,
     Differences,
     Directions,
-    Residuals,
     Report,
     Check,
     Means,
@@ -49,7 +48,6 @@ impl Subcommand {
             Subcommand::Compare => "compare",
             Subcommand::Differences => "differences",
             Subcommand::Directions => "directions",
-            Subcommand::Residuals => "residuals",
             Subcommand::Report => "report",
             Subcommand::Check => "check",
             Subcommand::Means => "means",
@@ -68,7 +66,6 @@ impl Subcommand {
             Subcommand::Compare => &COMPARE,
             Subcommand::Differences => &DIFFERENCES,
             Subcommand::Directions => &DIRECTIONS,
-            Subcommand::Residuals => &RESIDUALS,
             Subcommand::Report => &REPORT,
             Subcommand::Check => &CHECK,
             Subcommand::Means => &MEANS,
@@ -96,11 +93,6 @@ impl Subcommand {
                 about: "Prints the least-squares directions of a station as a table",
                 long_about: help::DIRECTIONS_LONG_ABOUT,
                 after: help::DIRECTIONS_EXAMPLE,
-            },
-            Subcommand::Residuals => Texts {
-                about: "Prints the adjusted directions and the residuals of a station, row by row",
-                long_about: help::RESIDUALS_LONG_ABOUT,
-                after: help::RESIDUALS_EXAMPLE,
             },
             Subcommand::Report => Texts {
                 about: "Prints the protocol of the sets of a station, with readings and residuals",
@@ -142,11 +134,10 @@ impl Subcommand {
 }
 
 /// The commands, in the order in which help lists them.
-const SUBCOMMANDS: [Subcommand; 11] = [
+const SUBCOMMANDS: [Subcommand; 10] = [
     Subcommand::Compare,
     Subcommand::Differences,
     Subcommand::Directions,
-    Subcommand::Residuals,
     Subcommand::Report,
     Subcommand::Check,
     Subcommand::Means,
@@ -188,14 +179,6 @@ const DIRECTIONS: [Argument; 6] = [
     Argument::TwoI,
     Argument::Residual,
     Argument::Decimals,
-];
-
-/// The arguments and options of `residuals`.
-const RESIDUALS: [Argument; 4] = [
-    Argument::FieldFile,
-    Argument::Station,
-    Argument::TwoC,
-    Argument::TwoI,
 ];
 
 /// The arguments and options of `report`.

@@ -9,8 +9,8 @@ A total station writes the sets of directions that it measured to a field file, 
 format. Your program adjusts them, and prints a table with one direction for each target: 'compare'
 says how far it is from the least-squares directions, 'differences' which target is off. Or your
 program states exact fractions in a sheet, which 'check' accepts only if they are exactly right.
-'directions', 'residuals' and 'report' print the adjustment itself. A refusal names the first fault,
-and 'explain' says what to do.
+'directions' and 'report' print the adjustment itself. A refusal names the first fault, and
+'explain' says what to do.
 
 Units: 'list' prints two-face directions in half units of 0.005 mgon, of which a circle of 400 gon
 has 80000000, and face differences in units of 0.01 mgon; 'check' prints residuals in half units;
@@ -31,8 +31,8 @@ Examples:
   station_check compare field.gsi S1 table.csv
   station_check differences field.gsi S1 table.csv
   station_check directions field.gsi S1 > table.csv
-  station_check residuals field.gsi S1 > residuals.csv
   station_check report field.gsi S1 > report.txt
+  station_check report --csv field.gsi S1 > report.csv
   station_check check field.gsi sheet.csv
   station_check means field.gsi S1 > sheet.csv
   station_check mark job.gsi marked.gsi
@@ -139,32 +139,6 @@ Example:
   A,0.000000
   B,50.000030";
 
-pub const RESIDUALS_LONG_ABOUT: &str = "\
-Prints a row for each two-face direction of a station, complete sets or not: the set, the target,
-the two-face direction, the adjusted direction, and the residual, which is the adjusted direction
-less the two-face one. They are those of the least-squares directions, orientations and full turns.
-A residual above 10 mgon is a fault.
-
-The first row has the titles. Directions are in gon with 6 decimals, residuals in mgon with 3, each
-rounded from the exact fraction; the middle of two goes up. The direction and the residual of a row
-add up to its adjusted direction, to the last digit, but for a full circle.
-
-STATION is a name of the field file, byte for byte, without the zeros on its left. Write '--' before
-a name that begins with '-'.";
-
-pub const RESIDUALS_EXAMPLE: &str = "\
-Exit status:
-  0  all rows were written
-  1  refused: the first fault is named on standard error, and nothing was written, unless a write
-     failed
-  2  a mistake on the command line, or GSI cannot be opened
-
-Example:
-  station_check residuals field.gsi S1 > residuals.csv
-
-  set,target,direction,adjusted,residual
-  1,A,0.000030,0.000025,-0.005";
-
 pub const REPORT_LONG_ABOUT: &str = "\
 Prints the protocol of a station's sets, complete or not, as text of fixed columns for the files of
 an office: by set and target what was read in both faces, the mean, 2c and 2i; the adjusted
@@ -180,8 +154,9 @@ is printed whole, and the status is 1.
 
 With --csv the observations are printed as rows for other programs: titles, and for each its
 station, set and target, the readings, the two-face direction, 2c, 2i, the adjusted direction and
-the residual. Values of a target or of the whole station are left out: 'directions' has the adjusted
-directions.
+the residual, which is the adjusted direction less the two-face one. These two add up to the
+adjusted direction, to the last digit, but for a full circle. Values of a target or of the whole
+station are left out: 'directions' has the adjusted directions.
 
 Directions are in gon. Face differences are in mgon with 2 decimals, residuals and the standard
 deviation in mgon with 3, each rounded from the exact fraction; the middle of two goes up. A mean is

@@ -55,13 +55,6 @@ pub enum Request<'a, F, N> {
         decimals: Decimals,
     },
 
-    /// Prints the residuals of a station of a field file, observation by observation.
-    Residuals {
-        gsi: F,
-        station: &'a str,
-        limits: Limits,
-    },
-
     /// Prints the report of a station of a field file.
     Report {
         gsi: F,

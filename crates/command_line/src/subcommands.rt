@@ -39,7 +39,6 @@ pub(crate) fn request_after<'a>(
         "compare" => Ok(compare_request(found)),
         "differences" => Ok(differences_request(found)),
         "directions" => Ok(directions_request(found)),
-        "residuals" => Ok(residuals_request(found)),
         "report" => Ok(report_request(found)),
         "check" => Ok(check_request(found)),
         "means" => Ok(means_request(found)),
@@ -125,20 +124,6 @@ fn directions_request<'a>(found: &ArgMatches<'a>) -> Option<Request<'a, &'a str,
         station,
         limits,
         decimals: decimals_of(found)?,
-    })
-}
-
-fn residuals_request<'a>(found: &ArgMatches<'a>) -> Option<Request<'a, &'a str, &'a str>>
-    ensures asked { IfSome result (AsksFor (codes "residuals") (found_of found.now)) }
-    ensures none { IfNone result (LacksStation (found_of found.now)) }
-{
-    let Some((gsi, station, limits)) = station_of(found) else {
-        return None;
-    };
-    Some(Request::Residuals {
-        gsi,
-        station,
-        limits,
     })
 }
 

@@ -17,9 +17,8 @@ use Rattle.direction_table.specs.declared.unit.AngleUnit.{AngleUnit}
 use Rattle.list_rows.specs.Runs.{IsRowsRun}
 use Rattle.report_rows.specs.Stating.{AreReportRows}
 use Rattle.station_answers.specs.Runs.{IsAnswerRun}
-use Rattle.station_answers.specs.Saying.{SaysDirections, SaysReport, SaysResiduals}
+use Rattle.station_answers.specs.Saying.{SaysDirections, SaysReport}
 use Rattle.station_book.specs.Limits.{FaceLimits}
-use Rattle.station_book.specs.ResultLimits.{of_faces}
 use Rattle.station_book.specs.declared.result_limits.ResultLimits.{ResultLimits}
 use Rattle.station_check.specs.ListNotes.{unchecked_note}
 use Rattle.station_check.specs.RunEndings.{Run, RunWithNotes, WritesOrFails}
@@ -135,9 +134,6 @@ IsRun files new_files inputs input faults out err (request.Means gsi station lim
 IsRun files new_files inputs input faults out err (request.Directions gsi station limits decimals) status =
     IsTakenIn files gsi.reader (λ gsi. Run {A = ⊤} compare_refusal_line
     (IsAnswerRun (SaysDirections decimals) limits gsi station.now) status out err)
-IsRun files new_files inputs input faults out err (request.Residuals gsi station limits) status =
-    IsTakenIn files gsi.reader (λ gsi. Run {A = ⊤} compare_refusal_line
-    (IsAnswerRun SaysResiduals (of_faces limits) gsi station.now) status out err)
 IsRun files new_files inputs input faults out err (request.Report gsi station limits digests) status =
     ReportsFile files out err gsi station.now limits digests status
 IsRun files new_files inputs input faults out err (request.ReportRows gsi station limits) status =
@@ -195,10 +191,6 @@ IsOpened files known new_files new (request.Directions gsi station limits decima
     (request.Directions field_file station' limits' decimals') =
     IsUnread files known gsi.now field_file
     × (station'.now ≡ station.now) × (limits' ≡ limits) × (decimals' ≡ decimals)
-IsOpened files known new_files new (request.Residuals gsi station limits)
-    (request.Residuals field_file station' limits') =
-    IsUnread files known gsi.now field_file
-    × (station'.now ≡ station.now) × (limits' ≡ limits)
 IsOpened files known new_files new (request.Report gsi station limits digests)
     (request.Report field_file station' limits' digests') =
     IsUnread files known gsi.now field_file
@@ -255,7 +247,6 @@ NamesFirst files known (request.Check gsi sheet limits residual digests) path =
     IsFirstOfTwo files known gsi.now sheet.now path
 NamesFirst files known (request.Means gsi station limits) path = path ≡ gsi.now
 NamesFirst files known (request.Directions gsi station limits decimals) path = path ≡ gsi.now
-NamesFirst files known (request.Residuals gsi station limits) path = path ≡ gsi.now
 NamesFirst files known (request.Report gsi station limits digests) path = path ≡ gsi.now
 NamesFirst files known (request.ReportRows gsi station limits) path = path ≡ gsi.now
 NamesFirst files known (request.TableReport gsi station table unit limits within digests) path =

@@ -20,7 +20,7 @@ use command_line::{Digests, ListForm, Request};
 use direction_table::AngleUnit;
 use job_statements::{Beginnings, Stated};
 use list_rows::run_list_rows;
-use station_answers::{Directions, Report, ReportRows, Residuals, run_answer};
+use station_answers::{Directions, Report, ReportRows, run_answer};
 use station_book::{Limits, ResultLimits};
 use station_check::{run_check, run_list, run_means, run_words};
 use station_explain::Explanation;
@@ -131,15 +131,6 @@ fn open_files<'a, H: Host>(
             station,
             limits,
             decimals,
-        },
-        Request::Residuals {
-            gsi,
-            station,
-            limits,
-        } => Request::Residuals {
-            gsi: open(host, gsi)?,
-            station,
-            limits,
         },
         Request::Report {
             gsi,
@@ -337,22 +328,6 @@ fn run_request<'a, H: Host, W: Sink, E: Sink>(
                 station.as_bytes(),
                 limits,
                 &asked,
-                out,
-                err,
-            )
-        }
-        Request::Residuals {
-            gsi,
-            station,
-            limits,
-        } => {
-            let limits = ResultLimits::of_faces(limits);
-            run_answer(
-                alloc,
-                gsi.reader,
-                station.as_bytes(),
-                limits,
-                &Residuals,
                 out,
                 err,
             )

@@ -945,9 +945,9 @@ const MATCH_FAULTS: &[Explanation] = &[
         meaning: "the field file has no station of this name",
         when: "\
 No station of the field file that has sets has the name in the sheet or, for 'compare',
-'differences', 'directions', 'residuals', 'report' and 'means', the name STATION. Names are compared
-byte by byte. A job that was recorded without blocks of the codes 10 and 20, as most jobs are, has
-no station and an empty list.",
+'differences', 'directions', 'report' and 'means', the name STATION. Names are compared byte by
+byte. A job that was recorded without blocks of the codes 10 and 20, as most jobs are, has no
+station and an empty list.",
         example: "refused: no station",
         remedy: "\
 'station_check list GSI' lists the names. Blanks and small letters count; zeros at the
@@ -963,7 +963,7 @@ A target of the station was not observed in each of its sets. Then the adjustmen
         example: "refused: means: Incomplete",
         remedy: "\
 Print its directions by 'station_check directions', its residuals by 'station_check
-residuals', or compare the directions of another program by 'station_check compare'. For a sheet,
+report', or compare the directions of another program by 'station_check compare'. For a sheet,
 have another program adjust the station, as adjust.py of the examples, and check its sheet with
 'station_check check'.",
     },
@@ -1057,12 +1057,11 @@ its own.",
 As 'kernel: Residual', the residual of the obs row of this number, from 1, is above the limit that
 '--residual' stated. As 'adjust: Residual', some least-squares residual is above what '--residual'
 stated for 'compare', 'differences', 'directions' or 'report', or above 10 mgon where none is
-stated, as always for 'residuals'; and that of the observation of this number, from 1, is the
-greatest. The observations of a station are counted in the order in which 'station_check list GSI'
-has them.",
+stated; and that of the observation of this number, from 1, is the greatest. The observations of a
+station are counted in the order in which 'station_check list GSI' has them.",
         example: "refused: kernel: Residual 1",
         remedy: "\
-Look at that observation: 'station_check residuals GSI STATION' has the residuals in
+Look at that observation: 'station_check report --csv GSI STATION' has the residuals in
 their order, if none is above 10 mgon, and 'station_check list --csv GSI' the directions. One that
 stands out has a wrong target or a wrong name in both faces. If many do, the instrument was moved:
 or two set-ups stand in one station, or sets are shifted, if 'mark' put in the codes: compare its
@@ -1113,9 +1112,9 @@ check a copy of the field file without the others.",
         names: &["NotFound"],
         meaning: "no exact adjustment was found",
         when: "\
-'compare', 'differences', 'directions', 'residuals' and 'report' look for the exact adjustment of
-the station, and test it. Here none was found, although the observations connect all sets and
-targets. No station is known for which this happens.",
+'compare', 'differences', 'directions' and 'report' look for the exact adjustment of the station,
+and test it. Here none was found, although the observations connect all sets and targets. No station
+is known for which this happens.",
         example: "refused: adjust: NotFound",
         remedy: "\
 Have another program adjust the station, as adjust.py of the examples, and check its

@@ -13,7 +13,6 @@ complete -c station_check -s h -l help -d 'Print help'
 complete -c station_check -n __fish_use_subcommand -a compare -d "Compares a table of directions with a field file, whatever program printed it"
 complete -c station_check -n __fish_use_subcommand -a differences -d "Prints by how much a table of directions differs, target by target"
 complete -c station_check -n __fish_use_subcommand -a directions -d "Prints the least-squares directions of a station as a table"
-complete -c station_check -n __fish_use_subcommand -a residuals -d "Prints the adjusted directions and the residuals of a station, row by row"
 complete -c station_check -n __fish_use_subcommand -a report -d "Prints the protocol of the sets of a station, with readings and residuals"
 complete -c station_check -n __fish_use_subcommand -a check -d "Checks a sheet against a field file"
 complete -c station_check -n __fish_use_subcommand -a means -d "Prints the adjusted sheet of a station whose sets are complete"
@@ -21,10 +20,10 @@ complete -c station_check -n __fish_use_subcommand -a mark -d "Prints a copy of 
 complete -c station_check -n __fish_use_subcommand -a list -d "Lists the stations of a field file and their two-face directions"
 complete -c station_check -n __fish_use_subcommand -a words -d "Prints the words of a field file"
 complete -c station_check -n __fish_use_subcommand -a explain -d "Explains a fault that a refusal names"
-complete -c station_check -n '__fish_seen_subcommand_from compare differences directions residuals report check means mark list words' -F
+complete -c station_check -n '__fish_seen_subcommand_from compare differences directions report check means mark list words' -F
 complete -c station_check -n '__fish_seen_subcommand_from compare differences report' -l degrees -d "Read the directions of the table in degrees, and not in gon: with minutes and seconds, as 59-04-09.18, or with decimals, as 59.069217"
-complete -c station_check -n '__fish_seen_subcommand_from compare differences directions residuals report check means list' -l two-c -x -d "The limit of 2c, as 0.3mgon: to 10000mgon, by 0.01; or in units of 0.01 mgon: 0 to 1000000"
-complete -c station_check -n '__fish_seen_subcommand_from compare differences directions residuals report check means list' -l two-i -x -d "The limit of 2i, as 0.3mgon: to 10000mgon, by 0.01; or in units of 0.01 mgon: 0 to 1000000"
+complete -c station_check -n '__fish_seen_subcommand_from compare differences directions report check means list' -l two-c -x -d "The limit of 2c, as 0.3mgon: to 10000mgon, by 0.01; or in units of 0.01 mgon: 0 to 1000000"
+complete -c station_check -n '__fish_seen_subcommand_from compare differences directions report check means list' -l two-i -x -d "The limit of 2i, as 0.3mgon: to 10000mgon, by 0.01; or in units of 0.01 mgon: 0 to 1000000"
 complete -c station_check -n '__fish_seen_subcommand_from compare differences directions report check' -l residual -x -d "The limit of residuals, as 0.3mgon: to 10mgon, by 0.005; or in half units of 0.005 mgon: 0 to 2000"
 complete -c station_check -n '__fish_seen_subcommand_from compare report' -l within -x -d "How near the directions must be, as 0.05mgon: to 1000mgon, by 0.001; or in units of 0.001 mgon: 0 to 1000000"
 complete -c station_check -n '__fish_seen_subcommand_from compare report check' -l sha256 -d "Print the SHA-256 digest of each file after the answer"
@@ -38,7 +37,7 @@ complete -c station_check -n '__fish_seen_subcommand_from mark' -l station-code 
 complete -c station_check -n '__fish_seen_subcommand_from mark' -l sets -x -d "How many sets were read to the end, 1 to 40: N at each station with sets, or NAME=N at the station of this name"
 complete -c station_check -n '__fish_seen_subcommand_from mark' -l targets -x -d "How many targets these sets have, 1 to 100: N at each station with sets, or NAME=N at the station of this name"
 complete -c station_check -n '__fish_seen_subcommand_from mark' -l others -d "Leave the readings of stations that are not recognized outside of the sets, and mark the others"
-complete -c station_check -n '__fish_seen_subcommand_from help' -a 'compare differences directions residuals report check means mark list words explain'
+complete -c station_check -n '__fish_seen_subcommand_from help' -a 'compare differences directions report check means mark list words explain'
 # The end of the commands.
 
 complete -c station_check -n __fish_use_subcommand -a help -d 'Prints the help of a command'

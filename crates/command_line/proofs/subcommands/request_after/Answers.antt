@@ -4,7 +4,7 @@ use Rattle.std.specs.Prelude.{IfNone, IfSome}
 use Rattle.clap.specs.Words.{Text}
 use Rattle.clap.specs.declared.parser.matches.Found.{Found}
 use Rattle.command_line.specs.CommandLine.{Asked, AsksFor, of_compare, of_differences}
-use Rattle.command_line.specs.CommandLine.{of_directions, of_residuals, of_report, of_check}
+use Rattle.command_line.specs.CommandLine.{of_directions, of_report, of_check}
 use Rattle.command_line.specs.CommandLine.{of_means, of_mark, of_list, of_words}
 use Rattle.command_line.proofs.subcommands.request_after.Goals as goal
 
@@ -42,14 +42,6 @@ returns-in-directions-clause-asked c =
 pub returns-in-directions-clause-none : goal.returns-in-directions-clause-none
 returns-in-directions-clause-none c =
     where_none _ _ _ (of_directions c.in-directions.is) c.directions_request.ensures.none
-
-pub returns-in-residuals-clause-asked : goal.returns-in-residuals-clause-asked
-returns-in-residuals-clause-asked c =
-    by_name _ _ _ _ c.in-residuals.is c.residuals_request.ensures.asked
-
-pub returns-in-residuals-clause-none : goal.returns-in-residuals-clause-none
-returns-in-residuals-clause-none c =
-    where_none _ _ _ (of_residuals c.in-residuals.is) c.residuals_request.ensures.none
 
 pub returns-in-report-clause-asked : goal.returns-in-report-clause-asked
 returns-in-report-clause-asked c = by_name _ _ _ _ c.in-report.is c.report_request.ensures.asked
