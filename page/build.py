@@ -26,6 +26,7 @@ from typing import Any, Callable
 HERE = Path(__file__).resolve().parent
 ROOT = HERE.parent
 sys.path[:0] = [str(ROOT / "tools")]
+import manuals  # noqa: E402
 import prove  # noqa: E402
 import retarget  # noqa: E402
 import scripts  # noqa: E402
@@ -153,9 +154,10 @@ def git(*words: str) -> str:
 
 
 def version() -> str:
-    """The commit that the page is made of."""
+    """The version of the page, and the commit that it is made of."""
     changed = ", with changes" if git("status", "--porcelain") else ""
-    return (git("rev-parse", "--short=12", "HEAD") or "not known") + changed
+    commit = git("rev-parse", "--short=12", "HEAD") or "not known"
+    return f"{manuals.release()[0]} ({commit}{changed})"
 
 
 def digest_of_script(page: str) -> str:

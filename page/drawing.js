@@ -15,6 +15,14 @@ export function isOther(/** @type {Element} */ part, /** @type {unknown[]} */ of
   return before?.length !== of.length || before.some((one, nth) => one !== of[nth]);
 }
 
+/**
+ * What was scrolled: of anything else it isn't asked how far, since parts out of sight would be laid
+ * out for that.
+ * @type {WeakSet<EventTarget>}
+ */
+const scrolled = new WeakSet();
+document.addEventListener('scroll', ({ target }) => { if (target) scrolled.add(target); }, true);
+
 /** By what a part is known among those beside it: its key, or else what it is. */
 const nameOf = (/** @type {Element} */ part) => /** @type {HTMLElement} */ (part).dataset.key
   ?? `${part.tagName} ${part.classList[0] ?? ''}`;
@@ -44,7 +52,6 @@ const toFill = new WeakMap();
  * @param {(() => void)[]} after
  */
 function handOn(before, drawn, here, after, isSame = true) {
-  const { scrollLeft } = before;
   if (before === here)
     after.push(() => /** @type {HTMLElement} */ (drawn).focus({ preventScroll: true }));
   if (isSame && before instanceof HTMLDetailsElement && drawn instanceof HTMLDetailsElement) {
@@ -52,7 +59,10 @@ function handOn(before, drawn, here, after, isSame = true) {
     toFill.delete(before);
     toFill.set(drawn, { before, here: before.contains(here) ? here : null });
   }
-  if (isSame && scrollLeft > 0) after.push(() => { drawn.scrollLeft = scrollLeft; });
+  if (isSame && scrolled.has(before)) {
+    const { scrollLeft, scrollTop } = before;
+    after.push(() => { drawn.scrollTo(scrollLeft, scrollTop); });
+  }
   handOnWithin(before, drawn, here, after, isSame);
 }
 

@@ -323,14 +323,13 @@ async function checkAgain(/** @type {Input} */ field) {
 
 /** Has the results of these cards at hand; answers whether it came to its end. */
 function loaded(/** @type {Card[]} */ cards) {
-  const left = cards.filter(isOfStation)
-    .filter(card => !card.results && !now.loading.includes(card));
+  const left = cards.filter(isOfStation).filter(card => !card.results);
   if (left.length === 0) return Promise.resolve(true);
   go({ loading: [...now.loading, ...left] });
   return worked(async () => {
     for (const [nth, card] of left.entries()) {
       told(nth + 1, left.length, card.title);
-      card.results = await resultsOf(card, now.limits);
+      card.results ??= await resultsOf(card, now.limits);
       await judge(card, now.limits);
     }
   }, () => ({ loading: now.loading.filter(card => !left.includes(card)) }));
@@ -340,13 +339,13 @@ function loaded(/** @type {Card[]} */ cards) {
 const desk = {
   get limits() { return now.limits; },
   async load(/** @type {StationCard} */ card) {
-    if (now.cards.includes(card)) await loaded([card]);
+    if (now.cards.includes(card) && !now.loading.includes(card)) await loaded([card]);
   },
   beside(/** @type {Card} */ card) { return besideOf(card, now.inputs, now.cards, now.limits); },
   print(/** @type {Card} */ card) {
-    now.only = card;
+    now = { ...now, only: card };
     window.print();
-    now.only = undefined;
+    now = { ...now, only: undefined };
   },
   async name(/** @type {Input} */ field, /** @type {string} */ station) {
     field.station = station;
@@ -512,7 +511,7 @@ languages.onchange = () => {
   draw();
 };
 // What is stale can't be pressed: it would act on an earlier state.
-for (const done of ['click', 'submit']) {
+for (const done of ['click', 'submit', 'change']) {
   $('answered').addEventListener(done, event => {
     const { target } = event, isPressed = target instanceof Element && target.closest('button');
     if (!isStale() || done === 'click' && !isPressed) return;

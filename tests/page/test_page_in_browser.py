@@ -26,8 +26,9 @@ from program import ROOT, TimedTest
 from rows import residuals_in
 from test_page_calls import PAGE, RT, make_page
 
-sys.path[:0] = [str(ROOT / "bench")]
+sys.path[:0] = [str(ROOT / "bench"), str(ROOT / "tools")]
 import bench  # noqa: E402
+import manuals  # noqa: E402
 
 EXAMPLES = ROOT / "examples"
 FIELD, SHEET, TABLE = (EXAMPLES / f"station_s1{end}" for end in (".gsi", ".csv", "_directions.csv"))
@@ -1026,12 +1027,12 @@ class PageInBrowserTest(TimedTest):
         plain = b"".join(line for line in P7_FIELD.read_bytes().splitlines(True) if line[:3] != b"*41")
         job = self.file("job.gsi", b"*110000+00000000000000P7 88..10+0000000000001500\n" + plain)
         page.give(job, self.file("job_marked.gsi", paths[1].read_bytes()), self.file("t.csv", FOUR_DECIMALS))
-        stations = "cards.filter(card => card.station)"
+        stations = "now.cards.filter(card => card.station)"
         places = "{0}.filter(card => {1}card.field.original).map(card => placeName(card.station))"
         for of, mood in (("", "good"), ("!", "bad")):
             (place,) = page.js(places.format(stations, of))
             self.choose(page, "t.csv", place)
-            chosen = f"cards.find(card => card.station && placeName(card.station) === {json.dumps(place)}).mood"
+            chosen = f"now.cards.find(card => card.station && placeName(card.station) === {json.dumps(place)}).mood"
             self.assertEqual(mood, page.js(chosen))
         self.assertEqual(2, len({*page.js(f"{stations}.map(card => placeName(card.station))")}))
 
@@ -1363,8 +1364,10 @@ class PageInBrowserTest(TimedTest):
             page.fill(name, value)
             with self.subTest(name, value=value):
                 self.assertTrue(page.text("#verdict").endswith(f": a number from {ends}"), page.text("#verdict"))
-                self.assertEqual([], self.cards(page))
+                # What was answered before is in grey.
+                self.assertTrue(page.js("$('answered').matches('.stale')"))
             page.fill(name, before)
+        self.assertFalse(page.js("$('answered').matches('.stale')"))
         self.assertEqual(1, len(self.cards(page)))
 
     def test_numbers_are_rounded_and_read_exactly(self):
@@ -1578,7 +1581,7 @@ class PageInBrowserTest(TimedTest):
         page.give(P7_FIELD)
         angles = page.js("ask('angles', now.cards[0].field.bytes, 'P7').then(({ text }) => text)")
         self.assertTrue(angles.startswith("1\tTOWER\t0000000039999942\t0000000020000090\t0000000009812404\t0000000030187674\n"))
-        readings = "readingsOf(cards[0].results.report.line)"
+        readings = "readingsOf(now.cards[0].results.report.line)"
         for text in (angles.replace("39999942", "39999943"), angles.replace("09812404", "09812405"), "", angles.partition("\n")[2]):
             self.assertEqual([], page.js(f"zenithsOf({json.dumps(text)}, {readings})"))
         self.assertEqual(22, page.js(f"zenithsOf({json.dumps(angles)}, {readings}).length"))
@@ -1995,6 +1998,7 @@ class PageInBrowserTest(TimedTest):
         page = self.page()
         module = gzip.decompress(base64.b85decode(page.text("#module")))
         self.assertIn(hashlib.sha256(module).hexdigest(), page.text("footer small"))
+        self.assertTrue(page.text("footer small").startswith(f"station_check, version {manuals.release()[0]} ("))
 
 
 # The texts whose contrast to what is behind them is below 4.5.
