@@ -77,6 +77,11 @@ all_kept others (r ∷ rs) all =
     rw here (ap (λ xs. r ∷ xs)
     (all_kept others rs (All-tail (λ (s : Sight). is_known others s ≡ true) r rs all)))
 
+-- Where no target is unknown, no reading is left out.
+pub none_left_out : (others rs : List Sight) → unknown_in others rs ≡ None
+    → rs ≡ known_in others rs
+none_left_out others rs none = sym (all_kept others rs (all_known others rs none))
+
 -- No reading is known where none is kept.
 pub none_kept : (others rs : List Sight) → known_in others rs ≡ []
     → All (λ r. is_known others r ≡ false) rs

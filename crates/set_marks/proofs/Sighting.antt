@@ -17,10 +17,10 @@ use Rattle.station_book.specs.Readings.{read, reading, own_faults, unless_fault}
 use Rattle.job_statements.specs.declared.beginnings.Beginnings.{Beginnings}
 use Rattle.set_marks.specs.declared.readings.Readings.{Readings}
 use Rattle.set_marks.specs.declared.sight.Sight.{Sight}
-use Rattle.set_marks.specs.Stations.{SetUp, sight_in, tells_set_up, begins_named, is_two_lines}
-use Rattle.set_marks.specs.Stations.{fault_as, block_fault, has_code}
+use Rattle.set_marks.specs.Stations.{SetUp, sight_in, begins_named, is_two_lines}
+use Rattle.set_marks.specs.Stations.{block_fault, has_code}
 use Rattle.set_marks.specs.Keeping.{Adds}
-use Rattle.set_marks.proofs.SetUps.{reading_names_none, measurement_names_none, uncoded_names_none}
+use Rattle.set_marks.proofs.SetUps.{reading_names_none, uncoded_names_none}
 use Rattle.set_marks.proofs.SetUps.{named_none, named_none_again, no_set_up_fault}
 
 is_second : (b : GsiBlock) → is_of_face Two b
@@ -83,22 +83,6 @@ adds_sight beginnings b number old new r role e station count marking sights blo
       blocks = blocks;
     }
 
--- A measurement that says no reading has no direction.
-pub undirected : (b : GsiBlock) → read b ≡ Ok None → lacks 21 b ≡ true
-undirected b e = elim (cases_Bool (lacks 21 b)) [
-  | inl h ↦ h
-  | inr h ↦
-      absurd (by (first_of (own_faults b)) (rw h at e))
-] where
-  by : (o : Option BookKind) → unless_fault o (reading b) ≡ Ok None → ⊥
-  by None f = cc
-  by (Some k) f = cc
-
--- Such a measurement is no reading.
-pub no_sight : (b : GsiBlock) → role_of b ≡ Measurement → read b ≡ Ok None
-    → has_direction b ≡ false
-no_sight b role e = rw (role, undirected b e) refl
-
 -- What is kept with a block more that is no reading and begins no station.
 adds_none : (beginnings : Beginnings) (b : GsiBlock) (number : ℕ) (old new : Readings)
     → has_direction b ≡ false → begins_named beginnings b ≡ None
@@ -118,23 +102,6 @@ adds_none beginnings b number old new e none station count marking sights blocks
       });
       blocks = blocks;
     }
-
--- A measurement that says no reading and sets no station up has no fault.
-pub passed_clean : (beginnings : Beginnings) (ss : List SetUp) (number : ℕ) (b : GsiBlock)
-    → role_of b ≡ Measurement → read b ≡ Ok None → tells_set_up b ≡ false
-    → fault_as Measurement beginnings ss number b ≡ None
-passed_clean beginnings ss number b role e tells = rw (undirected b e)
-    (no_set_up_fault beginnings number b (measurement_names_none beginnings b role tells))
-
--- What is kept with such a measurement more.
-pub adds_passed : (beginnings : Beginnings) (b : GsiBlock) (number : ℕ) (old new : Readings)
-    → role_of b ≡ Measurement → read b ≡ Ok None → tells_set_up b ≡ false
-    → new.station ≡ old.station → new.written_again ≡ old.written_again
-    → new.marking ≡ old.marking → new.sights.items ≡ old.sights.items
-    → new.blocks ≡ number → Adds beginnings b number old new
-adds_passed beginnings b number old new role e tells station count marking sights blocks =
-    adds_none beginnings b number old new (no_sight b role e)
-    (measurement_names_none beginnings b role tells) station count marking sights blocks
 
 -- A block that is neither a measurement nor of code 10, 20 or 30 has no fault where it hasn't the
 -- code that is stated.

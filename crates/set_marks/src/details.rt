@@ -5,30 +5,36 @@
 
 ghost use Rattle.std.specs.Prelude.{◌≡◌, ◌≤◌, ◌||◌, length, not, IfOk, List};
 ghost use Rattle.std.specs.List.{list_all};
+ghost use Rattle.set_marks.specs.declared.bounds.TheConstants.{FEW_READINGS};
 ghost use Rattle.set_marks.specs.declared.sight.Sight.{Sight};
 ghost use Rattle.set_marks.specs.Searching.{KnowsTargetsOf};
 ghost use Rattle.set_marks.specs.Divisions.{seconds_of, known_in, place_of, unknown_in};
 ghost use Rattle.set_marks.specs.Divisions.{is_of, is_sight_back, has_no_sets};
 
+use crate::bounds::FEW_READINGS;
 use crate::known::Known;
 use crate::set::{are_in_face, are_of, begins_with_pair, first_target, is_of};
 use crate::sight::Sight;
 use adjust_kernel::Name;
 use std::alloc::{AllocError, Global};
 
-/// The readings in face II.
-pub(crate) fn seconds_of(alloc: Global, sights: &[Sight]) -> Result<Vec<Sight>, AllocError>
-    ensures { IfOk result (λ seconds. seconds.items ≡ seconds_of sights.now) }
+/// The readings in face II where they are few; where they are not, more of them than few.
+pub(crate) fn few_seconds(alloc: Global, sights: &[Sight]) -> Result<Vec<Sight>, AllocError>
+    ensures { IfOk result (λ few. length few.items ≤ FEW_READINGS
+        → few.items ≡ seconds_of sights.now) }
 {
-    let mut seconds = Vec::with_capacity(alloc, sights.len())?;
+    let mut few = Vec::with_capacity(alloc, sights.len().min(FEW_READINGS + 1))?;
     let mut left = sights;
     'sights: while let Some((sight, rest)) = left.split_first() {
         if sight.second {
-            seconds.push(*sight)?;
+            if few.len() > FEW_READINGS {
+                return Ok(few);
+            }
+            few.push(*sight)?;
         }
         left = rest;
     }
-    Ok(seconds)
+    Ok(few)
 }
 
 /// The readings whose targets are known.

@@ -12,7 +12,7 @@ ghost use Rattle.set_marks.specs.Searching.{KnowsTargetsOf, NoneOpen};
 ghost use Rattle.set_marks.specs.Divisions.{part, next_of, end_of, cut_end, starts_of};
 ghost use Rattle.set_marks.specs.Divisions.{first_cut, first_part, sets_flaw, parts_at, flaw_found};
 ghost use Rattle.set_marks.specs.Divisions.{targets_of, are_by_targets, known_in};
-ghost use Rattle.set_marks.specs.Divisions.{is_mostly_known, divided_unless, span_from};
+ghost use Rattle.set_marks.specs.Divisions.{is_mostly_known, divided_unless, seconds_of, span_from};
 ghost use Rattle.set_marks.specs.Doubts.{may_be_shifted, reads_end, leads_to_end, leads_within, may_go_on};
 ghost use Rattle.set_marks.specs.Doubts.{has_lone_second, may_have_gone_on, stranger_among};
 ghost use Rattle.set_marks.specs.Doubts.{numbers_flaw, doubt_after};
@@ -20,7 +20,7 @@ ghost use Rattle.set_marks.specs.Ways.{divided, divided_by, ways_of};
 ghost use Rattle.job_statements.specs.Numbers.{is_another};
 
 use crate::bounds::{MOST_READINGS, READINGS_OF_TWO};
-use crate::details::{has_no_sets, known_in, seconds_of};
+use crate::details::{few_seconds, has_no_sets, known_in, unknown_in};
 use crate::fault::MarkKind;
 use crate::flaw::{Flaw, flaw_at, flaw_found};
 use crate::known::{Known, count_targets};
@@ -570,6 +570,26 @@ fn divide_all(
     Ok(Some(divided))
 }
 
+/// What a station's readings are that has sets, or should have, where the targets are known that it
+/// reads in face II.
+#[tactic(auto, using(crate::proofs::AmongDetails::none_left_out))]
+fn divide_known(
+    alloc: Global,
+    stated: Numbers,
+    known: &mut Known,
+    sights: &[Sight],
+) -> Result<Divided, AllocError>
+    requires known { KnowsTargetsOf (seconds_of sights.now) known.old }
+    ensures { IfOk result (λ d. d ≡ divided_by stated sights.now (ways_of sights.now)) }
+{
+    // Where none is a detail, the readings need no copy without details.
+    if unknown_in(known, sights).is_none() {
+        return divide_rest(alloc, stated, known, sights, sights);
+    }
+    let rest = known_in(alloc, known, sights)?;
+    divide_rest(alloc, stated, known, sights, &rest)
+}
+
 /// What a station's readings are, of whose sets this is stated.
 pub fn divide(alloc: Global, stated: Numbers, sights: &[Sight]) -> Result<Divided, AllocError>
     ensures { IfOk result (λ d. d ≡ divided stated sights.now) }
@@ -580,8 +600,7 @@ pub fn divide(alloc: Global, stated: Numbers, sights: &[Sight]) -> Result<Divide
     if let Some(divided) = divide_all(alloc, stated, sights)? {
         return Ok(divided);
     }
-    let seconds = seconds_of(alloc, sights)?;
-    let mut known = Known::of(alloc, &seconds)?;
-    let rest = known_in(alloc, &mut known, sights)?;
-    divide_rest(alloc, stated, &mut known, sights, &rest)
+    let few = few_seconds(alloc, sights)?;
+    let mut known = Known::of_seconds(alloc, &few, sights)?;
+    divide_known(alloc, stated, &mut known, sights)
 }

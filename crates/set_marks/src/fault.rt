@@ -63,8 +63,9 @@ pub enum MarkKind {
     /// begins. Mark a copy without them.
     #[error("a single set stands after readings that are in no set")]
     OneSet,
-    /// The first set begins in face II, and readings stand before it: nothing shows that they are
-    /// no part of it. Mark a copy without them.
+    /// The first set begins in face II, and readings stand before it. Where they belong to no set,
+    /// mark a copy without them. Where the first set begins with them, the sets would be shifted:
+    /// mark a copy without the checks after the last set.
     #[error("after other readings the first set begins in face II")]
     FirstFace,
     /// The readings before the first set may belong to the sets, and these be shifted, as a reading

@@ -1,7 +1,8 @@
 //! The targets of some readings, to be asked for.
 
-ghost use Rattle.std.specs.Prelude.{◌≡◌, [], IfOk, length, option_map};
-ghost use Rattle.set_marks.specs.Divisions.{one_too_many, targets_of};
+ghost use Rattle.std.specs.Prelude.{◌≡◌, ◌≤◌, [], IfOk, length, option_map};
+ghost use Rattle.set_marks.specs.declared.bounds.TheConstants.{FEW_READINGS};
+ghost use Rattle.set_marks.specs.Divisions.{one_too_many, seconds_of, targets_of};
 ghost use Rattle.set_marks.specs.Searching.{knows, KnowsTargetsOf};
 
 use crate::bounds::{FEW_READINGS, MOST_READINGS};
@@ -29,6 +30,21 @@ pub(crate) fn targets_of(alloc: Global, sights: &[Sight]) -> Result<Names, Alloc
     let mut left = sights;
     'sights: while let Some((sight, rest)) = left.split_first() {
         names.add(&sight.target)?;
+        left = rest;
+    }
+    Ok(names)
+}
+
+/// The targets that these readings have in face II, each once.
+fn targets_in_two(alloc: Global, sights: &[Sight]) -> Result<Names, AllocError>
+    ensures { IfOk result (λ names. names ≡ targets_of (seconds_of sights.now)) }
+{
+    let mut names = Names::with_room(alloc, sights.len().min(MOST_READINGS) / 2)?;
+    let mut left = sights;
+    'sights: while let Some((sight, rest)) = left.split_first() {
+        if sight.second {
+            names.add(&sight.target)?;
+        }
         left = rest;
     }
     Ok(names)
@@ -87,6 +103,21 @@ impl<'a> Known<'a> {
             return Ok(Known::Few(sights));
         }
         Ok(Known::Many(targets_of(alloc, sights)?))
+    }
+
+    /// The targets that these readings have in face II, which are these where they are few.
+    pub(crate) fn of_seconds(
+        alloc: Global,
+        few: &'a [Sight],
+        sights: &[Sight],
+    ) -> Result<Known<'a>, AllocError>
+        requires { length few.now ≤ FEW_READINGS → few.now ≡ seconds_of sights.now }
+        ensures { IfOk result (KnowsTargetsOf (seconds_of sights.now)) }
+    {
+        if few.len() <= FEW_READINGS {
+            return Ok(Known::Few(few));
+        }
+        Ok(Known::Many(targets_in_two(alloc, sights)?))
     }
 
     /// Whether a target is one of them.

@@ -1,7 +1,7 @@
 //! How the blocks of a field file are read.
 
 ghost use Rattle.std.specs.Prelude.{◌≡◌, ◌≤◌, ◌+◌, ◌++◌, ◌∷◌, [], All, IfErr, OnOk, None, Some};
-ghost use Rattle.std.specs.Prelude.{false, not, nat_lt, ◌&&◌};
+ghost use Rattle.std.specs.Prelude.{false, not, nat_lt, ◌&&◌, ◌||◌};
 ghost use Rattle.std.specs.Bool.{OnTrue};
 ghost use Rattle.station_book.specs.declared.bounds.TheConstants.{CIRCLE, HALF_CIRCLE};
 ghost use Rattle.gsi_word.specs.BlockViews.{block_of};
@@ -47,12 +47,21 @@ fn has_word(block: &Block<'_>, index: u8) -> bool
     !matches!(block.find(index), Found::Absent)
 }
 
+/// Whether a block has a word of one of these indices.
+#[tactic(auto, unfolding(station_book::specs::Blocks::lacks))]
+fn has_either(block: &Block<'_>, one: u8, other: u8) -> bool
+    ensures { result ≡ (not (lacks one (block_of block.now))
+        || not (lacks other (block_of block.now))) }
+{
+    !matches!(block.find_two(one, other), (Found::Absent, Found::Absent))
+}
+
 /// Whether a block has a word of a set-up line: east, north or height of the station, height of the
 /// instrument.
 fn has_set_up_word(block: &Block<'_>) -> bool
     ensures { result ≡ has_set_up_word (block_of block.now) }
 {
-    has_word(block, 84) || has_word(block, 85) || has_word(block, 86) || has_word(block, 88)
+    has_either(block, 84, 85) || has_either(block, 86, 88)
 }
 
 /// Whether a block without a direction sets a station up: it has a word of a set-up line, and
@@ -61,7 +70,7 @@ fn has_set_up_word(block: &Block<'_>) -> bool
 fn tells_set_up(block: &Block<'_>) -> bool
     ensures { result ≡ tells_set_up (block_of block.now) }
 {
-    has_set_up_word(block) && !has_word(block, VERTICAL_ANGLE) && !has_word(block, SLOPE_DISTANCE)
+    has_set_up_word(block) && !has_either(block, VERTICAL_ANGLE, SLOPE_DISTANCE)
 }
 
 /// Whether a line begins with such a word: a point number or a code number.
@@ -316,13 +325,7 @@ impl Readings {
             (begun_in self.old.station) number (block_of block.now))) }
     {
         match said {
-            Ok(None) => {
-                if !tells_set_up(block) {
-                    self.blocks = number;
-                    return Ok(());
-                }
-                self.take_beginning(alloc, number, block, beginnings)
-            }
+            Ok(None) => self.take_beginning(alloc, number, block, beginnings),
             Ok(Some(reading)) => {
                 if self.station.is_none() {
                     return Err(MarkFault::At(number, MarkKind::NoSetUp));

@@ -688,17 +688,19 @@ of a copy, with 'prepare.py --blocks' of the examples, and mark that.",
         names: &["FirstFace"],
         meaning: "after other readings the first set begins in face II",
         when: "\
-The readings fit as sets only if the first set begins with this reading, in face II, after others
-that stand outside. Sets mostly begin in face I, so these may begin elsewhere: a reading is missing
-or too many before it or further on. Sets that are begun in face II are taken where nothing but
-detail stands before them.",
+The readings fit as sets only if the first set begins with this reading, in face II, and those
+before it belong to none. So it is where sets were begun in face II after a sight for orientation.
+But it looks the same where the first set begins with those before it, its targets are read in both
+faces by turns, I and II, then II and I, and a check follows the last set: then each set would be
+shifted. Where nothing but detail stands before them, sets may begin in face II.",
         example: "refused: block 2: mark: FirstFace",
         remedy: "\
-See in the field book where the sets begin. Of the examples, prepare.py leaves out of a
-copy what belongs to no set: the sights before sets that were begun in face II with --blocks, as the
-lone reading of a target; a last set that was broken off with --broken-off. Mark that copy. Or put
-the codes in with 'prepare.py --codes STATION BLOCKS LAST' of the examples: BLOCKS are the first
-ones of the sets, as 2,14,26, and LAST ends them.",
+See in the field book with which reading the first set begins, and leave what belongs to
+no set out of a copy, with 'prepare.py --blocks' of the examples. If it begins with this one, these
+are the sights before it. If it begins with one before, they are the checks after the last set, or
+a last set that was broken off. Leave out no reading of the first set: the others would be marked,
+each set shifted. Mark that copy. Or put the codes in with 'prepare.py --codes STATION BLOCKS
+LAST': BLOCKS are the first ones of the sets, as 2,14,26, and LAST ends them.",
     },
     Said {
         names: &["MayBeShifted"],
