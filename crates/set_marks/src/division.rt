@@ -582,8 +582,8 @@ fn divide_known(
     requires known { KnowsTargetsOf (seconds_of sights.now) known.old }
     ensures { IfOk result (λ d. d ≡ divided_by stated sights.now (ways_of sights.now)) }
 {
-    // Where none is a detail, the readings need no copy without details.
-    if unknown_in(known, sights).is_none() {
+    // A copy of few readings takes less than to see whether one of them is a detail.
+    if sights.len() > MOST_READINGS && unknown_in(known, sights).is_none() {
         return divide_rest(alloc, stated, known, sights, sights);
     }
     let rest = known_in(alloc, known, sights)?;
