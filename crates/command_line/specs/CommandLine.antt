@@ -1,5 +1,5 @@
 -- What the words of a command line ask for, or why they are answered with an error.
-use Rattle.std.specs.Prelude.{◌≡◌, ◌≢◌, ◌⊎◌, ℕ, Bool, List, [], Option, Some, None, codes}
+use Rattle.std.specs.Prelude.{◌≡◌, ◌≢◌, ◌⊎◌, ℕ, List, [], Option, Some, None, codes}
 use Rattle.std.specs.Prelude.{option_map}
 use Rattle.std.specs.Borrow.{Bor}
 use Rattle.std.specs.List.{join_by}
@@ -10,9 +10,8 @@ use Rattle.clap.specs.declared.error.kind.ErrorKind.TheVariants.{InvalidValue, O
 use Rattle.clap.specs.declared.error.kind.ErrorKind.TheVariants.{ValueValidation}
 use Rattle.clap.specs.declared.parser.matches.Found.{Found}
 use Rattle.job_statements.specs.declared.beginnings.Beginnings.{Beginnings}
-use Rattle.job_statements.specs.declared.stated.StatedNumber.{StatedNumber}
+use Rattle.job_statements.specs.declared.stated.Stated.{Stated}
 use Rattle.station_book.specs.Limits.{FaceLimits}
-use Rattle.station_book.specs.declared.result_limits.ResultLimits.{ResultLimits}
 use Rattle.station_explain.specs.Naming.{Names, IsMeant, IsNoNameInAnyCase}
 use Rattle.station_explain.specs.Table.{Explanation}
 use Rattle.command_line.specs.Commands.{the_program}
@@ -22,12 +21,16 @@ use Rattle.command_line.specs.Stated.{StatesNoBeginnings, StatesNoLimits, States
 use Rattle.command_line.specs.Stated.{StatesNoResidual, StatesNoWithin, StatesNumber}
 use Rattle.command_line.specs.Stated.{StatesResidual, StatesUnit, StatesWithin}
 use Rattle.command_line.specs.StatedNumbers.{StatesNoNumbers, StatesNumbers}
-use Rattle.command_line.specs.declared.request.Digests.{Digests}
 use Rattle.command_line.specs.declared.request.Digests.TheVariants.{Omitted, Printed}
+use Rattle.command_line.specs.declared.request.FieldStation.{FieldStation}
 use Rattle.command_line.specs.declared.request.ListForm.TheVariants.{Lines, Rows}
 use Rattle.command_line.specs.declared.request.Request.{Request}
 use Rattle.command_line.specs.declared.request.Request.TheVariants as request
-use Rattle.direction_table.specs.declared.unit.AngleUnit.{AngleUnit}
+use Rattle.command_line.specs.declared.request.SheetCheck.{SheetCheck}
+use Rattle.command_line.specs.declared.request.StationText.{StationText}
+use Rattle.command_line.specs.declared.request.StationText.TheVariants as text
+use Rattle.command_line.specs.declared.request.TableText.{TableText}
+use Rattle.command_line.specs.declared.request.TableText.TheVariants as table_text
 use Rattle.direction_table.specs.declared.unit.AngleUnit.TheVariants.{Gon, Degrees}
 
 -- What is asked for, with the paths of its files.
@@ -42,106 +45,81 @@ pub record AsksOfStation (found : Found) (gsi station : List ℕ) (limits : Face
   pub of_station : IsGiven found (codes "STATION") station
   pub of_limits : StatesLimits found limits
 
--- What a result of a station asks for: the station with the limits of its face differences, and the
--- limit of its residuals, which is the largest where none is stated.
-pub record AsksForResult (found : Found) (gsi station : List ℕ) (limits : ResultLimits)
-    : Type 0 where
-  pub station_of : AsksOfStation found gsi station limits.faces
-  pub of_residuals : HoldsResiduals found limits.residual
+-- The adjustment of a station is asked for: the station with the limits of its face differences,
+-- and the limit of its residuals, which is the largest where none is stated.
+pub record AsksForResult (found : Found) (asked : FieldStation (Bor (List ℕ))) : Type 0 where
+  pub station_of : AsksOfStation found asked.gsi.now asked.name.now asked.limits.faces
+  pub of_residuals : HoldsResiduals found asked.limits.residual
 
--- What `compare` asks for: a result of a station, the path of the table and its unit, the limit of
--- the comparison or none, and whether digests are printed.
-pub record AsksToCompare (found : Found) (gsi station table : List ℕ) (unit : AngleUnit)
-    (limits : ResultLimits) (within : Option ℕ) (digests : Digests) : Type 0 where
-  pub result_of : AsksForResult found gsi station limits
-  pub of_table : IsGiven found (codes "TABLE") table
-  pub of_unit : StatesUnit found unit
-  pub of_within : StatesWithin found within
-  pub of_digests : StatesDigests found digests
-
--- What `report` asks for without a table: a result of a station, and whether digests are printed.
--- No limit of a comparison is stated and no unit but gon, and not that it be of rows.
-pub record AsksToReport (found : Found) (gsi station : List ℕ) (limits : ResultLimits)
-    (digests : Digests) : Type 0 where
-  pub result_of : AsksForResult found gsi station limits
+-- No table is stated, and nothing that speaks of one: no limit of a comparison, and no unit but
+-- gon.
+pub record IsWithoutTable (found : Found) : Type 0 where
   pub no_table : IsMissing found (codes "table")
   pub no_within : StatesWithin found None
   pub no_degrees : StatesUnit found Gon
-  pub of_digests : StatesDigests found digests
-  pub of_lines : StatesForm found Lines
 
--- What it asks for as rows: a result of a station, and nothing beside it.
-pub record AsksForReportRows (found : Found) (gsi station : List ℕ) (limits : ResultLimits)
-    : Type 0 where
-  pub result_of : AsksForResult found gsi station limits
-  pub no_table : IsMissing found (codes "table")
-  pub no_within : StatesWithin found None
-  pub no_degrees : StatesUnit found Gon
-  pub no_digests : StatesDigests found Omitted
-  pub of_rows : StatesForm found Rows
+-- Which text of a station is asked for: by `directions` the table of its directions, with so many
+-- decimals; by `report`, where no table is stated, the report, with digests or without, or its
+-- rows, which have none.
+abbrev pub AsksForText : Text → Found → StationText → Type 0
+AsksForText name found (text.Directions decimals) =
+    (name ≡ codes "directions") × StatesNumber found (codes "decimals") decimals
+AsksForText name found (text.Report digests) =
+    (name ≡ codes "report") × IsWithoutTable found × StatesDigests found digests
+    × StatesForm found Lines
+AsksForText name found text.ReportRows =
+    (name ≡ codes "report") × IsWithoutTable found × StatesDigests found Omitted
+    × StatesForm found Rows
 
--- What it asks for with a table: all that `compare` asks for, where the table is that of the
--- option.
-pub record AsksToReportTable (found : Found) (gsi station table : List ℕ) (unit : AngleUnit)
-    (limits : ResultLimits) (within : Option ℕ) (digests : Digests) : Type 0 where
-  pub result_of : AsksForResult found gsi station limits
-  pub of_table : IsGiven found (codes "table") table
-  pub of_unit : StatesUnit found unit
-  pub of_within : StatesWithin found within
-  pub of_digests : StatesDigests found digests
-  pub of_lines : StatesForm found Lines
+-- Which text of a station and of the table of this path: by `compare` the comparison, with its
+-- limit or none, and with digests or without; by `differences` the differences; by `report` the
+-- report with the table of its option, and all else as for `compare`.
+abbrev pub AsksForTableText : Text → Found → List ℕ → TableText → Type 0
+AsksForTableText name found table (table_text.Comparison within digests) =
+    (name ≡ codes "compare") × IsGiven found (codes "TABLE") table × StatesWithin found within
+    × StatesDigests found digests
+AsksForTableText name found table table_text.Differences =
+    (name ≡ codes "differences") × IsGiven found (codes "TABLE") table
+AsksForTableText name found table (table_text.Report within digests) =
+    (name ≡ codes "report") × IsGiven found (codes "table") table × StatesWithin found within
+    × StatesDigests found digests × StatesForm found Lines
 
 -- What `check` asks for: its two paths, the limits of face differences, the residual limit or none,
 -- and whether digests are printed.
-pub record AsksToCheck (found : Found) (gsi sheet : List ℕ) (limits : FaceLimits)
-    (residual : Option ℕ) (digests : Digests) : Type 0 where
-  pub field_file : IsGiven found (codes "GSI") gsi
-  pub of_sheet : IsGiven found (codes "SHEET") sheet
-  pub of_limits : StatesLimits found limits
-  pub of_residual : StatesResidual found residual
-  pub of_digests : StatesDigests found digests
+pub record AsksToCheck (found : Found) (asked : SheetCheck (Bor (List ℕ))) : Type 0 where
+  pub field_file : IsGiven found (codes "GSI") asked.gsi.now
+  pub of_sheet : IsGiven found (codes "SHEET") asked.sheet.now
+  pub of_limits : StatesLimits found asked.limits
+  pub of_residual : StatesResidual found asked.residual
+  pub of_digests : StatesDigests found asked.digests
 
 -- What `mark` asks for: the path of the field file and that of its copy or none, how its stations
 -- begin, how many sets were read to the end and how many targets they have, at most 40 and 100,
 -- whether a name that comes again is another set-up, and whether stations with a fault stay
 -- outside.
 pub record AsksToMark (found : Found) (gsi : List ℕ) (copy : Option (List ℕ))
-    (beginnings : Beginnings) (sets targets : StatedNumber) (again others : Bool) : Type 0 where
+    (beginnings : Beginnings) (stated : Stated) : Type 0 where
   pub field_file : IsGiven found (codes "GSI") gsi
   pub of_copy : first_value found (codes "COPY") ≡ copy
   pub of_beginnings : StatesBeginnings found beginnings
-  pub of_sets : StatesNumbers found (codes "sets") 40 sets
-  pub of_targets : StatesNumbers found (codes "targets") 100 targets
-  pub of_again : StatesFlag found (codes "again") again
-  pub of_others : StatesFlag found (codes "others") others
+  pub of_sets : StatesNumbers found (codes "sets") 40 stated.sets
+  pub of_targets : StatesNumbers found (codes "targets") 100 stated.targets
+  pub of_again : StatesFlag found (codes "again") stated.again
+  pub of_others : StatesFlag found (codes "others") stated.others
 
--- What a subcommand of this name asks for, by what is found of the words after it: each its own
--- request.
+-- What a subcommand of this name asks for, by what is found of the words after it.
 abbrev pub AsksFor : Text → Found → Asked → Type 0
-AsksFor name found (request.Compare gsi station table unit limits within digests) =
-    (name ≡ codes "compare")
-    × AsksToCompare found gsi.now station.now table.now unit limits within digests
-AsksFor name found (request.Differences gsi station table unit limits) =
-    (name ≡ codes "differences") × AsksForResult found gsi.now station.now limits
-    × IsGiven found (codes "TABLE") table.now × StatesUnit found unit
-AsksFor name found (request.Directions gsi station limits decimals) =
-    (name ≡ codes "directions") × AsksForResult found gsi.now station.now limits
-    × StatesNumber found (codes "decimals") decimals
-AsksFor name found (request.Report gsi station limits digests) =
-    (name ≡ codes "report") × AsksToReport found gsi.now station.now limits digests
-AsksFor name found (request.ReportRows gsi station limits) =
-    (name ≡ codes "report") × AsksForReportRows found gsi.now station.now limits
-AsksFor name found (request.TableReport gsi station table unit limits within digests) =
-    (name ≡ codes "report")
-    × AsksToReportTable found gsi.now station.now table.now unit limits within digests
-AsksFor name found (request.Check gsi sheet limits residual digests) =
-    (name ≡ codes "check") × AsksToCheck found gsi.now sheet.now limits residual digests
+AsksFor name found (request.Check asked) = (name ≡ codes "check") × AsksToCheck found asked
 AsksFor name found (request.Means gsi station limits) =
     (name ≡ codes "means") × AsksOfStation found gsi.now station.now limits
-AsksFor name found (request.Mark gsi copy beginnings sets targets again others) =
+AsksFor name found (request.Station station text) =
+    AsksForResult found station × AsksForText name found text
+AsksFor name found (request.Table beside text) =
+    AsksForResult found beside.station × StatesUnit found beside.unit
+    × AsksForTableText name found beside.file.now text
+AsksFor name found (request.Mark gsi copy beginnings stated) =
     (name ≡ codes "mark")
-    × AsksToMark found gsi.now (option_map (λ path. path.now) copy) beginnings sets targets again
-    others
+    × AsksToMark found gsi.now (option_map (λ path. path.now) copy) beginnings stated
 AsksFor name found (request.List gsi limits form) =
     (name ≡ codes "list") × IsGiven found (codes "GSI") gsi.now
     × StatesLimits found limits × StatesForm found form

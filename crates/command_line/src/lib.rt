@@ -24,4 +24,6 @@ mod request;
 mod subcommands;
 
 pub use asked::asked_for;
-pub use request::{Digests, ListForm, Request};
+pub use request::{
+    Digests, FieldStation, ListForm, Request, SheetCheck, StationText, TableBeside, TableText,
+};

@@ -2,7 +2,7 @@
 
 use adjust_kernel::ResidualLimit;
 use direction_table::{AngleUnit, Decimals};
-use job_statements::{Beginnings, StatedNumber};
+use job_statements::{Beginnings, Stated};
 use station_book::{Limits, ResultLimits};
 use station_explain::Explanation;
 
@@ -27,18 +27,92 @@ pub enum ListForm {
     Rows,
 }
 
-/// What the program is asked to do with files of type `F`, which are read, and of type `N`, which are
-/// new: their paths, or the files once they are open.
+/// A sheet that is to be checked.
+#[derive(Drop)]
+pub struct SheetCheck<F> {
+    /// The field file that it is checked against.
+    pub gsi: F,
+
+    /// The sheet.
+    pub sheet: F,
+
+    /// The limits of face differences.
+    pub limits: Limits,
+
+    /// The limit of residuals, where one is stated.
+    pub residual: Option<ResidualLimit>,
+
+    /// Whether the digests of both files are printed.
+    pub digests: Digests,
+}
+
+/// A station that is adjusted.
+#[derive(Drop)]
+pub struct FieldStation<'a, F> {
+    /// The field file that has it.
+    pub gsi: F,
+
+    /// Its name.
+    pub name: &'a str,
+
+    /// The limits that it is held to.
+    pub limits: ResultLimits,
+}
+
+/// A table of directions, and the station beside which it stands.
+#[derive(Drop)]
+pub struct TableBeside<'a, F> {
+    /// The station.
+    pub station: FieldStation<'a, F>,
+
+    /// The table's file.
+    pub file: F,
+
+    /// The unit in which it states directions.
+    pub unit: AngleUnit,
+}
+
+/// What is printed of a station.
+#[derive(Clone, Copy)]
+pub enum StationText {
+    /// Its least-squares directions, as a table.
+    Directions { decimals: Decimals },
+
+    /// Its report.
+    Report { digests: Digests },
+
+    /// The report as rows for other programs.
+    ReportRows,
+}
+
+/// What is printed of a station and of a table beside it.
+#[derive(Clone, Copy)]
+pub enum TableText {
+    /// Whether they agree: within so many units of 0.000001 gon, or where none are stated within
+    /// what is usual for the table's rows.
+    Comparison {
+        within: Option<u32>,
+        digests: Digests,
+    },
+
+    /// How far the table is off, target by target.
+    Differences,
+
+    /// The report of the station with the table beside its directions: they agree as for
+    /// `Comparison`.
+    Report {
+        within: Option<u32>,
+        digests: Digests,
+    },
+}
+
+/// What the program is asked to do with files of type `F`, which are read, and of type `N`, which
+/// are new: their paths, or the files once they are open. A variant is a shape: the files, and what
+/// is stated of them. What is printed of one shape is a text of its own.
 #[derive(Drop)]
 pub enum Request<'a, F, N> {
     /// Checks a sheet against a field file.
-    Check {
-        gsi: F,
-        sheet: F,
-        limits: Limits,
-        residual: Option<ResidualLimit>,
-        digests: Digests,
-    },
+    Check(SheetCheck<F>),
 
     /// Prints the sheet of means of a station of a field file.
     Means {
@@ -47,74 +121,25 @@ pub enum Request<'a, F, N> {
         limits: Limits,
     },
 
-    /// Prints the least-squares directions of a station of a field file, as a table.
-    Directions {
-        gsi: F,
-        station: &'a str,
-        limits: ResultLimits,
-        decimals: Decimals,
+    /// Prints a text of a station of a field file.
+    Station {
+        station: FieldStation<'a, F>,
+        text: StationText,
     },
 
-    /// Prints the report of a station of a field file.
-    Report {
-        gsi: F,
-        station: &'a str,
-        limits: ResultLimits,
-        digests: Digests,
-    },
-
-    /// Prints the report of a station of a field file as rows for other programs.
-    ReportRows {
-        gsi: F,
-        station: &'a str,
-        limits: ResultLimits,
-    },
-
-    /// Prints the report of a station of a field file with a table beside its directions: they
-    /// agree as for `Compare`.
-    TableReport {
-        gsi: F,
-        station: &'a str,
-        table: F,
-        unit: AngleUnit,
-        limits: ResultLimits,
-        within: Option<u32>,
-        digests: Digests,
-    },
-
-    /// Compares a table with a station of a field file: they agree within so many units of
-    /// 0.000001 gon, or where none are stated within what is usual for the table's rows.
-    Compare {
-        gsi: F,
-        station: &'a str,
-        table: F,
-        unit: AngleUnit,
-        limits: ResultLimits,
-        within: Option<u32>,
-        digests: Digests,
-    },
-
-    /// Prints the differences of a table from a station of a field file, target by target.
-    Differences {
-        gsi: F,
-        station: &'a str,
-        table: F,
-        unit: AngleUnit,
-        limits: ResultLimits,
+    /// Prints a text of a station of a field file and of a table.
+    Table {
+        beside: TableBeside<'a, F>,
+        text: TableText,
     },
 
     /// Prints a copy of a field file with codes put in, or writes it to a new file of the path that
-    /// is named. `beginnings` is how its stations begin; the numbers are how many sets were read to
-    /// the end at a station, and how many targets they have; `again` is whether a name that comes
-    /// again is another set-up, and `others` whether stations with a fault stay outside.
+    /// is named. `beginnings` is how its stations begin.
     Mark {
         gsi: F,
         copy: Option<N>,
         beginnings: Beginnings,
-        sets: StatedNumber,
-        targets: StatedNumber,
-        again: bool,
-        others: bool,
+        stated: Stated,
     },
 
     /// Lists the stations of a field file.

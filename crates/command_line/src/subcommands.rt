@@ -16,10 +16,12 @@ use crate::found::{
     beginnings_of, count_of, decimals_of, digests_of, form_of, has_flag, limits_of, residual_of,
     unit_of, within_of,
 };
-use crate::request::{Digests, ListForm, Request};
+use crate::request::{
+    Digests, FieldStation, ListForm, Request, SheetCheck, StationText, TableBeside, TableText,
+};
 use clap::ArgMatches;
 use direction_table::AngleUnit;
-use job_statements::StatedNumber;
+use job_statements::{Stated, StatedNumber};
 use station_book::{Limits, ResultLimits};
 use std::alloc::{AllocError, Global};
 
@@ -61,20 +63,27 @@ fn station_of<'a>(found: &ArgMatches<'a>) -> Option<(&'a str, &'a str, Limits)>
     Some((gsi, station, limits_of(found)?))
 }
 
-/// The result of a station that is asked for: the path of the field file, the station's name, and
-/// the limits of the result. That of residuals is the largest where none is stated.
-fn result_of<'a>(found: &ArgMatches<'a>) -> Option<(&'a str, &'a str, ResultLimits)>
-    ensures asked { IfSome result (λ asked.
-        AsksForResult (found_of found.now) asked.0.now asked.1.now asked.2) }
+/// The station whose adjustment is asked for. The limit of residuals is the largest where none is
+/// stated.
+fn result_of<'a>(found: &ArgMatches<'a>) -> Option<FieldStation<'a, &'a str>>
+    ensures asked { IfSome result (AsksForResult (found_of found.now)) }
     ensures none { IfNone result (LacksResult (found_of found.now)) }
 {
-    let Some((gsi, station, faces)) = station_of(found) else {
+    let Some((gsi, name, faces)) = station_of(found) else {
         return None;
     };
     let usual = ResultLimits::of_faces(faces);
     match residual_of(found)? {
-        Some(residual) => Some((gsi, station, ResultLimits { residual, ..usual })),
-        None => Some((gsi, station, usual)),
+        Some(residual) => Some(FieldStation {
+            gsi,
+            name,
+            limits: ResultLimits { residual, ..usual },
+        }),
+        None => Some(FieldStation {
+            gsi,
+            name,
+            limits: usual,
+        }),
     }
 }
 
@@ -82,33 +91,36 @@ fn compare_request<'a>(found: &ArgMatches<'a>) -> Option<Request<'a, &'a str, &'
     ensures asked { IfSome result (AsksFor (codes "compare") (found_of found.now)) }
     ensures none { IfNone result (LacksToCompare (found_of found.now)) }
 {
-    let Some((gsi, station, limits)) = result_of(found) else {
+    let Some(station) = result_of(found) else {
         return None;
     };
-    Some(Request::Compare {
-        gsi,
+    let beside = TableBeside {
         station,
-        table: found.get_str(TABLE)?,
+        file: found.get_str(TABLE)?,
         unit: unit_of(found),
-        limits,
+    };
+    let text = TableText::Comparison {
         within: within_of(found)?,
         digests: digests_of(found),
-    })
+    };
+    Some(Request::Table { beside, text })
 }
 
 fn differences_request<'a>(found: &ArgMatches<'a>) -> Option<Request<'a, &'a str, &'a str>>
     ensures asked { IfSome result (AsksFor (codes "differences") (found_of found.now)) }
     ensures none { IfNone result (LacksForDifferences (found_of found.now)) }
 {
-    let Some((gsi, station, limits)) = result_of(found) else {
+    let Some(station) = result_of(found) else {
         return None;
     };
-    Some(Request::Differences {
-        gsi,
+    let beside = TableBeside {
         station,
-        table: found.get_str(TABLE)?,
+        file: found.get_str(TABLE)?,
         unit: unit_of(found),
-        limits,
+    };
+    Some(Request::Table {
+        beside,
+        text: TableText::Differences,
     })
 }
 
@@ -116,50 +128,42 @@ fn directions_request<'a>(found: &ArgMatches<'a>) -> Option<Request<'a, &'a str,
     ensures asked { IfSome result (AsksFor (codes "directions") (found_of found.now)) }
     ensures none { IfNone result (LacksForDirections (found_of found.now)) }
 {
-    let Some((gsi, station, limits)) = result_of(found) else {
+    let Some(station) = result_of(found) else {
         return None;
     };
-    Some(Request::Directions {
-        gsi,
-        station,
-        limits,
+    let text = StationText::Directions {
         decimals: decimals_of(found)?,
-    })
+    };
+    Some(Request::Station { station, text })
 }
 
 fn report_request<'a>(found: &ArgMatches<'a>) -> Option<Request<'a, &'a str, &'a str>>
     ensures asked { IfSome result (AsksFor (codes "report") (found_of found.now)) }
     ensures none { IfNone result (LacksToReport (found_of found.now)) }
 {
-    let Some((gsi, station, limits)) = result_of(found) else {
+    let Some(station) = result_of(found) else {
         return None;
     };
     let within = within_of(found)?;
-    let table = found.get_str(STATED_TABLE);
+    let file = found.get_str(STATED_TABLE);
     let unit = unit_of(found);
-    match (form_of(found), table, within, unit, digests_of(found)) {
-        (ListForm::Lines, Some(table), within, unit, digests) => Some(Request::TableReport {
-            gsi,
-            station,
-            table,
-            unit,
-            limits,
-            within,
-            digests,
-        }),
-        (ListForm::Lines, None, None, AngleUnit::Gon, digests) => Some(Request::Report {
-            gsi,
-            station,
-            limits,
-            digests,
-        }),
-        (ListForm::Rows, None, None, AngleUnit::Gon, Digests::Omitted) => {
-            Some(Request::ReportRows {
-                gsi,
+    match (form_of(found), file, within, unit, digests_of(found)) {
+        (ListForm::Lines, Some(file), within, unit, digests) => Some(Request::Table {
+            beside: TableBeside {
                 station,
-                limits,
-            })
-        }
+                file,
+                unit,
+            },
+            text: TableText::Report { within, digests },
+        }),
+        (ListForm::Lines, None, None, AngleUnit::Gon, digests) => Some(Request::Station {
+            station,
+            text: StationText::Report { digests },
+        }),
+        (ListForm::Rows, None, None, AngleUnit::Gon, Digests::Omitted) => Some(Request::Station {
+            station,
+            text: StationText::ReportRows,
+        }),
         // A limit or a unit of no table.
         (ListForm::Lines, None, Some(_), _, _) => None,
         (ListForm::Lines, None, None, AngleUnit::Degrees, _) => None,
@@ -175,13 +179,13 @@ fn check_request<'a>(found: &ArgMatches<'a>) -> Option<Request<'a, &'a str, &'a 
     ensures asked { IfSome result (AsksFor (codes "check") (found_of found.now)) }
     ensures none { IfNone result (LacksToCheck (found_of found.now)) }
 {
-    Some(Request::Check {
+    Some(Request::Check(SheetCheck {
         gsi: found.get_str(GSI)?,
         sheet: found.get_str(SHEET)?,
         limits: limits_of(found)?,
         residual: residual_of(found)?,
         digests: digests_of(found),
-    })
+    }))
 }
 
 fn means_request<'a>(found: &ArgMatches<'a>) -> Option<Request<'a, &'a str, &'a str>>
@@ -230,10 +234,12 @@ fn marking_request<'a>(
         gsi: found.get_str(GSI)?,
         copy: found.get_str(COPY),
         beginnings: beginnings_of(found)?,
-        sets,
-        targets,
-        again: has_flag(found, AGAIN),
-        others: has_flag(found, OTHERS),
+        stated: Stated {
+            sets,
+            targets,
+            again: has_flag(found, AGAIN),
+            others: has_flag(found, OTHERS),
+        },
     })
 }
 

@@ -10,16 +10,20 @@ use Rattle.clap.specs.declared.error.Error.{Error}
 use Rattle.command_line.specs.CommandLine.{Asked, IsAskedForBy, IsMistakeIn}
 use Rattle.command_line.specs.declared.request.Digests.{Digests}
 use Rattle.command_line.specs.declared.request.Digests.TheVariants as digests
+use Rattle.command_line.specs.declared.request.FieldStation.{FieldStation}
 use Rattle.command_line.specs.declared.request.ListForm.TheVariants as form
 use Rattle.command_line.specs.declared.request.Request.{Request}
 use Rattle.command_line.specs.declared.request.Request.TheVariants as request
-use Rattle.direction_table.specs.declared.unit.AngleUnit.{AngleUnit}
+use Rattle.command_line.specs.declared.request.SheetCheck.{SheetCheck}
+use Rattle.command_line.specs.declared.request.StationText.{StationText}
+use Rattle.command_line.specs.declared.request.StationText.TheVariants as text
+use Rattle.command_line.specs.declared.request.TableBeside.{TableBeside}
+use Rattle.command_line.specs.declared.request.TableText.{TableText}
+use Rattle.command_line.specs.declared.request.TableText.TheVariants as table_text
 use Rattle.list_rows.specs.Runs.{IsRowsRun}
 use Rattle.report_rows.specs.Stating.{AreReportRows}
 use Rattle.station_answers.specs.Runs.{IsAnswerRun}
 use Rattle.station_answers.specs.Saying.{SaysDirections, SaysReport}
-use Rattle.station_book.specs.Limits.{FaceLimits}
-use Rattle.station_book.specs.declared.result_limits.ResultLimits.{ResultLimits}
 use Rattle.station_check.specs.ListNotes.{unchecked_note}
 use Rattle.station_check.specs.RunEndings.{Run, RunWithNotes, WritesOrFails}
 use Rattle.station_check.specs.Runs.{IsCheckRun, IsMeansRun, IsNotedListRun, IsWordsRun}
@@ -51,61 +55,68 @@ use Rattle.table_report.specs.Stating.{ReportAsked}
 
 -- A sheet was checked against a field file with this exit status, and this is what the run made of
 -- the two sinks. It is recorded, under the names of the files, exactly where digests are asked for.
-abbrev pub ChecksFiles : {F : Type 0} → Readers F → WriterChange → WriterChange → NamedReader F
-    → NamedReader F → FaceLimits → Option ℕ → Digests → ℕ → Type 0
-ChecksFiles {F} files out err gsi sheet limits residual digests.Omitted status =
-    (sheet' : F) × IsTakenIn files gsi.reader (λ gsi. Run {A = ⊤} refusal_line
-    (IsCheckRun limits residual gsi (change_of files sheet.reader sheet')) status out err)
-ChecksFiles files out err gsi sheet limits residual digests.Printed status =
-    IsTakenIn files gsi.reader (λ gsi_change. IsTakenIn files sheet.reader (λ sheet_change.
-    Run {A = ⊤} refusal_line (IsRecordedCheck limits residual
-    gsi_change gsi.name.now sheet_change sheet.name.now) status out err))
+abbrev pub ChecksSheet : {F : Type 0} → Readers F → WriterChange → WriterChange
+    → SheetCheck (NamedReader F) → Digests → ℕ → Type 0
+ChecksSheet {F} files out err asked digests.Omitted status =
+    (sheet' : F) × IsTakenIn files asked.gsi.reader (λ gsi. Run {A = ⊤} refusal_line
+    (IsCheckRun asked.limits asked.residual gsi (change_of files asked.sheet.reader sheet'))
+    status out err)
+ChecksSheet files out err asked digests.Printed status =
+    IsTakenIn files asked.gsi.reader (λ gsi. IsTakenIn files asked.sheet.reader (λ sheet.
+    Run {A = ⊤} refusal_line (IsRecordedCheck asked.limits asked.residual
+    gsi asked.gsi.name.now sheet asked.sheet.name.now) status out err))
 
--- A table was compared with the station of this name of a field file; all else as at a check.
-abbrev pub ComparesFiles : {F : Type 0} → Readers F → WriterChange → WriterChange → NamedReader F
-    → List ℕ → NamedReader F → AngleUnit → ResultLimits → Option ℕ → Digests → ℕ → Type 0
-ComparesFiles {F} files out err gsi station table unit limits within digests.Omitted status =
-    (table' : F) × IsTakenIn files gsi.reader (λ gsi. Run {A = ⊤} compare_refusal_line
-    (IsCompareRun unit limits within gsi (change_of files table.reader table') station) status out
-    err)
-ComparesFiles files out err gsi station table unit limits within digests.Printed status =
-    IsTakenIn files gsi.reader (λ gsi_change. IsTakenIn files table.reader (λ table_change.
-    Run {A = ⊤} compare_refusal_line (IsRecordedCompare unit limits within station
-    gsi_change gsi.name.now table_change table.name.now) status out err))
-
--- The report of a station of a field file was printed with this exit status; all else as at a
--- check.
-abbrev pub ReportsFile : {F : Type 0} → Readers F → WriterChange → WriterChange → NamedReader F
-    → List ℕ → ResultLimits → Digests → ℕ → Type 0
-ReportsFile files out err gsi station limits digests.Omitted status =
-    IsTakenIn files gsi.reader (λ gsi_change. Run {A = ⊤} compare_refusal_line
-    (IsAnswerRun (SaysReport gsi.name.now limits) limits gsi_change station) status out err)
-ReportsFile files out err gsi station limits digests.Printed status =
-    IsTakenIn files gsi.reader (λ gsi_change. Run {A = ⊤} compare_refusal_line
-    (IsRecordedReport gsi.name.now limits gsi_change station) status out err)
+-- A text of a station of a field file was printed with this exit status; all else as at a check.
+abbrev pub PrintsStation : {F : Type 0} → Readers F → WriterChange → WriterChange
+    → FieldStation (NamedReader F) → StationText → ℕ → Type 0
+PrintsStation files out err its (text.Directions decimals) status =
+    IsTakenIn files its.gsi.reader (λ gsi. Run {A = ⊤} compare_refusal_line
+    (IsAnswerRun (SaysDirections decimals) its.limits gsi its.name.now) status out err)
+PrintsStation files out err its (text.Report digests.Omitted) status =
+    IsTakenIn files its.gsi.reader (λ gsi. Run {A = ⊤} compare_refusal_line
+    (IsAnswerRun (SaysReport its.gsi.name.now its.limits) its.limits gsi its.name.now)
+    status out err)
+PrintsStation files out err its (text.Report digests.Printed) status =
+    IsTakenIn files its.gsi.reader (λ gsi. Run {A = ⊤} compare_refusal_line
+    (IsRecordedReport its.gsi.name.now its.limits gsi its.name.now) status out err)
+PrintsStation files out err its text.ReportRows status =
+    IsTakenIn files its.gsi.reader (λ gsi. Run {A = ⊤} compare_refusal_line
+    (IsAnswerRun AreReportRows its.limits gsi its.name.now) status out err)
 
 -- what is asked of a report with a table: its files by the names that they have
-abbrev pub asked_of : {F : Type 0} → NamedReader F → NamedReader F → AngleUnit → Option ℕ
-    → ReportAsked
-asked_of gsi table unit within = record {
-  path = gsi.name.now;
-  table_path = table.name.now;
-  unit = unit;
+abbrev pub asked_of : {F : Type 0} → TableBeside (NamedReader F) → Option ℕ → ReportAsked
+asked_of its within = record {
+  path = its.station.gsi.name.now;
+  table_path = its.file.name.now;
+  unit = its.unit;
   within = within;
 }
 
--- The same with a table.
-abbrev pub ReportsFiles : {F : Type 0} → Readers F → WriterChange → WriterChange → NamedReader F
-    → List ℕ → NamedReader F → AngleUnit → ResultLimits → Option ℕ → Digests → ℕ → Type 0
-ReportsFiles {F} files out err gsi station table unit limits within digests.Omitted status =
-    (table' : F) × IsTakenIn files gsi.reader (λ gsi_change. Run {A = ⊤} compare_refusal_line
-    (IsTableRun (SaysTableReport (asked_of gsi table unit within) limits) PrintsReport unit limits
-    gsi_change (change_of files table.reader table') station) status out err)
-ReportsFiles files out err gsi station table unit limits within digests.Printed status =
-    IsTakenIn files gsi.reader (λ gsi_change. IsTakenIn files table.reader (λ table_change.
+-- The same of a text of a station and of a table.
+abbrev pub PrintsBeside : {F : Type 0} → Readers F → WriterChange → WriterChange
+    → TableBeside (NamedReader F) → TableText → ℕ → Type 0
+PrintsBeside {F} files out err its (table_text.Comparison within digests.Omitted) status =
+    (table' : F) × IsTakenIn files its.station.gsi.reader (λ gsi. Run {A = ⊤} compare_refusal_line
+    (IsCompareRun its.unit its.station.limits within gsi (change_of files its.file.reader table')
+    its.station.name.now) status out err)
+PrintsBeside files out err its (table_text.Comparison within digests.Printed) status =
+    IsTakenIn files its.station.gsi.reader (λ gsi. IsTakenIn files its.file.reader (λ table.
     Run {A = ⊤} compare_refusal_line
-    (IsRecordedTableReport (asked_of gsi table unit within) limits gsi_change table_change station)
-    status out err))
+    (IsRecordedCompare its.unit its.station.limits within its.station.name.now
+    gsi its.station.gsi.name.now table its.file.name.now) status out err))
+PrintsBeside {F} files out err its table_text.Differences status =
+    (table' : F) × IsTakenIn files its.station.gsi.reader (λ gsi. Run {A = ⊤} compare_refusal_line
+    (IsTableRun (SaysDifferences its.unit) PrintsText its.unit its.station.limits gsi
+    (change_of files its.file.reader table') its.station.name.now) status out err)
+PrintsBeside {F} files out err its (table_text.Report within digests.Omitted) status =
+    (table' : F) × IsTakenIn files its.station.gsi.reader (λ gsi. Run {A = ⊤} compare_refusal_line
+    (IsTableRun (SaysTableReport (asked_of its within) its.station.limits) PrintsReport its.unit
+    its.station.limits gsi (change_of files its.file.reader table') its.station.name.now)
+    status out err)
+PrintsBeside files out err its (table_text.Report within digests.Printed) status =
+    IsTakenIn files its.station.gsi.reader (λ gsi. IsTakenIn files its.file.reader (λ table.
+    Run {A = ⊤} compare_refusal_line (IsRecordedTableReport (asked_of its within)
+    its.station.limits gsi table its.station.name.now) status out err))
 
 -- A copy with codes was made of a field file with this exit status: it went to `out`; or to a new
 -- file, and nothing is asked of `out`.
@@ -120,40 +131,22 @@ MarksFile {F} {N} files new_files out err gsi (Some copy) beginnings stated stat
     (writer_change new_files copy copy') err)
 
 -- A request whose files are open was answered with this exit status: by a run of its own kind, over
--- its own files, or over standard input where it names none, with its limits, its residual limit,
--- its station, its unit, its decimals, its limit of differences or its fault; and this is what the
--- run made of the two sinks.
+-- its own files, or over standard input where it names none, with all that it states; and this is
+-- what the run made of the two sinks.
 abbrev pub IsRun : {F N I : Type 0} → Readers F → Ghosts N → Readers I → I
     → List (Bor (List Explanation)) → WriterChange → WriterChange → Request (NamedReader F) N → ℕ
     → Type 0
-IsRun files new_files inputs input faults out err (request.Check gsi sheet limits residual digests) status =
-    ChecksFiles files out err gsi sheet limits residual digests status
+IsRun files new_files inputs input faults out err (request.Check asked) status =
+    ChecksSheet files out err asked asked.digests status
 IsRun files new_files inputs input faults out err (request.Means gsi station limits) status =
     IsTakenIn files gsi.reader (λ gsi. Run {A = ⊤} refusal_line
     (IsMeansRun limits gsi station.now) status out err)
-IsRun files new_files inputs input faults out err (request.Directions gsi station limits decimals) status =
-    IsTakenIn files gsi.reader (λ gsi. Run {A = ⊤} compare_refusal_line
-    (IsAnswerRun (SaysDirections decimals) limits gsi station.now) status out err)
-IsRun files new_files inputs input faults out err (request.Report gsi station limits digests) status =
-    ReportsFile files out err gsi station.now limits digests status
-IsRun files new_files inputs input faults out err (request.ReportRows gsi station limits) status =
-    IsTakenIn files gsi.reader (λ gsi. Run {A = ⊤} compare_refusal_line
-    (IsAnswerRun AreReportRows limits gsi station.now) status out err)
-IsRun files new_files inputs input faults out err
-    (request.TableReport gsi station table unit limits within digests) status =
-    ReportsFiles files out err gsi station.now table unit limits within digests status
-IsRun files new_files inputs input faults out err
-    (request.Compare gsi station table unit limits within digests) status =
-    ComparesFiles files out err gsi station.now table unit limits within digests status
-IsRun {F} files new_files inputs input faults out err (request.Differences gsi station table unit limits)
-    status =
-    (table' : F) × IsTakenIn files gsi.reader (λ gsi. Run {A = ⊤} compare_refusal_line
-    (IsTableRun (SaysDifferences unit) PrintsText unit limits gsi
-    (change_of files table.reader table') station.now) status out err)
-IsRun files new_files inputs input faults out err
-    (request.Mark gsi copy beginnings sets targets again others) status =
-    MarksFile files new_files out err gsi copy beginnings
-    (said_in (record { sets = sets; targets = targets; again = again; others = others })) status
+IsRun files new_files inputs input faults out err (request.Station station text) status =
+    PrintsStation files out err station text status
+IsRun files new_files inputs input faults out err (request.Table beside text) status =
+    PrintsBeside files out err beside text status
+IsRun files new_files inputs input faults out err (request.Mark gsi copy beginnings stated) status =
+    MarksFile files new_files out err gsi copy beginnings (said_in stated) status
 IsRun files new_files inputs input faults out err (request.List gsi limits form.Lines) status =
     IsTakenIn files gsi.reader (λ gsi. RunWithNotes unchecked_note refusal_line
     (IsNotedListRun limits gsi) status out err)
@@ -174,55 +167,50 @@ IsNewFile seen known None None = ⊤
 IsNewFile seen known (Some path) (Some file) = IsNew seen known path.now file
 IsNewFile seen known stated file = ⊥
 
+-- The two files of a check were opened, and all else of it is as it was asked for. `known` is what
+-- is known of the file of a path.
+abbrev pub IsOpenedCheck : {F : Type 0} → Readers F → (List ℕ → Option Told)
+    → SheetCheck (Bor (List ℕ)) → SheetCheck (NamedReader F) → Type 0
+IsOpenedCheck files known asked opened =
+    IsUnread files known asked.gsi.now opened.gsi
+    × IsUnread files known asked.sheet.now opened.sheet
+    × (opened.limits ≡ asked.limits) × (opened.residual ≡ asked.residual)
+    × (opened.digests ≡ asked.digests)
+
+-- The field file of a station was opened, and all else of it is as it was asked for.
+abbrev pub IsOpenedStation : {F : Type 0} → Readers F → (List ℕ → Option Told)
+    → FieldStation (Bor (List ℕ)) → FieldStation (NamedReader F) → Type 0
+IsOpenedStation files known asked opened =
+    IsUnread files known asked.gsi.now opened.gsi × (opened.name.now ≡ asked.name.now)
+    × (opened.limits ≡ asked.limits)
+
+-- The same of a table and its station.
+abbrev pub IsOpenedBeside : {F : Type 0} → Readers F → (List ℕ → Option Told)
+    → TableBeside (Bor (List ℕ)) → TableBeside (NamedReader F) → Type 0
+IsOpenedBeside files known asked opened =
+    IsOpenedStation files known asked.station opened.station
+    × IsUnread files known asked.file.now opened.file × (opened.unit ≡ asked.unit)
+
 -- The files of a request were opened, each the one of its path, which is its name, and all else of
--- it is as it was asked for. `known` is what is known of the file of a path.
+-- it is as it was asked for.
 abbrev pub IsOpened : {F N : Type 0} → Readers F → (List ℕ → Option Told) → Ghosts N
     → (List ℕ → Option (List ℕ)) → Asked → Request (NamedReader F) N → Type 0
-IsOpened files known new_files new (request.Check gsi sheet limits residual digests)
-    (request.Check field_file stated limits' residual' digests') =
-    IsUnread files known gsi.now field_file
-    × IsUnread files known sheet.now stated
-    × (limits' ≡ limits) × (residual' ≡ residual) × (digests' ≡ digests)
+IsOpened files known new_files new (request.Check asked) (request.Check opened) =
+    IsOpenedCheck files known asked opened
 IsOpened files known new_files new (request.Means gsi station limits)
     (request.Means field_file station' limits') =
     IsUnread files known gsi.now field_file
     × (station'.now ≡ station.now) × (limits' ≡ limits)
-IsOpened files known new_files new (request.Directions gsi station limits decimals)
-    (request.Directions field_file station' limits' decimals') =
+IsOpened files known new_files new (request.Station station text) (request.Station station' text') =
+    IsOpenedStation files known station station' × (text' ≡ text)
+IsOpened files known new_files new (request.Table beside text) (request.Table beside' text') =
+    IsOpenedBeside files known beside beside' × (text' ≡ text)
+IsOpened files known new_files new (request.Mark gsi copy beginnings stated)
+    (request.Mark field_file copy' beginnings' stated') =
     IsUnread files known gsi.now field_file
-    × (station'.now ≡ station.now) × (limits' ≡ limits) × (decimals' ≡ decimals)
-IsOpened files known new_files new (request.Report gsi station limits digests)
-    (request.Report field_file station' limits' digests') =
-    IsUnread files known gsi.now field_file
-    × (station'.now ≡ station.now) × (limits' ≡ limits) × (digests' ≡ digests)
-IsOpened files known new_files new (request.ReportRows gsi station limits)
-    (request.ReportRows field_file station' limits') =
-    IsUnread files known gsi.now field_file
-    × (station'.now ≡ station.now) × (limits' ≡ limits)
-IsOpened files known new_files new (request.TableReport gsi station table unit limits within digests)
-    (request.TableReport field_file station' stated unit' limits' within' digests') =
-    IsUnread files known gsi.now field_file
-    × (station'.now ≡ station.now)
-    × IsUnread files known table.now stated
-    × (unit' ≡ unit) × (limits' ≡ limits) × (within' ≡ within) × (digests' ≡ digests)
-IsOpened files known new_files new (request.Compare gsi station table unit limits within digests)
-    (request.Compare field_file station' stated unit' limits' within' digests') =
-    IsUnread files known gsi.now field_file
-    × (station'.now ≡ station.now)
-    × IsUnread files known table.now stated
-    × (unit' ≡ unit) × (limits' ≡ limits) × (within' ≡ within) × (digests' ≡ digests)
-IsOpened files known new_files new (request.Differences gsi station table unit limits)
-    (request.Differences field_file station' stated unit' limits') =
-    IsUnread files known gsi.now field_file
-    × (station'.now ≡ station.now)
-    × IsUnread files known table.now stated
-    × (unit' ≡ unit) × (limits' ≡ limits)
-IsOpened files known new_files new (request.Mark gsi copy beginnings sets targets again others)
-    (request.Mark field_file copy' beginnings' sets' targets' again' others') =
-    IsUnread files known gsi.now field_file
-    × IsNewFile new_files new copy copy' × (beginnings' ≡ beginnings) × (sets' ≡ sets)
-    × (targets' ≡ targets) × (again' ≡ again) × (others' ≡ others)
-IsOpened files known new_files new (request.List gsi limits form) (request.List field_file limits' form') =
+    × IsNewFile new_files new copy copy' × (beginnings' ≡ beginnings) × (stated' ≡ stated)
+IsOpened files known new_files new (request.List gsi limits form)
+    (request.List field_file limits' form') =
     IsUnread files known gsi.now field_file × (limits' ≡ limits) × (form' ≡ form)
 IsOpened files known new_files new (request.Words gsi) (request.Words field_file) =
     IsUnread files known gsi.now field_file
@@ -243,20 +231,13 @@ IsFirstOfTwo files known first second path =
 
 -- A request names a file by this path, and each file that it names before this one was opened.
 abbrev pub NamesFirst : {F : Type 0} → Readers F → (List ℕ → Option Told) → Asked → List ℕ → Type 0
-NamesFirst files known (request.Check gsi sheet limits residual digests) path =
-    IsFirstOfTwo files known gsi.now sheet.now path
+NamesFirst files known (request.Check asked) path =
+    IsFirstOfTwo files known asked.gsi.now asked.sheet.now path
 NamesFirst files known (request.Means gsi station limits) path = path ≡ gsi.now
-NamesFirst files known (request.Directions gsi station limits decimals) path = path ≡ gsi.now
-NamesFirst files known (request.Report gsi station limits digests) path = path ≡ gsi.now
-NamesFirst files known (request.ReportRows gsi station limits) path = path ≡ gsi.now
-NamesFirst files known (request.TableReport gsi station table unit limits within digests) path =
-    IsFirstOfTwo files known gsi.now table.now path
-NamesFirst files known (request.Compare gsi station table unit limits within digests) path =
-    IsFirstOfTwo files known gsi.now table.now path
-NamesFirst files known (request.Differences gsi station table unit limits) path =
-    IsFirstOfTwo files known gsi.now table.now path
-NamesFirst files known (request.Mark gsi copy beginnings sets targets again others) path =
-    path ≡ gsi.now
+NamesFirst files known (request.Station station text) path = path ≡ station.gsi.now
+NamesFirst files known (request.Table beside text) path =
+    IsFirstOfTwo files known beside.station.gsi.now beside.file.now path
+NamesFirst files known (request.Mark gsi copy beginnings stated) path = path ≡ gsi.now
 NamesFirst files known (request.List gsi limits form) path = path ≡ gsi.now
 NamesFirst files known (request.Words gsi) path = path ≡ gsi.now
 NamesFirst files known request.WordsOfInput path = ⊥
@@ -264,8 +245,7 @@ NamesFirst files known (request.Explain fault) path = ⊥
 
 -- The path of the new file that a request asks for.
 abbrev pub new_path : Asked → Option (List ℕ)
-new_path (request.Mark gsi copy beginnings sets targets again others) =
-    option_map (λ path. path.now) copy
+new_path (request.Mark gsi copy beginnings stated) = option_map (λ path. path.now) copy
 new_path asked = None
 
 -- Why a request is refused for a path that it names: the file of the path can't be opened, and each

@@ -1,27 +1,24 @@
 //! How a request is answered: its files are opened, and its run is made over them.
 
-ghost use Rattle.std.specs.Prelude.{◌≡◌, ◌≤◌, IfOk, IfErr, OnErr, option_map, true, false};
+ghost use Rattle.std.specs.Prelude.{◌≡◌, ◌≤◌, IfOk, IfErr, OnErr, option_map, true};
 ghost use Rattle.byte_ends.specs.Writers.{writer_change};
-ghost use Rattle.command_run.specs.Answering.{IsAnswered, IsFirstOfTwo, IsOpened, IsRun};
-ghost use Rattle.command_run.specs.Answering.{ChecksFiles, ComparesFiles, ReportsFile};
-ghost use Rattle.command_run.specs.Answering.{IsNewFile, IsPathFault, MarksFile, NamesFirst};
-ghost use Rattle.command_run.specs.Answering.{ReportsFiles};
+ghost use Rattle.command_run.specs.Answering.{IsAnswered, IsFirstOfTwo, IsOpened, IsOpenedCheck};
+ghost use Rattle.command_run.specs.Answering.{IsOpenedBeside, IsOpenedStation, IsRun};
+ghost use Rattle.command_run.specs.Answering.{ChecksSheet, IsNewFile, IsPathFault, NamesFirst};
+ghost use Rattle.command_run.specs.Answering.{PrintsBeside, PrintsStation};
 ghost use Rattle.command_run.specs.Answering as spec;
 ghost use Rattle.command_run.specs.Hosts.{IsUnread, known_of, readers};
-ghost use Rattle.job_statements.specs.Numbers.{said_in};
 
 use crate::explaining::run_explain;
 use crate::host::Host;
 use crate::new_file::NewFile;
 use crate::unopened::{PathFault, Unopened};
-use adjust_kernel::ResidualLimit;
 use byte_ends::{Failed, Sink, Source};
-use command_line::{Digests, ListForm, Request};
-use direction_table::AngleUnit;
-use job_statements::{Beginnings, Stated};
+use command_line::{
+    Digests, FieldStation, ListForm, Request, SheetCheck, StationText, TableBeside, TableText,
+};
 use list_rows::run_list_rows;
 use station_answers::{Directions, Report, ReportRows, run_answer};
-use station_book::{Limits, ResultLimits};
 use station_check::{run_check, run_list, run_means, run_words};
 use station_explain::Explanation;
 use station_mark::run_mark;
@@ -33,8 +30,8 @@ use std::alloc::Global;
 use table_answers::{Differences, run_compare, run_table_answer};
 use table_report::Asked;
 
-/// The exit status of a request. All its files are opened before any is read, the field file first. A
-/// new file is made at the first byte that is written to it, where none is there.
+/// The exit status of a request. All its files are opened before any is read, the field file first.
+/// A new file is made at the first byte that is written to it, where none is there.
 pub(crate) fn answer<'a, H: Host, W: Sink, E: Sink>(
     alloc: Global,
     host: &'a H,
@@ -96,22 +93,7 @@ fn open_files<'a, H: Host>(
     ensures fails { IfErr result (λ unopened. H.may_not_open host.now unopened.path.now ≡ true) }
 {
     Ok(match request {
-        Request::Check {
-            gsi,
-            sheet,
-            limits,
-            residual,
-            digests,
-        } => {
-            let (gsi, sheet) = open_two(host, gsi, sheet)?;
-            Request::Check {
-                gsi,
-                sheet,
-                limits,
-                residual,
-                digests,
-            }
-        }
+        Request::Check(asked) => Request::Check(open_check(host, &asked)?),
         Request::Means {
             gsi,
             station,
@@ -121,109 +103,24 @@ fn open_files<'a, H: Host>(
             station,
             limits,
         },
-        Request::Directions {
-            gsi,
-            station,
-            limits,
-            decimals,
-        } => Request::Directions {
-            gsi: open(host, gsi)?,
-            station,
-            limits,
-            decimals,
+        Request::Station { station, text } => Request::Station {
+            station: open_station(host, &station)?,
+            text,
         },
-        Request::Report {
-            gsi,
-            station,
-            limits,
-            digests,
-        } => Request::Report {
-            gsi: open(host, gsi)?,
-            station,
-            limits,
-            digests,
+        Request::Table { beside, text } => Request::Table {
+            beside: open_beside(host, &beside)?,
+            text,
         },
-        Request::ReportRows {
-            gsi,
-            station,
-            limits,
-        } => Request::ReportRows {
-            gsi: open(host, gsi)?,
-            station,
-            limits,
-        },
-        Request::TableReport {
-            gsi,
-            station,
-            table,
-            unit,
-            limits,
-            within,
-            digests,
-        } => {
-            let (gsi, table) = open_two(host, gsi, table)?;
-            Request::TableReport {
-                gsi,
-                station,
-                table,
-                unit,
-                limits,
-                within,
-                digests,
-            }
-        }
-        Request::Compare {
-            gsi,
-            station,
-            table,
-            unit,
-            limits,
-            within,
-            digests,
-        } => {
-            let (gsi, table) = open_two(host, gsi, table)?;
-            Request::Compare {
-                gsi,
-                station,
-                table,
-                unit,
-                limits,
-                within,
-                digests,
-            }
-        }
-        Request::Differences {
-            gsi,
-            station,
-            table,
-            unit,
-            limits,
-        } => {
-            let (gsi, table) = open_two(host, gsi, table)?;
-            Request::Differences {
-                gsi,
-                station,
-                table,
-                unit,
-                limits,
-            }
-        }
         Request::Mark {
             gsi,
             copy,
             beginnings,
-            sets,
-            targets,
-            again,
-            others,
+            stated,
         } => Request::Mark {
             gsi: open(host, gsi)?,
             copy: new_file(host, copy),
             beginnings,
-            sets,
-            targets,
-            again,
-            others,
+            stated,
         },
         Request::List { gsi, limits, form } => Request::List {
             gsi: open(host, gsi)?,
@@ -238,6 +135,69 @@ fn open_files<'a, H: Host>(
             Request::WordsOfInput
         }
         Request::Explain { fault } => Request::Explain { fault },
+    })
+}
+
+/// The check of a sheet with its files open, the field file first.
+fn open_check<'a, H: Host>(
+    host: &H,
+    asked: &SheetCheck<&'a str>,
+) -> Result<SheetCheck<NamedReader<'a, H::File>>, Unopened<'a>>
+    ensures opened { IfOk result (IsOpenedCheck (readers H.File.told H.File.failed H.File.gave)
+        (H.known_file host.now) asked.now) }
+    ensures unopened { IfErr result (λ unopened.
+        IsFirstOfTwo (readers H.File.told H.File.failed H.File.gave) (H.known_file host.now)
+        asked.now.gsi.now asked.now.sheet.now unopened.path.now) }
+    ensures fails { IfErr result (λ unopened. H.may_not_open host.now unopened.path.now ≡ true) }
+{
+    let (gsi, sheet) = open_two(host, asked.gsi, asked.sheet)?;
+    Ok(SheetCheck {
+        gsi,
+        sheet,
+        limits: asked.limits,
+        residual: asked.residual,
+        digests: asked.digests,
+    })
+}
+
+/// A station with its field file open.
+fn open_station<'a, H: Host>(
+    host: &H,
+    asked: &FieldStation<'a, &'a str>,
+) -> Result<FieldStation<'a, NamedReader<'a, H::File>>, Unopened<'a>>
+    ensures opened { IfOk result (IsOpenedStation (readers H.File.told H.File.failed H.File.gave)
+        (H.known_file host.now) asked.now) }
+    ensures unopened { IfErr result (λ unopened. unopened.path.now ≡ asked.now.gsi.now) }
+    ensures fails { OnErr result (H.may_not_open host.now asked.now.gsi.now ≡ true) }
+{
+    Ok(FieldStation {
+        gsi: open(host, asked.gsi)?,
+        name: asked.name,
+        limits: asked.limits,
+    })
+}
+
+/// A table and its station with their files open, the field file first.
+fn open_beside<'a, H: Host>(
+    host: &H,
+    asked: &TableBeside<'a, &'a str>,
+) -> Result<TableBeside<'a, NamedReader<'a, H::File>>, Unopened<'a>>
+    ensures opened { IfOk result (IsOpenedBeside (readers H.File.told H.File.failed H.File.gave)
+        (H.known_file host.now) asked.now) }
+    ensures unopened { IfErr result (λ unopened.
+        IsFirstOfTwo (readers H.File.told H.File.failed H.File.gave) (H.known_file host.now)
+        asked.now.station.gsi.now asked.now.file.now unopened.path.now) }
+    ensures fails { IfErr result (λ unopened. H.may_not_open host.now unopened.path.now ≡ true) }
+{
+    let (gsi, file) = open_two(host, asked.station.gsi, asked.file)?;
+    Ok(TableBeside {
+        station: FieldStation {
+            gsi,
+            name: asked.station.name,
+            limits: asked.station.limits,
+        },
+        file,
+        unit: asked.unit,
     })
 }
 
@@ -303,117 +263,23 @@ fn run_request<'a, H: Host, W: Sink, E: Sink>(
         (writer_change E.Sink err.old err.new) request.entry result }
 {
     match request {
-        Request::Check {
-            gsi,
-            sheet,
-            limits,
-            residual,
-            digests,
-        } => check_files(alloc, gsi, sheet, limits, residual, digests, out, err),
+        Request::Check(asked) => check_sheet(alloc, asked, out, err),
         Request::Means {
             gsi,
             station,
             limits,
         } => run_means(alloc, gsi.reader, station.as_bytes(), limits, out, err),
-        Request::Directions {
-            gsi,
-            station,
-            limits,
-            decimals,
-        } => {
-            let asked = Directions { decimals };
-            run_answer(
-                alloc,
-                gsi.reader,
-                station.as_bytes(),
-                limits,
-                &asked,
-                out,
-                err,
-            )
-        }
-        Request::Report {
-            gsi,
-            station,
-            limits,
-            digests,
-        } => report_file(alloc, gsi, station, limits, digests, out, err),
-        Request::ReportRows {
-            gsi,
-            station,
-            limits,
-        } => run_answer(
-            alloc,
-            gsi.reader,
-            station.as_bytes(),
-            limits,
-            &ReportRows,
-            out,
-            err,
-        ),
-        Request::TableReport {
-            gsi,
-            station,
-            table,
-            unit,
-            limits,
-            within,
-            digests,
-        } => report_files(
-            alloc, gsi, station, table, unit, limits, within, digests, out, err,
-        ),
-        Request::Compare {
-            gsi,
-            station,
-            table,
-            unit,
-            limits,
-            within,
-            digests,
-        } => compare_files(
-            alloc, gsi, table, unit, station, limits, within, digests, out, err,
-        ),
-        Request::Differences {
-            gsi,
-            station,
-            mut table,
-            unit,
-            limits,
-        } => {
-            let asked = Differences { unit };
-            run_table_answer(
-                alloc,
-                gsi.reader,
-                &mut table.reader,
-                station.as_bytes(),
-                limits,
-                &asked,
-                out,
-                err,
-            )
-        }
+        Request::Station { station, text } => print_station(alloc, station, text, out, err),
+        Request::Table { beside, text } => print_beside(alloc, beside, text, out, err),
         Request::Mark {
             gsi,
             copy,
             beginnings,
-            sets,
-            targets,
-            again,
-            others,
-        } => mark_file(
-            alloc,
-            gsi,
-            copy,
-            beginnings,
-            Stated {
-                sets,
-                targets,
-                again,
-                others,
-            },
-            out,
-            err,
-        ),
+            stated,
+        } => match copy {
+            None => run_mark(alloc, gsi.reader, beginnings, stated, out, err),
+            Some(mut copy) => run_mark(alloc, gsi.reader, beginnings, stated, &mut copy, err),
+        },
         Request::List {
             gsi,
             limits,
@@ -430,47 +296,26 @@ fn run_request<'a, H: Host, W: Sink, E: Sink>(
     }
 }
 
-/// Makes a copy of a field file with codes put in, and answers the exit status. The copy goes to a new
-/// file, where there is one.
-fn mark_file<F: Source, N: Sink + Drop, W: Sink, E: Sink>(
-    alloc: Global,
-    gsi: NamedReader<'_, F>,
-    copy: Option<N>,
-    beginnings: Beginnings,
-    stated: Stated,
-    out: &mut W,
-    err: &mut E,
-) -> u8
-    ensures status { result ≤ 1 }
-    ensures run { MarksFile (readers F.told F.failed F.gave) N.Sink
-        (writer_change W.Sink out.old out.new)
-        (writer_change E.Sink err.old err.new)
-        gsi.entry copy beginnings (said_in stated) result }
-{
-    match copy {
-        None => run_mark(alloc, gsi.reader, beginnings, stated, out, err),
-        Some(mut copy) => run_mark(alloc, gsi.reader, beginnings, stated, &mut copy, err),
-    }
-}
-
 /// Checks a sheet against a field file, and answers the exit status. The run is recorded where
 /// digests are asked for.
-fn check_files<F: Source, W: Sink, E: Sink>(
+fn check_sheet<F: Source, W: Sink, E: Sink>(
     alloc: Global,
-    gsi: NamedReader<'_, F>,
-    mut sheet: NamedReader<'_, F>,
-    limits: Limits,
-    residual: Option<ResidualLimit>,
-    digests: Digests,
+    asked: SheetCheck<NamedReader<'_, F>>,
     out: &mut W,
     err: &mut E,
 ) -> u8
     ensures status { result ≤ 1 }
-    ensures run { ChecksFiles (readers F.told F.failed F.gave)
+    ensures run { ChecksSheet (readers F.told F.failed F.gave)
         (writer_change W.Sink out.old out.new)
-        (writer_change E.Sink err.old err.new)
-        gsi.entry sheet.entry limits residual digests result }
+        (writer_change E.Sink err.old err.new) asked.entry asked.entry.digests result }
 {
+    let SheetCheck {
+        gsi,
+        mut sheet,
+        limits,
+        residual,
+        digests,
+    } = asked;
     match digests {
         Digests::Omitted => run_check(
             alloc,
@@ -485,29 +330,66 @@ fn check_files<F: Source, W: Sink, E: Sink>(
     }
 }
 
-/// Compares a table with a station of a field file, and answers the exit status. The run is
-/// recorded where digests are asked for.
-fn compare_files<F: Source, W: Sink, E: Sink>(
+/// Prints a text of a station of a field file, and answers the exit status. The run is recorded
+/// where digests are asked for.
+fn print_station<F: Source, W: Sink, E: Sink>(
     alloc: Global,
-    gsi: NamedReader<'_, F>,
-    mut table: NamedReader<'_, F>,
-    unit: AngleUnit,
-    station: &str,
-    limits: ResultLimits,
-    within: Option<u32>,
-    digests: Digests,
+    station: FieldStation<'_, NamedReader<'_, F>>,
+    text: StationText,
     out: &mut W,
     err: &mut E,
 ) -> u8
     ensures status { result ≤ 1 }
-    ensures run { ComparesFiles (readers F.told F.failed F.gave)
+    ensures run { PrintsStation (readers F.told F.failed F.gave)
         (writer_change W.Sink out.old out.new)
-        (writer_change E.Sink err.old err.new)
-        gsi.entry station.now table.entry unit limits within digests result }
+        (writer_change E.Sink err.old err.new) station.entry text result }
 {
-    let name = station.as_bytes();
-    match digests {
-        Digests::Omitted => run_compare(
+    let FieldStation { gsi, name, limits } = station;
+    let name = name.as_bytes();
+    match text {
+        StationText::Directions { decimals } => {
+            let asked = Directions { decimals };
+            run_answer(alloc, gsi.reader, name, limits, &asked, out, err)
+        }
+        StationText::Report { digests } => match digests {
+            Digests::Omitted => {
+                let asked = Report { path: gsi.name };
+                run_answer(alloc, gsi.reader, name, limits, &asked, out, err)
+            }
+            Digests::Printed => run_report_recorded(alloc, gsi, name, limits, out, err),
+        },
+        StationText::ReportRows => {
+            run_answer(alloc, gsi.reader, name, limits, &ReportRows, out, err)
+        }
+    }
+}
+
+/// Prints a text of a station of a field file and of a table, and answers the exit status. The run
+/// is recorded where digests are asked for.
+fn print_beside<F: Source, W: Sink, E: Sink>(
+    alloc: Global,
+    beside: TableBeside<'_, NamedReader<'_, F>>,
+    text: TableText,
+    out: &mut W,
+    err: &mut E,
+) -> u8
+    ensures status { result ≤ 1 }
+    ensures run { PrintsBeside (readers F.told F.failed F.gave)
+        (writer_change W.Sink out.old out.new)
+        (writer_change E.Sink err.old err.new) beside.entry text result }
+{
+    let TableBeside {
+        station,
+        file: mut table,
+        unit,
+    } = beside;
+    let FieldStation { gsi, name, limits } = station;
+    let name = name.as_bytes();
+    match text {
+        TableText::Comparison {
+            within,
+            digests: Digests::Omitted,
+        } => run_compare(
             alloc,
             gsi.reader,
             &mut table.reader,
@@ -518,86 +400,52 @@ fn compare_files<F: Source, W: Sink, E: Sink>(
             out,
             err,
         ),
-        Digests::Printed => {
-            run_compare_recorded(alloc, gsi, table, unit, name, limits, within, out, err)
+        TableText::Comparison {
+            within,
+            digests: Digests::Printed,
+        } => run_compare_recorded(alloc, gsi, table, unit, name, limits, within, out, err),
+        TableText::Differences => {
+            let asked = Differences { unit };
+            run_table_answer(
+                alloc,
+                gsi.reader,
+                &mut table.reader,
+                name,
+                limits,
+                &asked,
+                out,
+                err,
+            )
         }
-    }
-}
-
-/// Prints the report of a station of a field file, and answers the exit status. The run is recorded
-/// where digests are asked for.
-fn report_file<F: Source, W: Sink, E: Sink>(
-    alloc: Global,
-    gsi: NamedReader<'_, F>,
-    station: &str,
-    limits: ResultLimits,
-    digests: Digests,
-    out: &mut W,
-    err: &mut E,
-) -> u8
-    ensures status { result ≤ 1 }
-    ensures run { ReportsFile (readers F.told F.failed F.gave)
-        (writer_change W.Sink out.old out.new)
-        (writer_change E.Sink err.old err.new)
-        gsi.entry station.now limits digests result }
-{
-    let name = station.as_bytes();
-    match digests {
-        Digests::Omitted => {
-            let asked = Report { path: gsi.name };
-            run_answer(alloc, gsi.reader, name, limits, &asked, out, err)
+        TableText::Report { within, digests } => {
+            let asked = Asked {
+                path: gsi.name,
+                table_path: table.name,
+                unit,
+                within,
+            };
+            match digests {
+                Digests::Omitted => run_table_answer(
+                    alloc,
+                    gsi.reader,
+                    &mut table.reader,
+                    name,
+                    limits,
+                    &asked,
+                    out,
+                    err,
+                ),
+                Digests::Printed => run_table_report_recorded(
+                    alloc,
+                    gsi.reader,
+                    table.reader,
+                    name,
+                    limits,
+                    &asked,
+                    out,
+                    err,
+                ),
+            }
         }
-        Digests::Printed => run_report_recorded(alloc, gsi, name, limits, out, err),
-    }
-}
-
-/// Prints the report of a station of a field file with a table, and answers the exit status. The
-/// run is recorded where digests are asked for.
-fn report_files<F: Source, W: Sink, E: Sink>(
-    alloc: Global,
-    gsi: NamedReader<'_, F>,
-    station: &str,
-    mut table: NamedReader<'_, F>,
-    unit: AngleUnit,
-    limits: ResultLimits,
-    within: Option<u32>,
-    digests: Digests,
-    out: &mut W,
-    err: &mut E,
-) -> u8
-    ensures status { result ≤ 1 }
-    ensures run { ReportsFiles (readers F.told F.failed F.gave)
-        (writer_change W.Sink out.old out.new)
-        (writer_change E.Sink err.old err.new)
-        gsi.entry station.now table.entry unit limits within digests result }
-{
-    let name = station.as_bytes();
-    let asked = Asked {
-        path: gsi.name,
-        table_path: table.name,
-        unit,
-        within,
-    };
-    match digests {
-        Digests::Omitted => run_table_answer(
-            alloc,
-            gsi.reader,
-            &mut table.reader,
-            name,
-            limits,
-            &asked,
-            out,
-            err,
-        ),
-        Digests::Printed => run_table_report_recorded(
-            alloc,
-            gsi.reader,
-            table.reader,
-            name,
-            limits,
-            &asked,
-            out,
-            err,
-        ),
     }
 }

@@ -3,14 +3,9 @@ use Rattle.command_line.proofs.subcommands.compare_request.Goals as goal
 
 pub returns-clause-asked : goal.returns-clause-asked
 returns-clause-asked c = (
-  refl,
-  record {
-    result_of = search rules;
-    of_table = search rules;
-    of_unit = search rules;
-    of_within = search rules;
-    of_digests = search rules;
-  },
+  search rules,
+  search rules,
+  (refl, search rules, search rules, search rules),
 )
 
 pub returns-in_default-clause-none : goal.returns-in_default-clause-none

@@ -2,7 +2,7 @@ use Rattle.std.proofs.Common.{inl, inr, refl, rules}
 use Rattle.command_line.proofs.subcommands.directions_request.Goals as goal
 
 pub returns-clause-asked : goal.returns-clause-asked
-returns-clause-asked c = (refl, search rules, search rules)
+returns-clause-asked c = (search rules, (refl, search rules))
 
 pub returns-in_default-clause-none : goal.returns-in_default-clause-none
 returns-in_default-clause-none c = inl c.in_default.ensures.none

@@ -4,43 +4,33 @@ use Rattle.command_line.proofs.subcommands.report_request.Goals as goal
 pub returns-in-Lines-Some-default-default-default-clause-asked :
     goal.returns-in-Lines-Some-default-default-default-clause-asked
 returns-in-Lines-Some-default-default-default-clause-asked c = (
-  refl,
-  record {
-    result_of = search rules;
-    of_table = search rules;
-    of_unit = search rules;
-    of_within = search rules;
-    of_digests = search rules;
-    of_lines = search rules;
-  },
+  search rules,
+  search rules,
+  (refl, search rules, search rules, search rules, search rules),
 )
 
 pub returns-in-Lines-None-None-Gon-default-clause-asked :
     goal.returns-in-Lines-None-None-Gon-default-clause-asked
 returns-in-Lines-None-None-Gon-default-clause-asked c = (
-  refl,
-  record {
-    result_of = search rules;
-    no_table = search rules;
-    no_within = search rules;
-    no_degrees = search rules;
-    of_digests = search rules;
-    of_lines = search rules;
-  },
+  search rules,
+  (
+    refl,
+    record { no_table = search rules; no_within = search rules; no_degrees = search rules },
+    search rules,
+    search rules,
+  ),
 )
 
 pub returns-in-Rows-None-None-Gon-Omitted-clause-asked :
     goal.returns-in-Rows-None-None-Gon-Omitted-clause-asked
 returns-in-Rows-None-None-Gon-Omitted-clause-asked c = (
-  refl,
-  record {
-    result_of = search rules;
-    no_table = search rules;
-    no_within = search rules;
-    no_degrees = search rules;
-    no_digests = search rules;
-    of_rows = search rules;
-  },
+  search rules,
+  (
+    refl,
+    record { no_table = search rules; no_within = search rules; no_degrees = search rules },
+    search rules,
+    search rules,
+  ),
 )
 
 pub returns-in-Lines-None-None-Degrees-default-clause-none :

@@ -1,4 +1,4 @@
-use Rattle.std.proofs.Common.{◌≡◌, ◌++◌, map, string_bytes, codes}
+use Rattle.std.proofs.Common.{◌≡◌, ◌++◌, map, string_bytes}
 use Rattle.std.specs.Prelude.{encode_utf8_all}
 use Rattle.command_run.specs.Unopened.{shown}
 use Rattle.command_run.proofs.unopened.path_line.Given as goal
