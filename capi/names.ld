@@ -7,6 +7,7 @@ station_check_report = station_page_report;
 station_check_means = station_page_means;
 station_check_list = station_page_list;
 station_check_words = station_page_words;
+station_check_change = station_page_change;
 station_check_digest = station_page_digest;
 station_check_explain = station_page_explain;
 

@@ -140,6 +140,14 @@ uint8_t station_check_mark(const void *gsi, size_t gsi_length,
                            char *copy, size_t room, size_t *length,
                            char *notes, size_t notes_room, size_t *notes_length);
 
+/* A copy of a field file in which just the lines that `changes` names are changed: `N` leaves line N
+ * out, `N=NAME` gives its point another name; a line feed stands between each two, in the order of
+ * the file, whose lines of blanks don't count. The copy is never longer than the file; a refusal has
+ * 192 bytes at most. */
+uint8_t station_check_change(const void *gsi, size_t gsi_length,
+                             const char *changes, size_t changes_length,
+                             char *copy, size_t room, size_t *length);
+
 /* The line that sha256sum prints of a file of this name. 68 bytes and twice those of the name are
  * always enough. */
 uint8_t station_check_digest(const void *file, size_t file_length,

@@ -167,6 +167,14 @@ def mark(
     return Marked(reply.text, reply.beside.decode())
 
 
+def change(gsi: bytes, changes: Mapping[int, str | None]) -> bytes:
+    """A copy of a field file in which just these lines are changed, each by its number: it is left
+    out where no name is given, else its point has that name. Lines of blanks don't count."""
+    lines = [str(n) if changes[n] is None else f"{n}={changes[n]}" for n in sorted(changes)]
+    said = "\n".join(lines)
+    return _answer("change", [gsi, said.encode()], [])
+
+
 def digest(file: bytes, name: str) -> str:
     """The line that sha256sum prints of a file of this name."""
     return os.fsdecode(_answer("digest", [file, os.fsencode(name)], [])).removesuffix("\n")

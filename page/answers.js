@@ -100,7 +100,8 @@ async function answered({ status, text }, about) {
  */
 export const filesOf = (/** @type {Card} */ { field, answers }) =>
   [field, ...answers.map(answer => answer.other)]
-    .flatMap(file => file ? file.original ? [file.original, file] : [file] : []);
+    .flatMap(file => file ? file.original ? [file.original, file] : [file] : [])
+    .flatMap(file => file.given ? [file.given, file] : [file]);
 
 // ---------------------------------------------------------------- field files
 

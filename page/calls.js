@@ -106,6 +106,7 @@ export const calls = {
     callOf(core, 'station_page_differences', [gsi, table, name], [twoC, twoI]),
   mark: (core, gsi, name, code, sets, targets, ...flags) =>
     callOf(core, 'station_page_mark', [gsi, name, code, sets, targets], flags.map(Number), 2),
+  change: (core, gsi, changes) => callOf(core, 'station_page_change', [gsi, changes], []),
   digest: (core, file, name) => callOf(core, 'station_page_digest', [file, name], []),
   explain: (core, line) => callOf(core, 'station_page_explain', [line], []),
 };

@@ -3,6 +3,9 @@ import {
   ACCEPTED, OUT_OF_RANGE, REFUSED, filesOf, isCountedOtherwise, isTwice, isUncounted, isWithoutName,
   mayLeaveOut, meansOf, moodOfAnswer,
 } from './answers.js';
+import {
+  asHandedIn, changeText, changesOf, givenBlock, logOf, pointNamesIn,
+} from './changes.js';
 import { handOnTo } from './drawing.js';
 import { button, element, menuOf, ofProgram, save } from './elements.js';
 import { originalOf, stemOf, textOf } from './files.js';
@@ -31,14 +34,16 @@ import { text } from './texts.js';
  * What a card asks of the page: the limits, to load its results, what its protocol says of what
  * else was handed in, to print it, to name the station of a field file, or the code whose blocks
  * begin its stations, to state the numbers of sets and targets of stations, what one is whose name
- * comes again, or that stations that aren't recognized stay outside.
+ * comes again, that stations that aren't recognized stay outside, or to have lines changed in a
+ * copy, which answers why that can't be.
  * @typedef {{ limits: import('./limits.js').Limits, load: (card: StationCard) => Promise<void>,
  *   beside: (card: Card) => string[], print: (card: Card) => void,
  *   name: (field: Input, station: string) => void,
  *   begin: (field: Input, code: string) => void,
  *   count: (field: Input, stations: string[], numbers: import('./files.js').Numbers) => void,
  *   setUp: (field: Input, again?: import('./files.js').Again) => void,
- *   leaveOut: (field: Input, others: boolean) => void }} Desk
+ *   leaveOut: (field: Input, others: boolean) => void,
+ *   change: (field: Input, changes: import('./changes.js').Change[]) => Promise<string> }} Desk
  * @typedef {import('./files.js').Input} Input
  * Gives what is in a file that can be saved; nothing where there is none, and it is said why.
  * @typedef {() => string | null | Promise<string | null>} Content
@@ -65,9 +70,10 @@ function showCommand({ line = '', command, status = OUT_OF_RANGE }, parent) {
  * An answer: in words, where the fault stands and what it means, and the line.
  * @param {Answer} answer
  * @param {Card} card
+ * @param {Desk} desk
  * @param {Element} parent
  */
-function showAnswer(answer, card, parent) {
+function showAnswer(answer, card, desk, parent) {
   const { status, line, other, explanation } = answer;
   const part = element('div', '', parent, { className: `answer ${moodOfAnswer(answer, card)}` });
   if (other) element('p', other.shown, part, { className: 'label name' });
@@ -80,7 +86,90 @@ function showAnswer(answer, card, parent) {
   if (isApart(line) && answer.differences)
     element('p', furthestOf(answer.differences), part, { className: 'reason' });
   showFault(answer, part);
+  offerChange(answer, desk, part);
   showCommand(answer, part);
+}
+
+// ---------------------------------------------------------------- changed lines
+
+/**
+ * Offers to change the line at which a refusal stands, in a copy: where it is one of the file that
+ * was handed in, and not of a copy with codes.
+ * @param {Answer} answer
+ * @param {Desk} desk
+ * @param {Element} parent
+ */
+function offerChange({ line, field, status }, desk, parent) {
+  const [, nth] = line.match(/^refused: block (\d+): /) ?? [];
+  if (status !== REFUSED || !nth || field.original || !placeOf(line, field)?.lines.length) return;
+  const block = givenBlock(field, Number(nth)), given = asHandedIn(field);
+  const form = element('form', '', parent, { className: 'buttons change' });
+  form.setAttribute('aria-label', text('changeLine', { block, name: given.shown }));
+  const input = (/** @type {string} */ called, /** @type {object} */ about) => {
+    const label = element('label', `${text(called)} `, form);
+    return /** @type {HTMLInputElement} */ (element('input', '', label, about));
+  };
+  const why = input('reason', { type: 'text', maxLength: 200 });
+  button(text('leaveLineOut'), form, () => hand());
+  const name = input('newName', { type: 'text', maxLength: MOST_OF_NAME });
+  propose(name, `${given.shown} ${block}`, () => pointNamesIn(given.bytes));
+  button(text('renamePoint'), form, () => hand(name.value.trim()));
+  const said = element('p', '', form, { className: 'bad' });
+  said.setAttribute('role', 'status');
+  form.onsubmit = event => event.preventDefault();
+  async function hand(/** @type {string | undefined} */ named) {
+    const reason = why.value.trim();
+    const missing = reason === '' ? why : named === '' ? name : undefined;
+    said.textContent = missing ? text(missing === why ? 'needReason' : 'needNewName') : '';
+    if (missing) return missing.focus();
+    const others = changesOf(field).filter(one => one.block !== block);
+    said.textContent = await desk.change(field, [...others, { block, name: named, why: reason }]);
+  }
+}
+
+/** So many letters has a name at most. */
+const MOST_OF_NAME = 16;
+
+/**
+ * Proposes names for a field, which are looked for when it is turned to; `of` tells it from others.
+ * @param {HTMLInputElement} input
+ * @param {string} of
+ * @param {() => string[]} names
+ */
+function propose(input, of, names) {
+  const id = `names-${Array.from(of, sign => sign.charCodeAt(0).toString(36)).join('-')}`;
+  const list = element('datalist', '', input.parentElement ?? input, { id });
+  input.setAttribute('list', id);
+  input.onfocus = () => {
+    if (list.childElementCount > 0) return;
+    for (const one of names()) element('option', '', list, { value: one });
+  };
+}
+
+/**
+ * Shows which lines are changed in the copy that is checked, and why; each can be taken back, and
+ * the copy and a log of it be saved.
+ * @param {Input} field
+ * @param {Desk} desk
+ * @param {Element} parent
+ */
+function showChanges(field, desk, parent) {
+  const changes = changesOf(field);
+  if (changes.length === 0) return;
+  const copy = originalOf(field), part = element('div', '', parent, { className: 'marked' });
+  const { shown } = asHandedIn(field);
+  element('p', text('changedCopy', { name: shown }), part, { className: 'label' });
+  const list = element('ul', '', part, { className: 'changes' });
+  for (const change of changes) {
+    const item = element('li', `${changeText(change)} `, list), said = changeText(change);
+    const back = button(text('takeBack'), item, () =>
+      desk.change(copy, changes.filter(one => one !== change)), 'button small');
+    back.setAttribute('aria-label', `${text('takeBack')}: ${said}`);
+  }
+  element('p', text('keepBoth'), part, { className: 'quiet' });
+  const buttons = element('div', '', part, { className: 'buttons' });
+  button(text('saveChanged'), buttons, () => save(copy.name, copy.bytes, 'text/plain'));
+  button(text('saveLog'), buttons, () => save(`${copy.name}.log`, logOf(copy), 'text/plain'));
 }
 
 /** So many rows that were taken of a workbook are shown at once. */
@@ -265,8 +354,11 @@ function showMarked({ line, field, command }, copy, recognized, desk, parent) {
 function askName(field, desk, action, parent, className = 'button') {
   const form = element('form', '', parent, { className: 'buttons' });
   const label = element('label', `${text('stationName')} `, form);
-  const about = { type: 'text', maxLength: 16, value: field.typed ?? field.station ?? '' };
+  const value = field.typed ?? field.station ?? '';
+  const about = { type: 'text', maxLength: MOST_OF_NAME, value };
   const name = /** @type {HTMLInputElement} */ (element('input', '', label, about));
+  // (an office often names a file after its station)
+  propose(name, field.shown, () => [stemOf(asHandedIn(field)).slice(0, MOST_OF_NAME)]);
   name.oninput = () => { field.typed = name.value; };
   element('button', text(action), form, { type: 'submit', className });
   form.onsubmit = event => {
@@ -397,6 +489,8 @@ function showUnmarked(card, desk, parent) {
     const place = placeOf(marked.line, marked.field);
     if (place) showPlace(place, parent);
     if (marked.explanation) showExplanation(marked.explanation, parent);
+    // (what is to be stated is in no line)
+    if (!isUncounted(marked) && !isCountedOtherwise(marked)) offerChange(marked, desk, parent);
   }
   for (const told of recognized ?? []) {
     for (const said of recognizedTexts(told)) element('p', said, parent);
@@ -470,8 +564,9 @@ export function showCard(card, desk, isFew, parent) {
   element('h2', titleOf(card), head, { className: card.station ? '' : 'name' });
   if (card.station) element('span', card.field.shown, head, { className: 'quiet name' });
   const { marked, recognized = [] } = card;
+  if (card.field) showChanges(card.field, desk, part);
   if (marked?.other) showMarked(marked, marked.other, recognized, desk, part);
-  for (const answer of card.answers) showAnswer(answer, card, part);
+  for (const answer of card.answers) showAnswer(answer, card, desk, part);
   if (card.answers.length === 0)
     element('h3', headlineOfCard(card), part, { className: 'headline' });
   showJudged(card, desk, part);

@@ -15,6 +15,8 @@ import { each, recordsOf } from './records.js';
  * only one by no name, and `typing` what is being typed of them. `code` is the one whose blocks
  * begin stations, `again` what a name that comes again is; `others` says whether stations that
  * aren't recognized stay outside.
+ * `changes` are those of its lines, where a copy with these stands in its place, and `given` is it
+ * then as it was handed in.
  * `saved` says of the stations of a field file by their names what was saved of them last, and
  * `unfolded` has those whose readings the user unfolded. The digest is there once the file was
  * judged.
@@ -23,7 +25,8 @@ import { each, recordsOf } from './records.js';
  *   typed?: string, original?: Input, taken?: Input,
  *   numbers?: Map<string, Numbers>, typing?: Map<string, Record<string, string>>, code?: string,
  *   typedCode?: string, again?: Again, others?: boolean,
- *   saved?: Map<string, () => string>, unfolded?: Set<string> }} Input
+ *   saved?: Map<string, () => string>, unfolded?: Set<string>,
+ *   changes?: import('./changes.js').Change[], given?: Input }} Input
  * How many sets were read to the end at a station, and how many targets they have: each 0 where it
  * is not stated.
  * @typedef {{ sets: number, targets: number }} Numbers

@@ -1,6 +1,7 @@
 // What the user does: files come in, limits are stated. All that is shown is drawn of one state.
 import { isOfStation, judge, makeCards, resultsOf } from './answers.js';
 import { keyOfCard, showCard } from './cards.js';
+import { asHandedIn, changeLines } from './changes.js';
 import { isOther, redraw, redrawEach } from './drawing.js';
 import { button, element, save } from './elements.js';
 import { HEAD, isChosen, isUsed, kindOf, originalOf, placeName, tellApart } from './files.js';
@@ -351,6 +352,12 @@ const desk = {
     field.station = station;
     await checkAgain(field);
   },
+  /** @type {import('./cards.js').Desk['change']} */
+  async change(field, changes) {
+    const { turn } = now, refused = await changeLines(originalOf(field), changes);
+    if (!refused && turn === now.turn) await checkAgain(field);
+    return refused;
+  },
   async leaveOut(/** @type {Input} */ field, /** @type {boolean} */ others) {
     field.others = others;
     await checkAgain(field);
@@ -433,7 +440,8 @@ async function add(/** @type {import('./gather.js').Given[]} */ given) {
   const all = await Promise.all(given.filter(one => !folders.includes(one)).map(inputOf));
   const read = all.filter(one => !isSkipped(one));
   const skipped = [...all.filter(isSkipped), ...folders].map(({ path }) => path);
-  const isGone = (/** @type {Input} */ one) => read.some(more => more.path === one.path);
+  const isGone = (/** @type {Input} */ one) =>
+    read.some(more => more.path === asHandedIn(one).path);
   const replaced = now.inputs.filter(isGone).map(one => one.shown);
   const inputs = [...now.inputs.filter(one => !isGone(one)), ...read];
   tellApart(inputs);
@@ -446,7 +454,10 @@ async function readAgain() {
   go({ phase: { is: 'reading' } });
   for (const input of now.inputs.filter(one => one.handle)) {
     const { path, handle } = input;
-    Object.assign(input, { taken: undefined }, await inputOf(await givenOf(handle, path)));
+    const again = await inputOf(await givenOf(handle, input.given?.path ?? path));
+    const { changes = [] } = input;
+    Object.assign(input, { taken: undefined, given: undefined, changes: undefined }, again);
+    if (changes.length > 0) await changeLines(input, changes);
   }
   tellApart(now.inputs);
   go({ readAt: new Date() });

@@ -23,7 +23,7 @@ const LF = 10, CR = 13, BLANK = 32;
 const signOf = (/** @type {number} */ byte) =>
   byte < 0x20 ? 0x2400 + byte : byte < 0x7f ? byte : 0xfffd;
 /** A line's bytes as letters, those outside 20 to 7E (hex) as signs that are seen. */
-const seen = (/** @type {Uint8Array} */ bytes) =>
+export const seen = (/** @type {Uint8Array} */ bytes) =>
   Array.from(bytes.subarray(0, MOST_SHOWN), byte => String.fromCharCode(signOf(byte))).join('');
 
 /**
@@ -44,6 +44,12 @@ function linesTo(/** @type {Uint8Array} */ bytes, /** @type {number} */ block) {
   }
   if (lines.at(-1)?.length === 0) lines.pop();
   return { lines, meant: meant < 0 ? lines.length : meant };
+}
+
+/** The line of a block; no bytes where there is none. */
+export function lineOf(/** @type {Uint8Array} */ bytes, /** @type {number} */ block) {
+  const { lines, meant } = linesTo(bytes, block);
+  return lines[meant] ?? new Uint8Array();
 }
 
 /**

@@ -1,5 +1,6 @@
 // The protocol of a station, as an office prints and files it, and the page before several.
 import { ACCEPTED, REFUSED, filesOf, isHeld, moodOfAnswer } from './answers.js';
+import { changeText, changesOf } from './changes.js';
 import { element, ofProgram } from './elements.js';
 import { isUsed, originalOf, stemOf } from './files.js';
 import {
@@ -124,6 +125,14 @@ function showMarks(marked, { recognized = [], title }, parent) {
   ofProgram('code', marked.command, element('div', '', parent));
 }
 
+/** Which lines are changed in the copy that was checked, and why. */
+function showChanged(/** @type {Input} */ field, /** @type {Element} */ parent) {
+  const changes = changesOf(field);
+  if (changes.length === 0) return;
+  const said = row('changes', parent);
+  for (const change of changes) element('div', changeText(change), said);
+}
+
 /**
  * A text of the style that says this: each of its signs is an escape of six digits, so that a name
  * is never a part of the style.
@@ -192,6 +201,7 @@ export function showProtocol(card, limits, parent, page = '', beside = []) {
   for (const file of allFilesOf(card)) showFile(file, files);
   showDate(facts);
   if (station) row('observed', facts).textContent = text('counts', countsOf(station.listed));
+  if (card.field) showChanged(card.field, facts);
   if (station && card.marked) showMarks(card.marked, card, row('marks', facts));
   const isCompared = card.answers.some(({ asked, status, line }) =>
     asked === 'compare' && (status === ACCEPTED || /^refused: compare: /.test(line)));

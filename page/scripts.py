@@ -19,7 +19,7 @@ SCRIPTS = {
     "calls": ["calls.js", "numbers.js", "packed.js", "records.js", "zeniths.js", "worker.js"],
     "page": [
         "texts.js", "numbers.js", "records.js", "zeniths.js", "files.js", "packed.js", "stored.js", "work.js",
-        "limits.js", "notes.js", "place.js", "answers.js", "elements.js", "tables.js", "readings.js", "picture.js",
+        "limits.js", "notes.js", "place.js", "answers.js", "changes.js", "elements.js", "tables.js", "readings.js", "picture.js",
         "faults.js", "headlines.js", "results.js", "refusals.js", "overview.js", "protocol.js",
         "drawing.js", "cards.js", "gather.js", "workbook.js", "page.js",
     ],

@@ -391,6 +391,69 @@ export const TEXTS = {
     fr: 'Comparez ces nombres avec le carnet de terrain, et gardez la copie avec le fichier de terrain.',
   },
   saveMarked: { en: 'Save the copy with codes', de: 'Kopie mit Codes speichern', fr: 'Enregistrer la copie avec codes' },
+  changeLine: {
+    en: 'Change block {block} of {name} in a copy',
+    de: 'Block {block} von {name} in einer Kopie ändern',
+    fr: 'Changer le bloc {block} de {name} dans une copie',
+  },
+  reason: {
+    en: 'Why is this line changed in a copy?',
+    de: 'Warum wird diese Zeile in einer Kopie geändert?',
+    fr: 'Pourquoi changer cette ligne dans une copie ?',
+  },
+  leaveLineOut: { en: 'Leave this line out', de: 'Diese Zeile weglassen', fr: 'Omettre cette ligne' },
+  newName: { en: 'or rename its point to', de: 'oder ihren Punkt umbenennen in', fr: 'ou renommer son point en' },
+  renamePoint: { en: 'Rename', de: 'Umbenennen', fr: 'Renommer' },
+  needReason: {
+    en: 'Write the reason first: it stands in the protocol and in the log.',
+    de: 'Schreiben Sie zuerst den Grund: Er steht im Protokoll und im Log.',
+    fr: 'Écrivez d’abord la raison : elle figure dans le procès-verbal et le journal.',
+  },
+  needNewName: { en: 'Write the new name first.', de: 'Schreiben Sie zuerst den neuen Namen.', fr: 'Écrivez d’abord le nouveau nom.' },
+  nameTooLong: {
+    en: 'The name is too long for this line: it has room for 8 characters, or for 16 if it begins with *.',
+    de: 'Der Name ist zu lang für diese Zeile: Sie hat Platz für 8 Zeichen, oder für 16, wenn sie mit * beginnt.',
+    fr: 'Le nom est trop long pour cette ligne : elle a place pour 8 caractères, ou 16 si elle commence par *.',
+  },
+  zeroBefore: {
+    en: 'A name begins with no zero: the instrument fills it with zeros from the left.',
+    de: 'Ein Name beginnt nicht mit einer Null: Das Instrument füllt ihn von links mit Nullen auf.',
+    fr: 'Un nom ne commence pas par un zéro : l’instrument le complète à gauche par des zéros.',
+  },
+  noPoint: {
+    en: 'With this name the line is no measurement: leave it out.',
+    de: 'Mit diesem Namen ist die Zeile keine Messung: Lassen Sie sie weg.',
+    fr: 'Avec ce nom, la ligne n’est pas une mesure : omettez-la.',
+  },
+  noName: {
+    en: 'A point cannot have this name: it has 1 to 16 plain letters, digits and signs.',
+    de: 'So kann kein Punkt heißen: Ein Name hat 1 bis 16 einfache Buchstaben, Ziffern und Zeichen.',
+    fr: 'Un point ne peut pas porter ce nom : il a de 1 à 16 lettres sans accent, chiffres et signes.',
+  },
+  changedCopy: {
+    en: 'Checked is a copy of {name} in which just these lines are changed',
+    de: 'Geprüft wird eine Kopie von {name}, in der nur diese Zeilen geändert sind',
+    fr: 'Est vérifiée une copie de {name} où seules ces lignes sont changées',
+  },
+  changes: { en: 'Changed lines', de: 'Geänderte Zeilen', fr: 'Lignes changées' },
+  lineOut: {
+    en: 'block {block} left out: {why}',
+    de: 'Block {block} weggelassen: {why}',
+    fr: 'bloc {block} omis : {why}',
+  },
+  lineNamed: {
+    en: 'block {block}, point renamed to {name}: {why}',
+    de: 'Block {block}, Punkt umbenannt in {name}: {why}',
+    fr: 'bloc {block}, point renommé en {name} : {why}',
+  },
+  takeBack: { en: 'Take back', de: 'Zurücknehmen', fr: 'Annuler' },
+  keepBoth: {
+    en: 'Keep the copy and the log beside the field file: the protocol has the digests of both.',
+    de: 'Bewahren Sie Kopie und Log neben der Messdatei auf: Das Protokoll hat die Prüfsummen beider.',
+    fr: 'Gardez la copie et le journal avec le fichier de terrain : le procès-verbal porte les empreintes des deux.',
+  },
+  saveChanged: { en: 'Save the changed copy', de: 'Geänderte Kopie speichern', fr: 'Enregistrer la copie changée' },
+  saveLog: { en: 'Save the log', de: 'Log speichern', fr: 'Enregistrer le journal' },
   needName: {
     en: 'The job was recorded without codes, and no line of it names the station. State its name, or the code whose lines begin its stations, and the sets are recognized.',
     de: 'Der Job wurde ohne Codes aufgezeichnet, und keine Zeile nennt die Station. Geben Sie ihren Namen an, oder den Code, mit dessen Zeilen seine Stationen beginnen, dann werden die Sätze erkannt.',
@@ -523,9 +586,9 @@ export const TEXTS = {
   },
   whatToDo: { en: 'What to do:', de: 'Was zu tun ist:', fr: 'Que faire :' },
   byCopy: {
-    en: 'Change the copy in a text editor: its lines have the numbers shown here. Keep the original, and note what you changed and why.',
-    de: 'Ändern Sie die Kopie in einem Texteditor: Ihre Zeilen haben die hier gezeigten Nummern. Bewahren Sie das Original auf, und notieren Sie, was Sie geändert haben und warum.',
-    fr: 'Modifiez la copie dans un éditeur de texte : ses lignes ont les numéros montrés ici. Gardez l’original, et notez ce que vous avez changé et pourquoi.',
+    en: 'What the page doesn’t offer to change, change in a copy in a text editor: its lines have the numbers shown here. Keep the original, and note what you changed and why.',
+    de: 'Was die Seite nicht zu ändern anbietet, ändern Sie in einer Kopie in einem Texteditor: Ihre Zeilen haben die hier gezeigten Nummern. Bewahren Sie das Original auf, und notieren Sie, was Sie geändert haben und warum.',
+    fr: 'Ce que la page ne propose pas de changer, modifiez-le dans une copie avec un éditeur de texte : ses lignes ont les numéros montrés ici. Gardez l’original, et notez ce que vous avez changé et pourquoi.',
   },
   inFull: {
     en: 'In full, in the words of the program',

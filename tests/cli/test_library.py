@@ -143,6 +143,7 @@ int main(int count, char **words) {
         station_check_words(gsi, n, out, sizeof out, &length, more, sizeof more, &second);
         station_check_mark(gsi, n, "", 0, "", 0, "3\nP1=2", 6, "P1=4", 4, 0, 0, 0, out, sizeof out, &length,
                            more, sizeof more, &second);
+        station_check_change(gsi, n, "1\n2=P8", 6, out, sizeof out, &length);
         station_check_digest(gsi, n, "gsi", 3, out, sizeof out, &length);
         station_check_explain("TwoC", 4, out, sizeof out, &length);
     }
@@ -341,6 +342,14 @@ class LibraryTest(ProgramTest):
         with self.assertRaisesRegex(self.module.Refused, "^refused: no station$"):
             self.module.report(GSI.read_bytes(), "P8", "a file")
 
+    def test_a_copy_has_just_the_stated_lines_changed(self) -> None:
+        first, second, *rest = GSI.read_bytes().splitlines(keepends=True)
+        copy = self.module.change(GSI.read_bytes(), {1: None})
+        self.assertEqual(b"".join([second, *rest]), copy)
+        self.assertEqual(GSI.read_bytes(), self.module.change(GSI.read_bytes(), {}))
+        with self.assertRaisesRegex(self.module.Refused, "^refused: block 999: change: NoSuchLine$"):
+            self.module.change(GSI.read_bytes(), {999: "P7"})
+
     def test_calls_at_the_same_time_answer_as_each_alone(self) -> None:
         usual = {name: self.answer(name, given, {}) for name, given in GIVEN.items()}
         names = [*GIVEN] * TIMES
@@ -365,7 +374,7 @@ class LibraryTest(ProgramTest):
                 for one in signature.parameters.values()
             )
             self.assertEqual(plain, parameters)
-        self.assertEqual({*OPERANDS, "digest", "explain", "report"}, {name for name, _ in rows})
+        self.assertEqual({*OPERANDS, "change", "digest", "explain", "report"}, {name for name, _ in rows})
 
     # ------------------------------------------------------------ C
 

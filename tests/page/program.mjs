@@ -2,7 +2,7 @@
 //
 // The worker's script and the module are taken out of the page as it is. Beside the program's commands,
 // `explain-bytes FILE` explains the bytes of a file, `digest FILE NAME` gives the line of its digest with
-// this name, and `time COMMAND WORD..` gives the milliseconds that the fastest of some runs takes. With
+// this name, `change FILE N..` the copy with changes, each `N` or `N=NAME`, and `time COMMAND WORD..` gives the milliseconds that the fastest of some runs takes. With
 // `--room=N` each text has room for so many bytes, and a call is not made again with more; with `--left=N`
 // so many pages of memory are left to a call, of all that 32 bits address.
 import fs from 'node:fs';
@@ -78,6 +78,7 @@ const answers = {
     const texts = Object.values(stated).map(lines => nameOf(lines.join('\n')));
     return calls.mark(core, bytesOf(gsi), ...texts, ...Object.values(flags));
   },
+  change: (gsi, ...changes) => calls.change(core, bytesOf(gsi), nameOf(changes.join('\n'))),
   digest: (file, name) => calls.digest(core, bytesOf(file), nameOf(name)),
   explain: (line = '') => calls.explain(core, nameOf(line)),
   'explain-bytes': file => calls.explain(core, bytesOf(file)),

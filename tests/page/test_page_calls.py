@@ -19,6 +19,7 @@ import unittest
 from fractions import Fraction
 from pathlib import Path
 
+import model
 from kinds import refusal_in
 from program import EXAMPLE, PROGRAM, ROOT, SWEEP, TimedTest, answer_to
 from rows import answer_of_residuals, as_call
@@ -31,7 +32,7 @@ PAGE = ROOT / "build" / "station_check.html"
 
 # The module with 64-bit memory, the one with 32-bit memory that is made of it, and the bytes that the
 # page has at most with that.
-MODULE, LOWERED, LARGEST_PAGE = build.ROOM / "page.wasm", build.ROOM / "page32.wasm", 400_000
+MODULE, LOWERED, LARGEST_PAGE = build.ROOM / "page.wasm", build.ROOM / "page32.wasm", 400 * 1024
 
 COMMAND_LINE = Path(__file__).with_name("program.mjs")
 EXAMPLES = [ROOT / "examples" / f"station_p7{end}" for end in (".gsi", ".csv", "_directions.csv")]
@@ -159,6 +160,26 @@ def make_page():
                 raise
     if making.returncode:
         raise RuntimeError(f"the page can't be made: {said}")
+
+
+def with_ends(data, chance):
+    """A file whose lines end in other ways, with a blank line here and there, and the last in none."""
+    lines = data.splitlines()
+    ends = [chance.choice([b"\r\n", b"\n", b"\r", b"\n \n"]) for _ in lines]
+    ends[-1] = chance.choice([b"", ends[-1]])
+    return b"".join(line + end for line, end in zip(lines, ends))
+
+
+def changes_of(data, chance):
+    """A few changes, mostly of lines that are there, in order, with names that they may have."""
+    count = len(data.split()) // 4 + 2
+    numbers = sorted(chance.sample(range(1, count + 2), min(count, chance.randint(0, 4))))
+    if chance.random() < 0.1:
+        chance.shuffle(numbers)
+    if chance.random() < 0.1:
+        numbers.append(numbers[-1] if numbers else 0)
+    names = [None, None, b"P7", b"TOWER", b"CHURCH 2", b"0", b"07", b"123456789", b"A=B"]
+    return [(number, chance.choice(names)) for number in numbers]
 
 
 class PageCallsTest(TimedTest):
@@ -315,6 +336,33 @@ class PageCallsTest(TimedTest):
                     self.assertIn(hashlib.sha256(data).hexdigest().encode(), shown.stdout)
                     answer = answer_to([*self.command(), "digest", path, name])
                     self.assertEqual((0, shown.stdout, b""), answer)
+
+    def test_a_copy_with_changed_lines_is_that_of_the_model(self):
+        chance = random.Random(11)
+        files = [path.read_bytes() for path in [EXAMPLES[0], JOB]]
+        with tempfile.TemporaryDirectory() as folder:
+            path = Path(folder) / "job.gsi"
+            for nth in range(CHANGED):
+                data = changed(with_ends(chance.choice(files), chance), chance)
+                path.write_bytes(data)
+                changes = changes_of(data, chance)
+                said = [f"{number}" + (f"={name.decode()}" if name is not None else "") for number, name in changes]
+                try:
+                    expected = 0, model.changed_copy(data, changes), b""
+                except model.Refusal as refusal:
+                    expected = 1, b"", f"refused: {refusal}\n".encode()
+                with self.subTest(nth, said=said):
+                    self.assertEqual(expected, answer_to([*self.command(), "change", path, *said]))
+
+    def test_what_is_no_change_has_a_status_of_its_own(self):
+        for said in ["x", "1=", "4294967296", "00000000001", "1=\x7f", "-1", "1 ", "1=12345678901234567"]:
+            with self.subTest(said):
+                self.assertEqual((2, b"", b""), answer_to([*self.command(), "change", JOB, said]))
+        # No digits are line 0, which no file has.
+        for said in ["=P7", "1\n", "1=P7\n\n2"]:
+            with self.subTest(said):
+                expected = 1, b"", b"refused: block 0: change: LineOrder\n"
+                self.assertEqual(expected, answer_to([*self.command(), "change", JOB, said]))
 
     def test_the_residuals_of_a_station_are_those_of_its_accepted_sheet(self):
         """Of a sheet that is accepted with the limit of residuals that the page states."""

@@ -255,6 +255,56 @@ class PageInBrowserTest(TimedTest):
             page.give(*files)
         return page
 
+    def changed(self, page, button, *typed):
+        """Has a line changed where a refusal stands: the reason, and a name, are typed before."""
+        fields = "document.querySelectorAll('form.change input')"
+        for nth, value in enumerate(typed):
+            page.js(f"{fields}[{nth}].value = {json.dumps(value)}")
+        with page.answered():
+            page.press(button)
+
+    def test_a_line_is_left_out_of_a_copy_with_a_reason_and_a_log(self):
+        whole = FIELD.read_bytes()
+        line = b"110004+0000000B 21.102+05000000 22.102+10000000\r\n"
+        field = self.file("double.gsi", whole.replace(line, 2 * line))
+        page = self.page(field)
+        self.assertEqual("refused: block 5: FaceTwice", page.text(".answer samp"))
+        page.press("Leave this line out")
+        self.assertIn("reason", page.text("form.change [role=status]"))
+        self.changed(page, "Leave this line out", "read twice, book p. 3")
+        said = "block 5 left out: read twice, book p. 3"
+        self.assertEqual([f"{said} Take back"], page.texts(".changes li"))
+        self.assertEqual(["Read without a fault: 2 sets, 2 targets, 4 directions."], page.texts(".headline"))
+        digests = [hashlib.sha256(data).hexdigest() for data in (field.read_bytes(), whole)]
+        names = ["double.gsi", "double_changed.gsi"]
+        shown = [f"{name} SHA-256 {digest}" for name, digest in zip(names, digests)]
+        self.assertEqual(shown, page.texts(".card .digests li"))
+        self.assertEqual(whole, page.saved("Save the changed copy", "double_changed.gsi"))
+        files = "".join(f"{digest}  {name}\n" for digest, name in zip(digests, names))
+        log = f"{files}\n{said}\n< {line.decode().strip()}\n"
+        self.assertEqual(log, page.saved("Save the log", "double_changed.gsi.log").decode())
+        page.js("onbeforeprint()")
+        self.assertIn(said, page.texts("#protocol .facts dd div"))
+        with page.answered():
+            page.press("Take back")
+        self.assertEqual("refused: block 5: FaceTwice", page.text(".answer samp"))
+        self.assertEqual(["double.gsi"], page.texts("#inputs .name"))
+        self.assertEqual([], page.complaints())
+
+    def test_a_point_is_renamed_in_a_copy_and_a_name_that_cannot_be_is_refused(self):
+        whole = FIELD.read_bytes()
+        field = self.file("umlaut.gsi", whole.replace(b"B ", b"\xfc ", 1))
+        page = self.page(field)
+        for name, said in [("CHURCH 23", "too long"), ("0B", "zero"), ("B\xfc", "cannot have this name")]:
+            page.js("document.querySelectorAll('form.change input')[0].value = 'misspelled'")
+            page.js(f"document.querySelectorAll('form.change input')[1].value = {json.dumps(name)}")
+            page.press("Rename")
+            page.wait(f"document.querySelector('form.change [role=status]').textContent.includes({json.dumps(said)})")
+        self.changed(page, "Rename", "misspelled", "B")
+        self.assertEqual(["block 4, point renamed to B: misspelled Take back"], page.texts(".changes li"))
+        self.assertEqual(whole, page.saved("Save the changed copy", "umlaut_changed.gsi"))
+        self.assertEqual([], page.complaints())
+
     def file(self, name, data):
         path = self.folder / name
         path.write_bytes(data)
@@ -586,7 +636,7 @@ class PageInBrowserTest(TimedTest):
         self.assertTrue(page.texts(EXPLAINED)[-1].startswith("What to do: "))
         # Who has the page alone has no script of the program's.
         self.assertTrue(page.text(".todo").startswith("What to do: Compare with the field book."), page.text(".todo"))
-        self.assertIn("Change the copy in a text editor", page.text(".explanation .quiet"))
+        self.assertIn("change in a copy in a text editor", page.text(".explanation .quiet"))
 
     def state_numbers(self, page, station, *numbers, each=False):
         """States how many sets were read to the end at a station, and how many targets they have; or the
@@ -703,7 +753,7 @@ class PageInBrowserTest(TimedTest):
         page = self.page(self.file("degrees.gsi", degrees))
         self.assertEqual([["open", "degrees.gsi", NOTHING_RECOGNIZED]], self.cards(page))
         self.assertEqual(["An angle is not in gon with five decimals."], page.texts(".reason"))
-        self.assertEqual([], page.texts(".card form"))
+        self.assertEqual([], page.texts(".card form:not(.change)"))
         self.assertIn("45 readings with directions stand outside of sets.", page.text(".card"))
         command = "station_check mark --station '?' degrees.gsi > degrees_marked.gsi"
         self.assertEqual(["refused: block 1: Hz Unit", command], page.texts(".exact :is(samp, code)"))

@@ -1,7 +1,7 @@
 -- What each call answers, of the very bytes that it was given. `room` is how many bytes there is
 -- room for, `answered` the status, and `shown` what was handed out.
 use Rattle.std.specs.Prelude.{◌≡◌, ◌≢◌, ◌⊎◌, ◌<◌, ◌≤◌, ◌+◌, ◌*◌, ℕ, Bool, List, [], length, Some}
-use Rattle.std.specs.Prelude.{Result, Err, IfErr, ⊤}
+use Rattle.std.specs.Prelude.{Result, Ok, Err, IfErr, ⊤}
 use Rattle.std.specs.Borrow.{Bor}
 use Rattle.byte_digests.specs.DigestLines.{digest_line}
 use Rattle.byte_digests.specs.declared.put_line.TheConstants.{MOST_BESIDE_NAME}
@@ -41,6 +41,12 @@ use Rattle.table_answers.specs.Answers.{TellsBeside}
 use Rattle.table_answers.specs.Saying.{SaysDifferences}
 use Rattle.station_mark.specs.FaultTexts.{refusal_line}
 use Rattle.station_mark.specs.declared.fault.PrintFault.TheVariants.{Mark}
+use Rattle.changed_lines.specs.Answers.{IsChanged, IsFault}
+use Rattle.changed_lines.specs.Sayings.{SayChanges}
+use Rattle.changed_lines.specs.declared.change.Change.{Change}
+use Rattle.changed_lines.specs.declared.fault.ChangeFault.{ChangeFault}
+use Rattle.changed_lines.specs.declared.fault.ChangeFault.TheVariants as change
+use Rattle.page_calls.specs.Changes.{change_line, copy_or_refusal}
 use Rattle.page_calls.specs.Explained.{AnswersLine, explanation_or_refusal}
 use Rattle.page_calls.specs.HandedOut.{HandsOut, verdict_line, text_or_refusal, refusal_text}
 use Rattle.page_calls.specs.HandedOut.{comparison_line, table_or_refusal, copy_text}
@@ -206,3 +212,29 @@ pub record IsExplanationOf (line : List ℕ) (room answered : ℕ) (shown : List
   pub table : List (Bor (List Explanation))
   pub is_the_table : IsTheTable table
   pub explains : IsExplanationFrom table line room answered shown
+
+-- What comes of these changes of a field file: the copy, or the fault.
+abbrev pub Changes : List ℕ → List Change → Result (List ℕ) ChangeFault → Type 0
+Changes gsi cs (Ok copy) = IsChanged gsi cs copy
+Changes gsi cs (Err fault) = IsFault gsi cs fault
+
+-- The status and the text are those of the changes that these bytes say, of this field file.
+pub record IsChangeOf (gsi changes : List ℕ) (room answered : ℕ) (shown : List ℕ) : Type 0 where
+  pub cs : List Change
+  pub say : SayChanges changes cs
+  pub answer : Result (List ℕ) ChangeFault
+  pub answers : Changes gsi cs answer
+  pub hands_out : HandsOut (status_of answer) (copy_or_refusal answer) room answered shown
+
+-- The bytes say no changes: nothing is handed out, and the status says so.
+pub record SaysNone (changes : List ℕ) (answered : ℕ) (shown : List ℕ) : Type 0 where
+  pub none : (cs : List Change) → ¬ (SayChanges changes cs)
+  pub status : answered ≡ OUT_OF_RANGE
+  pub nothing : shown ≡ []
+
+-- One of these is answered; or memory ran out for the changes, and the line says so.
+abbrev pub IsChangeAnswer : List ℕ → List ℕ → ℕ → ℕ → List ℕ → Type 0
+IsChangeAnswer gsi changes room answered shown =
+    IsChangeOf gsi changes room answered shown
+    ⊎ HandsOut REFUSED (change_line change.Memory) room answered shown
+    ⊎ SaysNone changes answered shown

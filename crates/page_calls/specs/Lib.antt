@@ -2,6 +2,7 @@
 -- needs them.
 pub mod Limits
 pub mod Statements
+pub mod Changes
 pub mod Answers
 pub mod HandedOut
 pub mod Explained

@@ -12,6 +12,7 @@
 //! | `page_compare` | compares a table of directions: the line of the answer |
 //! | `page_differences` | hands out the differences of a table, target by target |
 //! | `page_mark` | hands out a copy with codes put in, and what was recognized |
+//! | `page_change` | hands out a copy with lines left out, or their points renamed |
 //! | `page_digest` | hands out the line of a file's SHA-256 digest |
 //! | `page_explain` | hands out what the fault means that a text names |
 //!
@@ -24,6 +25,7 @@
 //! them, which no contract speaks of.
 #![tactic(auto)]
 
+mod change;
 mod check;
 mod compare;
 mod differences;
@@ -42,6 +44,7 @@ mod station;
 mod text;
 mod words;
 
+pub use change::page_change;
 pub use check::page_check;
 pub use compare::page_compare;
 pub use differences::page_differences;

@@ -7,14 +7,14 @@ ghost use Rattle.direction_table.specs.Texts.{AreDecimals};
 ghost use Rattle.page_calls.specs.Answers.{IsCheckOf, IsListOf, IsMeansOf, IsWordsOf};
 ghost use Rattle.page_calls.specs.Answers.{IsDirectionsOf, IsResidualsOf, IsReportOf};
 ghost use Rattle.page_calls.specs.Answers.{IsComparisonOf, IsDifferencesOf, IsMarkAnswer};
-ghost use Rattle.page_calls.specs.Answers.{IsDigestOf, IsExplanationOf};
+ghost use Rattle.page_calls.specs.Answers.{IsChangeAnswer, IsDigestOf, IsExplanationOf};
 ghost use Rattle.page_calls.specs.HandedOut.{Leaves, Shows, ShowsInRange};
 ghost use Rattle.page_calls.specs.Limits.{AreFaceLimits, IsResidualLimit, IsWithin};
 ghost use Rattle.page_calls.specs.Statements.{StatesBeginnings, StatesFile};
 
 use page_calls::{
-    page_check, page_compare, page_differences, page_digest, page_directions, page_explain,
-    page_list, page_mark, page_means, page_report, page_residuals, page_words,
+    page_change, page_check, page_compare, page_differences, page_digest, page_directions,
+    page_explain, page_list, page_mark, page_means, page_report, page_residuals, page_words,
 };
 use std::alloc::Global;
 
@@ -222,6 +222,20 @@ pub extern "C" fn station_page_mark(
         notes,
         notes_written,
     )
+}
+
+/// [`page_change`], exported.
+#[unsafe(no_mangle)]
+pub extern "C" fn station_page_change(
+    alloc: Global,
+    gsi: &[u8],
+    changes: &[u8],
+    out: &mut [u8],
+    written: &mut usize,
+) -> u8
+    ensures { Shows (IsChangeAnswer gsi.now changes.now) out.old out.new written.new result }
+{
+    page_change(alloc, gsi, changes, out, written)
 }
 
 /// [`page_digest`], exported.

@@ -1,0 +1,71 @@
+//! The copy of a field file with changed lines, for a page.
+
+ghost use Rattle.std.specs.Prelude.{◌≡◌, ◌≤◌, length};
+ghost use Rattle.adjust_kernel.specs.declared.bounds.TheConstants.{LONGEST_FAULT_NAME};
+ghost use Rattle.page_calls.specs.Answers.{IsChangeAnswer};
+ghost use Rattle.page_calls.specs.Changes as spec;
+ghost use Rattle.page_calls.specs.HandedOut.{Shows};
+
+use crate::hand_out::{OUT_OF_RANGE, hand_out};
+use changed_lines::{ChangeFault, Unsaid, changed_copy, changes_in};
+use station_check::{ACCEPTED, Fault, REFUSED, VerdictLine, add, add_numbered_place, refusal_line};
+use std::alloc::Global;
+
+/// Hands out a copy of a whole field file in which just the lines that `changes` names are changed;
+/// at a refusal the line of it.
+///
+/// `changes` has a change in each line, in the order of the file: `N` leaves line N out, `N=NAME`
+/// gives its point another name. There is a line feed between each two, and no bytes for no change.
+///
+/// Answers 0 for the copy, 1 for a refusal, 2 where a line of `changes` is no change, and 3 where
+/// `out` has too little room.
+pub fn page_change(
+    alloc: Global,
+    gsi: &[u8],
+    changes: &[u8],
+    out: &mut [u8],
+    written: &mut usize,
+) -> u8
+    ensures { Shows (IsChangeAnswer gsi.now changes.now) out.old out.new written.new result }
+{
+    *written = 0;
+    match changes_in(alloc, changes) {
+        Ok(changes) => match changed_copy(alloc, gsi, &changes) {
+            Ok(copy) => hand_out(ACCEPTED, copy.as_slice(), out, written),
+            Err(fault) => hand_out(REFUSED, change_line(fault).as_slice(), out, written),
+        },
+        Err(Unsaid::Memory) => {
+            let line = change_line(ChangeFault::Memory);
+            hand_out(REFUSED, line.as_slice(), out, written)
+        }
+        Err(Unsaid::Wrong) => OUT_OF_RANGE,
+    }
+}
+
+/// The line of a change that can't be made.
+fn change_line(fault: ChangeFault) -> VerdictLine
+    ensures { result.items ≡ spec.change_line fault }
+{
+    match fault {
+        ChangeFault::LineOrder(number)
+        | ChangeFault::NoSuchLine(number)
+        | ChangeFault::NameTooLong(number)
+        | ChangeFault::ZeroBefore(number)
+        | ChangeFault::NoPoint(number) => unchanged_line(number, fault.name()),
+        ChangeFault::Memory => refusal_line(Fault::Memory),
+    }
+}
+
+/// The line of a fault of this name, at the block of this number.
+fn unchanged_line(number: u32, name: &str) -> VerdictLine
+    requires { length name.now ≤ LONGEST_FAULT_NAME }
+    ensures { result.items ≡ spec.unchanged_line number name.now }
+{
+    let mut line = VerdictLine::new();
+    add(&mut line, b"refused: ");
+    add_numbered_place(&mut line, b"block ", number);
+    add(&mut line, b"change: ");
+    add(&mut line, name.as_bytes());
+    add(&mut line, b"\n");
+    line
+}

@@ -1,0 +1,100 @@
+// Lines of a field file that the user changes in a copy: the proved call makes it. What is changed,
+// and why, stands on the cards, in the protocol and in a log.
+import { ACCEPTED } from './answers.js';
+import { originalOf, stemOf } from './files.js';
+import { lineOf, seen } from './place.js';
+import { text } from './texts.js';
+import { ask, digestOf } from './work.js';
+
+/**
+ * @typedef {import('./files.js').Input} Input
+ * What becomes of a line, by its number in the file as it was handed in: it is left out, or its
+ * point gets this name; and why.
+ * @typedef {{ block: number, name?: string, why: string }} Change
+ */
+
+/** The changes of a field file, in the order of its lines. */
+export const changesOf = (/** @type {Input} */ file) => originalOf(file).changes ?? [];
+
+/** The file as it was handed in, of one that may be a copy with changed lines. */
+export const asHandedIn = (/** @type {Input} */ file) => originalOf(file).given ?? originalOf(file);
+
+/**
+ * The number that a line of a changed copy has in the file as it was handed in: each line that is
+ * left out before it counts there.
+ */
+export function givenBlock(/** @type {Input} */ file, /** @type {number} */ block) {
+  const out = changesOf(file).filter(({ name }) => name === undefined);
+  return out.reduce((nth, gone) => gone.block <= nth ? nth + 1 : nth, block);
+}
+
+/** A change as the call takes it. */
+const saying = (/** @type {Change} */ { block, name }) =>
+  name === undefined ? `${block}` : `${block}=${name}`;
+
+/**
+ * Why the copy can't be made, by the fault in the line of the refusal.
+ * @type {Record<string, string>}
+ */
+const WHY_UNCHANGED = {
+  NameTooLong: 'nameTooLong', ZeroBefore: 'zeroBefore', NoPoint: 'noPoint',
+};
+
+/**
+ * Has a field file changed so: its copy stands in its place, and what was handed in stays at hand.
+ * Answers why it can't be, and then all is as it was.
+ * @param {Input} field
+ * @param {Change[]} changes
+ */
+export async function changeLines(field, changes) {
+  const inOrder = [...changes].sort((one, other) => one.block - other.block);
+  const { name, path, shown, bytes, digest } = asHandedIn(field);
+  const reply = await ask('change', bytes, inOrder.map(saying).join('\n'));
+  if (reply.status !== ACCEPTED) {
+    const [, fault = ''] = reply.text.match(/: change: (\w+)/) ?? [];
+    return text(WHY_UNCHANGED[fault] ?? 'noName');
+  }
+  const given = {
+    name, path, shown, bytes, kind: field.kind, digest: digest || await digestOf({ name, bytes }),
+  };
+  const copyOf = (/** @type {string} */ old) => `${stemOf({ name: old })}_changed.gsi`;
+  const copy = { name: copyOf(name), path: copyOf(path), bytes: reply.bytes, digest: '', given };
+  const isChanged = inOrder.length > 0;
+  Object.assign(field, { changes: inOrder }, isChanged ? copy : { ...given, given: undefined });
+  return '';
+}
+
+/** What is said of a change: which line it is, and why. */
+export const changeText = (/** @type {Change} */ { block, name, why }) =>
+  text(name === undefined ? 'lineOut' : 'lineNamed', { block, name: name ?? '', why });
+
+/** The log of what is changed: both files with their digests, and each line as it was and is. */
+export function logOf(/** @type {Input} */ field) {
+  const given = asHandedIn(field), { bytes } = given;
+  const files = [given, field].map(({ name, digest }) => `${digest}  ${name}\n`);
+  const lines = changesOf(field).map(one => {
+    const was = lineOf(bytes, one.block);
+    const out = changesOf(field)
+      .filter(({ block, name }) => name === undefined && block < one.block);
+    const is = lineOf(field.bytes, one.block - out.length);
+    const named = one.name === undefined ? '' : `> ${seen(is)}\n`;
+    return `\n${changeText(one)}\n< ${seen(was)}\n${named}`;
+  });
+  return [...files, ...lines].join('');
+}
+
+/** So many names are proposed at most, of so many bytes at the beginning. */
+const MOST_NAMES = 200, MOST_LOOKED_AT = 1_000_000;
+
+/** A line that begins with a point, in GSI-8 or GSI-16. */
+const POINT = /^(?:11....[+-](.{8})|\*11....[+-](.{16}))/gm;
+
+/** The names of points in a field file, to be chosen from: nothing else is taken from them. */
+export function pointNamesIn(/** @type {Uint8Array} */ bytes) {
+  const all = new TextDecoder('latin1').decode(bytes.subarray(0, MOST_LOOKED_AT));
+  /** @type {Set<string>} */
+  const names = new Set();
+  for (const [, narrow, wide] of all.matchAll(POINT))
+    names.add((narrow ?? wide).replace(/^0+(?=.)/, ''));
+  return [...names].slice(0, MOST_NAMES);
+}
