@@ -170,6 +170,8 @@ def mark(
 def change(gsi: bytes, changes: Mapping[int, str | None]) -> bytes:
     """A copy of a field file in which just these lines are changed, each by its number: it is left
     out where no name is given, else its point has that name. Lines of blanks don't count."""
+    if not all(name is None or name.isprintable() for name in changes.values()):
+        raise ValueError("a line feed in a name would be another change")
     lines = [str(n) if changes[n] is None else f"{n}={changes[n]}" for n in sorted(changes)]
     said = "\n".join(lines)
     return _answer("change", [gsi, said.encode()], [])

@@ -94,14 +94,15 @@ function showAnswer(answer, card, desk, parent) {
 
 /**
  * Offers to change the line at which a refusal stands, in a copy: where it is one of the file that
- * was handed in, and not of a copy with codes.
+ * was handed in, and not its end or one of a copy with codes.
  * @param {Answer} answer
  * @param {Desk} desk
  * @param {Element} parent
  */
 function offerChange({ line, field, status }, desk, parent) {
   const [, nth] = line.match(/^refused: block (\d+): /) ?? [];
-  if (status !== REFUSED || !nth || field.original || !placeOf(line, field)?.lines.length) return;
+  const isThere = placeOf(line, field)?.lines.some(({ isMeant }) => isMeant);
+  if (status !== REFUSED || !nth || field.original || !isThere) return;
   const block = givenBlock(field, Number(nth)), given = asHandedIn(field);
   const form = element('form', '', parent, { className: 'buttons change' });
   form.setAttribute('aria-label', text('changeLine', { block, name: given.shown }));

@@ -1,6 +1,6 @@
 // Lines of a field file that the user changes in a copy: the proved call makes it. What is changed,
 // and why, stands on the cards, in the protocol and in a log.
-import { ACCEPTED } from './answers.js';
+import { ACCEPTED, OUT_OF_RANGE } from './answers.js';
 import { originalOf, stemOf } from './files.js';
 import { lineOf, seen } from './place.js';
 import { text } from './texts.js';
@@ -52,7 +52,8 @@ export async function changeLines(field, changes) {
   const reply = await ask('change', bytes, inOrder.map(saying).join('\n'));
   if (reply.status !== ACCEPTED) {
     const [, fault = ''] = reply.text.match(/: change: (\w+)/) ?? [];
-    return text(WHY_UNCHANGED[fault] ?? 'noName');
+    const why = reply.status === OUT_OF_RANGE ? 'noName' : WHY_UNCHANGED[fault];
+    return why ? text(why) : text('cannotFinish', { why: reply.text.trimEnd() });
   }
   const given = {
     name, path, shown, bytes, kind: field.kind, digest: digest || await digestOf({ name, bytes }),
@@ -63,6 +64,16 @@ export async function changeLines(field, changes) {
   Object.assign(field, { changes: inOrder }, isChanged ? copy : { ...given, given: undefined });
   return '';
 }
+
+/**
+ * Those changes of a file that was read again whose lines are the same at the same numbers: another
+ * line of that number was never meant.
+ * @param {Change[]} changes
+ * @param {Uint8Array} before
+ * @param {Uint8Array} now
+ */
+export const stillOf = (changes, before, now) => changes.filter(({ block }) =>
+  lineOf(before, block).join() === lineOf(now, block).join());
 
 /** What is said of a change: which line it is, and why. */
 export const changeText = (/** @type {Change} */ { block, name, why }) =>

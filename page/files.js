@@ -141,7 +141,9 @@ export function stationOfSheet(/** @type {Input} */ sheet) {
  * The field files with the longest name that begins this one, as in a folder: `NAME.STATION.csv`.
  */
 function fieldsByName(/** @type {string} */ name, /** @type {Input[]} */ fields) {
-  const stem = (/** @type {Input} */ field) => stemOf(originalOf(field));
+  // (a copy with changed lines has the file's place, and another name)
+  const given = (/** @type {Input} */ field) => originalOf(field).given ?? originalOf(field);
+  const stem = (/** @type {Input} */ field) => stemOf(given(field));
   const fit = fields.filter(field =>
     [...'._-'].some(end => name.startsWith(`${stem(field)}${end}`)));
   const longest = Math.max(...fit.map(field => stem(field).length));

@@ -1,7 +1,7 @@
 // What the user does: files come in, limits are stated. All that is shown is drawn of one state.
 import { isOfStation, judge, makeCards, resultsOf } from './answers.js';
 import { keyOfCard, showCard } from './cards.js';
-import { asHandedIn, changeLines } from './changes.js';
+import { asHandedIn, changeLines, changesOf, stillOf } from './changes.js';
 import { isOther, redraw, redrawEach } from './drawing.js';
 import { button, element, save } from './elements.js';
 import { HEAD, isChosen, isUsed, kindOf, originalOf, placeName, tellApart } from './files.js';
@@ -70,7 +70,7 @@ const isBusy = () =>
   ['starting', 'reading', 'checking'].includes(now.phase.is) || now.loading.length > 0;
 
 /** Whether the cards are those of an earlier state: they stay in sight, and can't be used. */
-const isStale = () => ['checking', 'wrong'].includes(now.phase.is);
+const isStale = () => ['reading', 'checking', 'wrong'].includes(now.phase.is);
 
 // ---------------------------------------------------------------- what is said
 
@@ -354,7 +354,8 @@ const desk = {
   },
   /** @type {import('./cards.js').Desk['change']} */
   async change(field, changes) {
-    const { turn } = now, refused = await changeLines(originalOf(field), changes);
+    const { turn } = now;
+    const refused = await changeLines(originalOf(field), changes).catch(whyIn);
     if (!refused && turn === now.turn) await checkAgain(field);
     return refused;
   },
@@ -449,15 +450,19 @@ async function add(/** @type {import('./gather.js').Given[]} */ given) {
   await checkAll();
 }
 
-/** Reads all files again of which the browser has a handle; what was stated of them stays. */
+/**
+ * Reads all files again of which the browser has a handle; what was stated of them stays, but for
+ * changes of lines that are no longer the same.
+ */
 async function readAgain() {
-  go({ phase: { is: 'reading' } });
+  go({ turn: now.turn + 1, phase: { is: 'reading' } });
   for (const input of now.inputs.filter(one => one.handle)) {
-    const { path, handle } = input;
+    const { path, handle } = input, { bytes } = asHandedIn(input), changes = changesOf(input);
     const again = await inputOf(await givenOf(handle, input.given?.path ?? path));
-    const { changes = [] } = input;
     Object.assign(input, { taken: undefined, given: undefined, changes: undefined }, again);
-    if (changes.length > 0) await changeLines(input, changes);
+    const still = stillOf(changes, bytes, again.bytes);
+    // (where that is stopped the file is checked as it is)
+    if (still.length > 0) await changeLines(input, still).catch(() => '');
   }
   tellApart(now.inputs);
   go({ readAt: new Date() });

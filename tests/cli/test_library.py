@@ -349,6 +349,8 @@ class LibraryTest(ProgramTest):
         self.assertEqual(GSI.read_bytes(), self.module.change(GSI.read_bytes(), {}))
         with self.assertRaisesRegex(self.module.Refused, "^refused: block 999: change: NoSuchLine$"):
             self.module.change(GSI.read_bytes(), {999: "P7"})
+        with self.assertRaises(ValueError):
+            self.module.change(GSI.read_bytes(), {1: "P7\n2"})
 
     def test_calls_at_the_same_time_answer_as_each_alone(self) -> None:
         usual = {name: self.answer(name, given, {}) for name, given in GIVEN.items()}
@@ -423,7 +425,7 @@ class LibraryTest(ProgramTest):
         if not shutil.which("nm"):
             self.skipTest("no nm is found")
         declared = set(re.findall(r"^uint8_t (\w+)\(", HEADER.read_text(), re.MULTILINE))
-        self.assertEqual(12, len(declared))
+        self.assertEqual(13, len(declared))
         shown = subprocess.run(["nm", "-D", LIBRARY], check=True, capture_output=True, text=True).stdout
         kinds = {name.partition("@")[0]: kind for kind, name in re.findall(r"(?:[0-9a-f]{16}| {16}) (\w) (\S+)", shown)}
         self.assertEqual(declared, {name for name, kind in kinds.items() if kind == "T"})
@@ -444,7 +446,7 @@ class LibraryTest(ProgramTest):
             heads = re.findall(rf"^{name}(\w+)(\(.*?)^\{{$", sources, re.DOTALL | re.MULTILINE)
             said.append({call: re.sub(r"\s+|,(?=\s*\))", "", head) for call, head in heads})
         calls, exports = said
-        self.assertEqual(12, len(calls))
+        self.assertEqual(13, len(calls))
         self.assertEqual(calls, exports)
 
 
