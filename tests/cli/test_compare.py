@@ -470,7 +470,7 @@ class CompareTest(ProgramTest):
     def test_the_longest_line(self):
         """Of a name of 16 bytes, 100 targets, the largest limit and the largest residual: three sets
         of two targets, and one of the first and the others, of which nothing is left."""
-        names = [f"T{place:02}" for place in range(100)]
+        names = [f"N{place:02}" for place in range(100)]
         sets = {number: [both_faces(names[0], 0), both_faces(names[1], hz)] for number, hz in LAST_OFF}
         others = enumerate([names[0], *names[2:]])
         sets[4] = [both_faces(name, 100_000 * place) for place, name in others]
@@ -478,7 +478,7 @@ class CompareTest(ProgramTest):
         file = edited(widened(field_file(sets)), (b"00000000000000S1", name.encode()))
         gon = [0, 0.01, *range(1, 99)]
         table = "".join(f"{target},{one}\n" for target, one in zip(names, gon))
-        off = table.replace("T50,49\n", "T50,51\n").encode()
+        off = table.replace("N50,49\n", "N50,51\n").encode()
         line = agrees(1_000_000, 1_000_000, 100, name, greatest=10_000, sets=4)
         self.assertEqual(119, len(line))
         self.check([judged("the longest", file, off, line, "--within=1000000", station=name)])
