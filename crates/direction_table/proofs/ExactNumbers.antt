@@ -18,7 +18,7 @@ use Rattle.direction_table.specs.DecimalNumbers.{decimals_part, is_shifted, is_s
 use Rattle.direction_table.specs.DecimalNumbers.{is_whole, shifted_value, whole_part}
 use Rattle.direction_table.specs.Degrees.{are_seconds, are_whole_seconds, seconds_value}
 use Rattle.direction_table.specs.ExactNumbers.{IsRoundedDown, IsWholeNumber, all_digits}
-use Rattle.direction_table.specs.ExactNumbers.{number_in, plain_number, scaled_number, tens}
+use Rattle.direction_table.specs.ExactNumbers.{written_number, plain_number, scaled_number, tens}
 use Rattle.direction_table.specs.Gons.{are_power, exponent, has_exponent, is_scaled, is_scaled_whole}
 use Rattle.direction_table.specs.Gons.{is_size, is_whole_size, mantissa, scaled_value, size_value}
 
@@ -283,7 +283,7 @@ scaled-whole bytes (sign ∷ digits) e w = elim (cases_Bool (sign == 45)) [
 
 -- What is read of a number is the number rounded down.
 pub size-down : (bytes : List ℕ) → is_size bytes ≡ true
-    → IsRoundedDown (10 ^ 9) (number_in bytes) (size_value bytes)
+    → IsRoundedDown (10 ^ 9) (written_number bytes) (size_value bytes)
 size-down bytes e = elim (cases_Bool (has_exponent bytes)) [
   | inl with ↦ rw with (scaled-down (mantissa bytes) (exponent bytes) (rw with at e))
   | inr without ↦
@@ -293,7 +293,7 @@ size-down bytes e = elim (cases_Bool (has_exponent bytes)) [
 
 -- Where nothing is left out it is the number.
 pub size-whole : (bytes : List ℕ) → is_size bytes ≡ true → is_whole_size bytes ≡ true
-    → IsWholeNumber (10 ^ 9) (number_in bytes) (size_value bytes)
+    → IsWholeNumber (10 ^ 9) (written_number bytes) (size_value bytes)
 size-whole bytes e w = elim (cases_Bool (has_exponent bytes)) [
   | inl with ↦
       rw with (scaled-whole (mantissa bytes) (exponent bytes) (rw with at e) (rw with at w))

@@ -5,12 +5,19 @@ pub mod Powers
 pub mod ExactNumbers
 pub mod Sizes
 pub mod FieldsAt
+pub mod Prefixes
+pub mod RowsLeft
+pub mod LastRows
 pub mod TwoColumns
 pub mod NamedTargets
 pub mod RowsTaken
 pub mod RecordSteps
 pub mod BytesRead
+pub mod RowsInTurn
 pub mod RowsRead
+pub mod RowsPicked
+pub mod FaultTests
+pub mod ReadWays
 pub mod StatedDirections
 pub mod OneAnswer
 pub mod PlainDirections
@@ -18,6 +25,7 @@ pub mod PlainRows
 pub mod WrittenDirections
 pub mod TableLengths
 pub mod TableAgain
+pub mod TargetsOnce
 pub mod UsualLimits
 pub mod LawLemmas
 mod Examples

@@ -1,7 +1,9 @@
--- A plain table is a table of the same targets and directions.
-use Rattle.std.proofs.Common.{◌≡◌, ◌∙◌, ℕ, ◌≤◌, ◌<◌, Bool, true, false, List, [], ◌∷◌, length}
-use Rattle.std.proofs.Common.{map, get_or, take, All, ℤ, Some, None, ap, sym, subst, arith, refl}
-use Rattle.std.proofs.Common.{inl, inr}
+-- A table of two columns is read as that, and so is a plain table.
+use Rattle.std.proofs.Common.{◌≡◌, ◌∙◌, ℕ, ◌≤◌, ◌<◌, Bool, true, false, List, [], ◌∷◌}
+use Rattle.std.proofs.Common.{length, map, get_or, take, All, ℤ, Some, None, ap, sym, subst, arith}
+use Rattle.std.proofs.Common.{refl, inl, inr}
+use Rattle.std.specs.List.{list_all}
+use Rattle.std.specs.Option.{is_some}
 use Rattle.std.specs.Prelude.{if◌then◌else◌}
 use Rattle.std.proofs.lemmas.Bool.{and_right, cases_Bool}
 use Rattle.std.proofs.lemmas.List.{get_or-map, length-map, map-id, same_lists}
@@ -13,16 +15,61 @@ use Rattle.sheet_format.proofs.RowFaultLaws.{fault-row}
 use Rattle.direction_table.specs.Faults.{HasNoFault, is_first, stating_fault}
 use Rattle.direction_table.specs.Faults.{table_row_fault, table_rules}
 use Rattle.direction_table.specs.FieldForms.{has_name, tidy, without_blanks}
+use Rattle.direction_table.specs.FoundColumns.{is_table}
 use Rattle.direction_table.specs.PlainTables.{IsPlainRow, IsPlainTable}
-use Rattle.direction_table.specs.Rows.{name_of}
+use Rattle.direction_table.specs.Rows.{direction_in, name_of}
 use Rattle.direction_table.specs.Separators.{begins_with_target, first_of, rows_by}
 use Rattle.direction_table.specs.Separators.{rows_of}
 use Rattle.direction_table.specs.Separators.{separator_of}
+use Rattle.direction_table.specs.TableRows.{unstated, way_of}
 use Rattle.direction_table.specs.Tables.{IsTableText, stated_by}
+use Rattle.direction_table.specs.declared.reading.TheConstants.{LONGEST_TABLE}
 use Rattle.direction_table.specs.declared.separator.Separator.{Separator}
 use Rattle.direction_table.specs.declared.separator.Separator.TheVariants.{Comma}
-use Rattle.direction_table.proofs.PlainDirections.{no-blanks, plain-form, plain-range}
+use Rattle.direction_table.specs.declared.unit.AngleUnit.{AngleUnit}
 use Rattle.direction_table.specs.declared.unit.AngleUnit.TheVariants.{Gon}
+use Rattle.direction_table.specs.declared.way.Way.TheVariants.{TwoColumns}
+use Rattle.direction_table.proofs.FaultTests.{faultless-test}
+use Rattle.direction_table.proofs.PlainDirections.{no-blanks, plain-form, plain-range}
+
+-- Where each target's direction is stated, the test of that says so.
+pub stated-test : (unit : AngleUnit) (rows : List (List (List ℕ))) (targets : List (List ℕ))
+    (directions : List ℤ) → stated_by unit rows targets ≡ map Some directions
+    → list_all (λ target. is_some (direction_in unit rows target)) targets ≡ true
+stated-test unit rows [] directions e = refl
+stated-test unit rows (target ∷ targets) [] e = cc e
+stated-test unit rows (target ∷ targets) (direction ∷ directions) e =
+    let first : direction_in unit rows target ≡ Some direction = cc e in
+    let others : stated_by unit rows targets ≡ map Some directions = cc e in
+    rw (first, stated-test unit rows targets directions others) refl
+
+-- Rows that are a table as they stand are read as two columns.
+two-way : (unit : AngleUnit) (targets : List (List ℕ)) (bytes : List ℕ) (directions : List ℤ)
+    → HasNoFault unit targets (rows_of targets bytes)
+    → stated_by unit (rows_of targets bytes) targets ≡ map Some directions
+    → way_of (unstated unit) targets bytes ≡ TwoColumns
+unfolding way_of is_table
+two-way unit targets bytes directions clean stated =
+    let rows = rows_of targets bytes in
+    rw (
+      faultless-test (table_rules unit targets) rows [] rows refl clean,
+      stated-test unit rows targets directions stated,
+    ) refl
+
+-- A table of two columns is read as that, and as nothing else.
+pub two-columns-stand : (unit : AngleUnit) (targets : List (List ℕ)) (bytes : List ℕ)
+    (directions : List ℤ) → length bytes ≤ LONGEST_TABLE
+    → HasNoFault unit targets (rows_of targets bytes)
+    → stated_by unit (rows_of targets bytes) targets ≡ map Some directions
+    → IsTableText (unstated unit) targets bytes directions
+two-columns-stand unit targets bytes directions short clean stated =
+    let way = two-way unit targets bytes directions clean stated in
+    record {
+      short = short;
+      one_way = rw way tt;
+      faultless = rw way clean;
+      stated = rw way stated;
+    }
 
 -- A plain row without a fault names a target.
 known : (targets : List (List ℕ)) (before : List (List (List ℕ))) (row : List (List ℕ))
@@ -121,12 +168,9 @@ same-rows targets bytes directions ok t =
 -- A plain table is a table of the same targets and directions.
 pub plain-stands : (targets : List (List ℕ)) (bytes : List ℕ) (directions : List ℤ)
     → AreTargets targets → IsPlainTable targets bytes directions
-    → IsTableText Gon targets bytes directions
+    → IsTableText (unstated Gon) targets bytes directions
 plain-stands targets bytes directions ok t =
     let same = sym (same-rows targets bytes directions ok t) in
-    record {
-      short = t.short;
-      faultless = subst (HasNoFault Gon targets) same t.faultless;
-      stated = ap (λ (rows : List (List (List ℕ))). stated_by Gon rows targets) (sym same)
-          ∙ t.stated;
-    }
+    two-columns-stand Gon targets bytes directions t.short
+    (subst (HasNoFault Gon targets) same t.faultless)
+    (ap (λ (rows : List (List (List ℕ))). stated_by Gon rows targets) (sym same) ∙ t.stated)

@@ -3,17 +3,17 @@
 use Rattle.std.specs.Prelude.{◌&&◌}
 use Rattle.std.specs.Str.{bytes_eq}
 use Rattle.std.proofs.Common.{◌≡◌, ◌∙◌, ℕ, ◌≤◌, ◌<◌, ◌+◌, map, Bool, true, false, List, [], ◌∷◌}
-use Rattle.std.proofs.Common.{◌++◌, length, Option, Some, None, refl, ap, sym, subst, arith, inl}
-use Rattle.std.proofs.Common.{inr, ◌==◌, ℤ, get_or, length-append, append_assoc, take, drop}
+use Rattle.std.proofs.Common.{◌++◌, length, Option, Some, None, refl, ap, sym, arith, inl}
+use Rattle.std.proofs.Common.{inr, ◌==◌, ℤ, get_or, take, drop}
 use lib.ListN.{replicate}
 use Rattle.std.proofs.lemmas.Bool.{and_parts, cases_Bool, cases_lt, eq-eqb, ne_eqb}
 use Rattle.std.proofs.lemmas.Bool.{not-true, or_parts}
 use Rattle.std.proofs.lemmas.Slice.Eq.{bytes_eq-Decides}
-use Rattle.std.proofs.lemmas.List.{append-nil, take_at}
+use Rattle.std.proofs.lemmas.List.{take_at}
 use Rattle.csv.specs.Reading.{is_bom, records, strip_bom}
 use Rattle.direction_table.specs.ByteSteps.{records_left}
-use Rattle.sheet_format.specs.RowFaults.{IsFirstFault, NoFaultBefore, RowRules, fault_between}
-use Rattle.sheet_format.proofs.RowFaultLaws.{fault-row, faultless-more, first-here, past-end}
+use Rattle.sheet_format.specs.RowFaults.{IsFirstFault, RowRules}
+use Rattle.sheet_format.proofs.RowFaultLaws.{fault-row, past-end}
 use Rattle.direction_table.specs.Faults.{HasNoFault, are_titles, is_first, stating_fault}
 use Rattle.direction_table.specs.Faults.{table_row_fault, table_rules}
 use Rattle.direction_table.specs.Directions.{is_direction}
@@ -22,8 +22,9 @@ use Rattle.direction_table.specs.Rows.{beside_name, name_of}
 use Rattle.direction_table.specs.Separators.{byte_of, config_of, kept, rows_of}
 use Rattle.direction_table.specs.Separators.{separator_of}
 use Rattle.direction_table.specs.Tables.{stated_by}
-use Rattle.direction_table.specs.UsualLimits.{finer, finest_step, row_step}
-use Rattle.direction_table.proofs.UsualLimits.{finer-again, finer-none}
+use Rattle.direction_table.specs.UsualLimits.{finer, row_step}
+use Rattle.direction_table.proofs.RowsInTurn.{HasReadBy, begin, clean-all, here, more}
+use Rattle.direction_table.proofs.UsualLimits.{finer-none}
 use Rattle.direction_table.specs.declared.fault.RowKind.{RowKind}
 use Rattle.direction_table.specs.declared.records.Records.{Records}
 use Rattle.direction_table.specs.declared.separator.Separator.{Separator}
@@ -44,7 +45,7 @@ all-left s targets left bytes e own is =
     rw (← e, begun) refl
 
 -- What one of two names is not, the other is not.
-apart : (a b : List ℕ) → bytes_eq a b ≡ false → bytes_eq b a ≡ false
+pub apart : (a b : List ℕ) → bytes_eq a b ≡ false → bytes_eq b a ≡ false
 apart a b e = grind (arith, bytes_eq-Decides)
 
 module _ (unit : AngleUnit) where
@@ -56,14 +57,6 @@ module _ (unit : AngleUnit) where
   states-none row rows (name ∷ names) e =
       let (other, others) = or_parts _ _ e in
       rw (apart name (name_of row) other, states-none row rows names others) refl
-
-  -- The finest step with one more row.
-  finest-more : (before : List (List (List ℕ))) (row : List (List ℕ))
-      → finest_step unit (before ++ (row ∷ [])) ≡ finer (finest_step unit before) (row_step unit row)
-  finest-more [] row = finer-none (row_step unit row)
-  finest-more (first ∷ before) row =
-      ap (finer (row_step unit first)) (finest-more before row)
-      ∙ finer-again (row_step unit first) (finest_step unit before) (row_step unit row)
 
   module _ (targets : List (List ℕ)) where
     abbrev rules : RowRules (List (List ℕ)) RowKind
@@ -106,26 +99,14 @@ module _ (unit : AngleUnit) where
       ]
 
       -- So many rows were read, none of which has a fault, and these are left.
-      pub record HasRead (stated : List (Option ℤ)) (step number : ℕ)
-          (rest : List (List (List ℕ))) : Type 0 where
-        pub before : List (List (List ℕ))
-        pub whole : all ≡ before ++ rest
-        pub count : number ≡ length before
-        pub clean : NoFaultBefore rules all (length before)
-        pub each : stated ≡ stated_by unit before targets
-        pub finest : step ≡ finest_step unit before
+      abbrev pub HasRead : List (Option ℤ) → ℕ → ℕ → List (List (List ℕ)) → Type 0
+      HasRead stated step number rest =
+          HasReadBy unit targets (table_row_fault unit targets) all stated step number rest
 
       -- Before the first row none was read, and all are left.
       pub read-begin : (stated : List (Option ℤ)) → stated ≡ stated_by unit [] targets
           → HasRead stated 0 0 all
-      read-begin stated none = record {
-        before = [];
-        whole = refl;
-        count = refl;
-        clean = λ earlier below. absurd (omega (arith, below));
-        each = none;
-        finest = refl;
-      }
+      read-begin stated none = begin unit targets (table_row_fault unit targets) all stated none
 
       module _ (stated : List (Option ℤ)) (step number : ℕ) (row : List (List ℕ))
           (rest : List (List (List ℕ))) (read : HasRead stated step number (row ∷ rest)) where
@@ -140,31 +121,13 @@ module _ (unit : AngleUnit) where
             first [] n = eq-eqb _ _ (omega (arith, n))
             first (a ∷ rows) n = ne_eqb _ _ (λ same. absurd (omega (arith, n, same)))
 
-        -- A row without a fault is read, and those after it are left.
-        more : (next : List (Option ℤ)) (least : ℕ)
-            → table_row_fault unit targets read.before row ≡ None
-            → next ≡ stated_by unit (read.before ++ (row ∷ [])) targets
-            → least ≡ finer step (row_step unit row) → HasRead next least (number + 1) rest
-        unfolding fault_between
-        more next least none states is = record {
-          before = read.before ++ (row ∷ []);
-          whole = read.whole ∙ sym (append_assoc read.before (row ∷ []) rest);
-          count = omega (arith, read.count, length-append read.before (row ∷ []));
-          clean = λ earlier below. faultless-more rules all read.before (row ∷ rest) read.whole
-              read.clean none earlier
-              (omega (arith, below, length-append read.before (row ∷ [])));
-          each = states;
-          finest =
-              is ∙ ap (λ s. finer s (row_step unit row)) read.finest
-              ∙ sym (finest-more read.before row);
-        }
-
-        -- So is a row of titles.
+        -- A row of titles is read, and those after it are left.
         pub read-titles : ((number + 1 == 1) && are_titles unit targets row) ≡ true
             → HasRead stated step (number + 1) rest
         read-titles titled =
             let pass = titles-pass read.before row (by-number true titled) in
-            more stated step pass.faultless (read.each ∙ sym pass.states)
+            more unit targets (table_row_fault unit targets) all stated step number row rest read
+            stated step pass.faultless (read.each ∙ sym pass.states)
             (rw pass.untold (sym (finer-none step)))
 
         pub read-more : (next : List (Option ℤ)) (least own : ℕ)
@@ -176,7 +139,8 @@ module _ (unit : AngleUnit) where
             → own ≡ row_step unit row → least ≡ finer step own
             → HasRead next least (number + 1) rest
         read-more next least own other none states tells is =
-            more next least
+            more unit targets (table_row_fault unit targets) all stated step number row rest read
+            next least
             (states-fault read.before row (by-number false other) ∙ none read.before read.each)
             (states read.before read.each) (is ∙ ap (finer step) tells)
 
@@ -185,20 +149,15 @@ module _ (unit : AngleUnit) where
             → ((before : List (List (List ℕ))) → stated ≡ stated_by unit before targets
             → stating_fault unit targets before row ≡ Some k)
             → IsFirstFault rules all number k
-        unfolding fault_between
         read-fault k other found =
-            subst (λ n. IsFirstFault rules all n k) (sym read.count)
-            (first-here rules all read.before (row ∷ rest) read.whole read.clean k
-            (states-fault read.before row (by-number false other) ∙ found read.before read.each))
+            here unit targets (table_row_fault unit targets) all stated step number row rest read k
+            (states-fault read.before row (by-number false other) ∙ found read.before read.each)
 
       -- Where no row is left, none has a fault.
       pub read-clean : (stated : List (Option ℤ)) (step number : ℕ)
           → HasRead stated step number [] → HasNoFault unit targets all
       read-clean stated step number read =
-          λ place. elim (cases_lt place (length all)) [
-            | inl inside ↦ read.clean place (rw (read.whole ∙ append-nil read.before) at inside)
-            | inr past ↦ past-end rules all place past
-          ]
+          clean-all unit targets (table_row_fault unit targets) all stated step number read
 
 -- Without a byte order mark a text is no longer.
 pub strip-short : (bytes : List ℕ) → length (strip_bom bytes) ≤ length bytes

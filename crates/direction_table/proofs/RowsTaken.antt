@@ -1,5 +1,5 @@
 -- The directions that rows state, as one more row comes.
-use Rattle.std.proofs.Common.{◌≡◌, ◌≢◌, ◌∙◌, ℕ, ◌<◌, Bool, false, List, [], ◌∷◌, ◌++◌, map}
+use Rattle.std.proofs.Common.{◌≡◌, ◌≢◌, ◌⊎◌, ◌∙◌, ℕ, ◌<◌, Bool, false, List, [], ◌∷◌, ◌++◌, map}
 use Rattle.std.proofs.Common.{length, get_or, Option, None, Some, refl, sym, ap, arith, ℤ, inl, inr}
 use Rattle.std.proofs.Common.{length-set, get_or-set_other, get_or-set_same, Result, Ok, Err}
 use Rattle.std.specs.Prelude.{not, slice_set}
@@ -135,3 +135,11 @@ pub lifted-cases : {T E : Type 0} (r : Result T E) (P Q : E → Type 0) (R : T �
     → IsErr r × IsErrAnd r P → ((k : E) → P k → Q k) → MatchResult r R Q
 lifted-cases (Ok x) P Q R h f = cc (h.0)
 lifted-cases (Err k) P Q R h f = f k h.1
+
+-- One that is one of two is handed on as that.
+pub lifted-is : {T E : Type 0} (r : Result T E) (k one other : E)
+    → IsErr r × IsErrAnd r (λ e. e ≡ k) → (k ≡ one) ⊎ (k ≡ other)
+    → (r ≡ Err one) ⊎ (r ≡ Err other)
+lifted-is (Ok x) k one other h is = cc (h.0)
+lifted-is (Err e) k one other h (inl is) = inl (ap Err (h.1 ∙ is))
+lifted-is (Err e) k one other h (inr is) = inr (ap Err (h.1 ∙ is))

@@ -20,6 +20,7 @@ use Rattle.direction_table.specs.Faults.{HasNoFault, is_first, table_row_fault, 
 use Rattle.direction_table.specs.FieldForms.{has_name}
 use Rattle.direction_table.specs.PlainTables.{IsPlainRow, IsPlainTable}
 use Rattle.direction_table.specs.Rows.{direction_in, name_of}
+use Rattle.direction_table.specs.TableRows.{unstated}
 use Rattle.direction_table.specs.Tables.{IsTableText, stated_by}
 use Rattle.direction_table.specs.Texts.{AreDecimals, IsWhole}
 use Rattle.direction_table.specs.TableTexts.{directions_of, names_of, row_of, table_text}
@@ -30,6 +31,7 @@ use Rattle.direction_table.proofs.TableLengths.{IsWritten, table-short}
 use Rattle.direction_table.proofs.PlainRows.{plain-stands}
 use Rattle.direction_table.proofs.WrittenDirections.{text-form, text-plain, text-range, text-value}
 use Rattle.direction_table.specs.declared.unit.AngleUnit.TheVariants.{Gon}
+use Rattle.row_forms.specs.declared.form.RowForm.TheVariants.{Commas}
 
 -- A text that begins with a name, in quotes or not, has no byte order mark.
 unmarked : (a : ℕ) (text : List ℕ) → a < 128 → strip_bom (a ∷ text) ≡ a ∷ text
@@ -50,7 +52,7 @@ no-mark-before (c ∷ name) field end others named =
     ]
 
 no-mark : (count : ℕ) (stated : List TargetDirection) → All (IsWritten count) stated
-    → strip_bom (table_text count stated) ≡ table_text count stated
+    → strip_bom (table_text Commas count stated) ≡ table_text Commas count stated
 unfolding strip_bom
 no-mark count [] ok = refl
 no-mark count (row ∷ rest) ok = no-mark-before row.name _ _ _
@@ -58,11 +60,11 @@ no-mark count (row ∷ rest) ok = no-mark-before row.name _ _ _
 
 -- So its records are the rows that were written.
 rows-again : (count : ℕ) (stated : List TargetDirection) → All (IsWritten count) stated
-    → records_of (table_text count stated) ≡ map (row_of count) stated
+    → records_of (table_text Commas count stated) ≡ map (row_of Commas count) stated
 rows-again count stated ok =
-    rw (no-mark count stated ok) (records-written (length (table_text count stated) + 1)
-    (map (row_of count) stated) (omega arith)
-    ∙ back-entries (row_of count) (λ row. refl) stated)
+    rw (no-mark count stated ok) (records-written (length (table_text Commas count stated) + 1)
+    (map (row_of Commas count) stated) (omega arith)
+    ∙ back-entries (row_of Commas count) (λ row. refl) stated)
 
 -- None of others has a name that none of them is.
 not-found : (names : List (List ℕ)) (name : List ℕ) → All (λ other. other ≢ name) names
@@ -75,7 +77,7 @@ not-found names name others =
 clean-row : (targets : List (List ℕ)) (before : List (List (List ℕ))) (count : ℕ)
     (row : TargetDirection) → AreDecimals count → IsWritten count row
     → has_name targets row.name ≡ true → has_name (map name_of before) row.name ≡ false
-    → table_row_fault Gon targets before (row_of count row) ≡ None
+    → table_row_fault Gon targets before (row_of Commas count row) ≡ None
 unfolding table_row_fault stating_fault
 clean-row targets before count row few ok known new =
     rw (
@@ -90,31 +92,31 @@ clean-row targets before count row few ok known new =
 -- The rows of all targets have no fault.
 clean-rows : (count : ℕ) (stated : List TargetDirection) → AreTargets (names_of stated)
     → AreDecimals count → All (IsWritten count) stated
-    → HasNoFault Gon (names_of stated) (map (row_of count) stated)
+    → HasNoFault Gon (names_of stated) (map (row_of Commas count) stated)
 clean-rows count stated ok few each = no-fault Gon names rows at
   where
     names : List (List ℕ)
     names = names_of stated
 
     rows : List (List (List ℕ))
-    rows = map (row_of count) stated
+    rows = map (row_of Commas count) stated
 
     at : (place : ℕ) → place < length rows
         → table_row_fault Gon names (take place rows) (get_or rows place []) ≡ None
     at place below =
         let inside : place < length stated =
-        omega (arith, below, length-map stated (row_of count)) in
+        omega (arith, below, length-map stated (row_of Commas count)) in
         let blank : TargetDirection = record { name = []; direction = 0 } in
         let row = get_or stated place blank in
         let is : (d : List ℕ) → get_or names place d ≡ row.name =
         λ d. get_or-map (λ (r : TargetDirection). r.name) stated place blank d inside in
         let among : place < length names =
         omega (arith, inside, length-map stated (λ (r : TargetDirection). r.name)) in
-        rw (get_or-map (row_of count) stated place blank [] inside)
+        rw (get_or-map (row_of Commas count) stated place blank [] inside)
         (clean-row names (take place rows) count row few (each place blank inside)
         (list_any_at (is_named row.name) names place [] among
         ((bytes_eq-Decides (get_or names place []) row.name).1 (is [])))
-        (rw (← take-map name_of place rows, map-map name_of (row_of count) stated)
+        (rw (← take-map name_of place rows, map-map name_of (row_of Commas count) stated)
         (not-found (take place names) row.name (λ k d early same.
         let before : k < place = omega (arith, early, length-take place names) in
         ok.different k place d before among
@@ -123,14 +125,14 @@ clean-rows count stated ok few each = no-fault Gon names rows at
 -- The rows of targets state their directions.
 stated-again : (count : ℕ) (stated : List TargetDirection) → AreDecimals count
     → AllPairs (λ a b. a ≢ b) (names_of stated) → All (IsWritten count) stated
-    → map (direction_in Gon (map (row_of count) stated)) (names_of stated)
+    → map (direction_in Gon (map (row_of Commas count) stated)) (names_of stated)
     ≡ map Some (directions_of stated)
 stated-again count [] few different written = refl
 stated-again count (row ∷ rest) few different written =
     let own : bytes_eq row.name row.name ≡ true = (bytes_eq-Decides row.name row.name).1 refl in
     let value = text-value count row.direction few
     (All-head (IsWritten count) row rest written).exact in
-    let others = states-none Gon (row_of count row) (map (row_of count) rest) (names_of rest)
+    let others = states-none Gon (row_of Commas count row) (map (row_of Commas count) rest) (names_of rest)
     (not-found (names_of rest) row.name (λ k d below same.
     different 0 (suc k) d (omega arith) (omega (arith, below)) (sym same))) in
     let later = stated-again count rest few (λ i j d order inside. different (suc i) (suc j) d
@@ -149,8 +151,8 @@ written count stated names exact k d below = record {
 
 -- The rows are plain.
 each-plain : (count : ℕ) (stated : List TargetDirection) → AreDecimals count
-    → All (IsWritten count) stated → All IsPlainRow (map (row_of count) stated)
-each-plain count stated few ok = All-map IsPlainRow (row_of count) stated (λ k d below. record {
+    → All (IsWritten count) stated → All IsPlainRow (map (row_of Commas count) stated)
+each-plain count stated few ok = All-map IsPlainRow (row_of Commas count) stated (λ k d below. record {
   two = refl;
   direction = pos (81 * (get_or stated k d).direction);
   plain = text-plain count (get_or stated k d).direction few (ok k d below).exact;
@@ -160,7 +162,7 @@ each-plain count stated few ok = All-map IsPlainRow (row_of count) stated (λ k 
 pub table-plain : (targets : List (List ℕ)) (count : ℕ) (stated : List TargetDirection)
     → AreTargets targets → names_of stated ≡ targets → AreDecimals count
     → All (λ row. IsWhole count row.direction) stated
-    → IsPlainTable targets (table_text count stated) (directions_of stated)
+    → IsPlainTable targets (table_text Commas count stated) (directions_of stated)
 table-plain targets count stated ok names few exact =
     let mine : AreTargets (names_of stated) = subst AreTargets (sym names) ok in
     let each = written count stated mine.names exact in
@@ -174,10 +176,10 @@ table-plain targets count stated ok names few exact =
       )) few each;
       plain = subst (All IsPlainRow) (sym rows) (each-plain count stated few each);
       faultless = subst (HasNoFault Gon targets) (sym rows)
-          (subst (λ ns. HasNoFault Gon ns (map (row_of count) stated)) names
+          (subst (λ ns. HasNoFault Gon ns (map (row_of Commas count) stated)) names
           (clean-rows count stated mine few each));
       stated = ap (λ (all : List (List (List ℕ))). stated_by Gon all targets) rows
-          ∙ ap (λ (all : List (List ℕ)). map (direction_in Gon (map (row_of count) stated)) all)
+          ∙ ap (λ (all : List (List ℕ)). map (direction_in Gon (map (row_of Commas count) stated)) all)
           (sym names)
           ∙ stated-again count stated few mine.different each;
     }
@@ -186,7 +188,7 @@ table-plain targets count stated ok names few exact =
 pub table-again : (targets : List (List ℕ)) (count : ℕ) (stated : List TargetDirection)
     → AreTargets targets → names_of stated ≡ targets → AreDecimals count
     → All (λ row. IsWhole count row.direction) stated
-    → IsTableText Gon targets (table_text count stated) (directions_of stated)
+    → IsTableText (unstated Gon) targets (table_text Commas count stated) (directions_of stated)
 table-again targets count stated ok names few exact =
-    plain-stands targets (table_text count stated) (directions_of stated) ok
+    plain-stands targets (table_text Commas count stated) (directions_of stated) ok
     (table-plain targets count stated ok names few exact)

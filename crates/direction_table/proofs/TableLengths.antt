@@ -10,6 +10,7 @@ use Rattle.direction_table.specs.TableTexts.{row_of, table_text}
 use Rattle.direction_table.specs.declared.reading.TheConstants.{LONGEST_TABLE}
 use Rattle.direction_table.specs.declared.table.TargetDirection.{TargetDirection}
 use Rattle.direction_table.proofs.WrittenDirections.{text-length}
+use Rattle.row_forms.specs.declared.form.RowForm.TheVariants.{Commas}
 
 -- A target with its name, and with a direction that so many decimals write exactly.
 pub record IsWritten (count : ℕ) (stated : TargetDirection) : Type 0 where
@@ -23,7 +24,7 @@ unfolding fields_text is_blank
 length-row a b = omega (arith, length-append {A = ℕ}, length-field a, length-field b)
 
 row-short : (count : ℕ) → AreDecimals count → (stated : TargetDirection) → IsWritten count stated
-    → IsShort (row_of count stated)
+    → IsShort (row_of Commas count stated)
 row-short count few stated ok =
     omega (
       arith,
@@ -35,11 +36,11 @@ row-short count few stated ok =
 -- The text of a table of at most as many targets as a station has is not too long for a table.
 pub table-short : (count : ℕ) (stated : List TargetDirection) → length stated ≤ MOST_TARGETS
     → AreDecimals count → All (IsWritten count) stated
-    → length (table_text count stated) ≤ LONGEST_TABLE
+    → length (table_text Commas count stated) ≤ LONGEST_TABLE
 table-short count stated room few ok =
     omega (
       arith,
       room,
-      entries-short (IsWritten count) (row_of count)
+      entries-short (IsWritten count) (row_of Commas count)
           (row-short count few) stated ok,
     )

@@ -6,7 +6,7 @@ use Rattle.std.specs.Prelude.{◌&&◌, ◌==◌, not, nat_le, if◌then◌else�
 use Rattle.std.specs.List.{list_all}
 use Rattle.std.proofs.lemmas.Bool.{cases_Bool, le-leb, ne_eqb}
 use Rattle.csv.specs.Records.{field_at}
-use Rattle.direction_table.specs.Faults.{are_titles}
+use Rattle.direction_table.specs.Faults.{are_titles, says_nothing}
 use Rattle.direction_table.specs.FieldForms.{has_name, is_blank, named, tidy, without_blanks}
 use Rattle.direction_table.specs.Directions.{is_direction}
 use Rattle.direction_table.specs.Rows.{TwoColumns, two_columns_of}
@@ -42,6 +42,23 @@ titles_tidy unit targets (a ∷ b ∷ rest) =
       le-leb 2 (length (tidy targets (a ∷ b ∷ rest))) (omega arith),
       le-leb 2 (length (a ∷ b ∷ rest)) (omega arith),
     ) refl
+
+-- A field without bytes writes no bytes as a name.
+no-name : (targets : List (List ℕ)) → named targets [] ≡ []
+no-name targets = elim (cases_Bool (has_name targets [])) [
+  | inl e ↦ rw e refl
+  | inr e ↦ rw e refl
+]
+
+-- A row says nothing where it has no name and then no direction.
+pub silent_tidy : (unit : AngleUnit) (targets fs : List (List ℕ))
+    → says_nothing unit targets (tidy targets fs)
+    ≡ (not (has_name targets (named targets (at fs 0)))
+    && not (is_direction unit (without_blanks (at fs 1))))
+unfolding field_at
+silent_tidy unit targets [] = rw (no-name targets) refl
+silent_tidy unit targets (a ∷ []) = refl
+silent_tidy unit targets (a ∷ b ∷ rest) = refl
 
 -- A row begins with a target's name where it has a field and that names one.
 pub begins_at : (targets fs : List (List ℕ)) → begins_with_target targets fs

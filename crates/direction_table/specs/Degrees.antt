@@ -1,12 +1,21 @@
 -- Directions in degrees, minutes and seconds, as programs print them (profile): 59-04-09.18 with
--- hyphens, or 59°04'09.18" with the signs. 60 seconds are a minute, 60 minutes a degree (textbook).
+-- hyphens, or with colons or blanks in their place; 59°04'09.18" with signs, plain or typographic;
+-- or 59.040918, with the minutes and seconds after the point. 60 seconds are a minute, 60 minutes a
+-- degree (textbook).
 use Rattle.std.specs.Prelude.{ℕ, ◌+◌, ◌-◌, ◌*◌, ◌^◌, ◌/◌, ◌%◌, Bool, ◌&&◌, ◌||◌, ◌==◌, nat_le}
-use Rattle.std.specs.Prelude.{nat_lt, if◌then◌else◌, List, [], ◌∷◌, length, take, drop, unwrap_or}
-use Rattle.std.specs.List.{list_any, position}
+use Rattle.std.specs.Prelude.{nat_lt, if◌then◌else◌, List, [], ◌∷◌, ◌++◌, length, take, drop}
+use Rattle.std.specs.Prelude.{unwrap_or}
+use Rattle.std.specs.Char.{is_ascii_digit}
+use Rattle.std.specs.List.{list_all, list_any, position, prefix_len}
+use Rattle.std.specs.Str.{bytes_eq}
 use Rattle.std.specs.Str.Parse.{digits_value}
-use Rattle.direction_table.specs.DecimalNumbers.{after_first, decimals_part, is_shifted}
+use Rattle.direction_table.specs.DecimalNumbers.{after_first, are_decimals, decimals_part}
+use Rattle.direction_table.specs.DecimalNumbers.{end_in_zeros}
+use Rattle.direction_table.specs.DecimalNumbers.{fraction_value, is_mark, is_shifted}
 use Rattle.direction_table.specs.DecimalNumbers.{is_shifted_whole, is_whole, shifted_value}
 use Rattle.direction_table.specs.DecimalNumbers.{whole_part}
+use Rattle.direction_table.specs.FieldForms.{without_blanks_before}
+use Rattle.direction_table.specs.declared.degrees.Packed.{Packed}
 use Rattle.direction_table.specs.declared.degrees.Sexagesimal.{Sexagesimal}
 use Rattle.direction_table.specs.declared.degrees.TheConstants.{DEGREE, MINUTE}
 use Rattle.direction_table.specs.declared.direction.TheConstants.{SECOND_PARTS}
@@ -23,6 +32,14 @@ degree_sign = 194
 abbrev pub degree_sign_end : ℕ
 degree_sign_end = 176
 
+-- The colon.
+abbrev pub colon : ℕ
+colon = 58
+
+-- The blank.
+abbrev pub blank : ℕ
+blank = 32
+
 -- The sign of minutes.
 abbrev pub minute_sign : ℕ
 minute_sign = 39
@@ -30,6 +47,22 @@ minute_sign = 39
 -- The sign of seconds.
 abbrev pub second_sign : ℕ
 second_sign = 34
+
+-- The first two of the three bytes of a typographic sign of minutes or of seconds (UTF-8).
+abbrev pub typographic : List ℕ
+typographic = 226 ∷ 128 ∷ []
+
+-- The signs of minutes: the apostrophe, the prime and the closing single quote.
+abbrev pub minute_signs : List (List ℕ)
+minute_signs =
+    (minute_sign ∷ []) ∷ (typographic ++ (178 ∷ [])) ∷ (typographic ++ (153 ∷ [])) ∷ []
+
+-- The signs of seconds: the straight quote, two apostrophes, the double prime and the closing
+-- double quote.
+abbrev pub second_signs : List (List ℕ)
+second_signs =
+    (second_sign ∷ []) ∷ (minute_sign ∷ minute_sign ∷ []) ∷ (typographic ++ (179 ∷ []))
+    ∷ (typographic ++ (157 ∷ [])) ∷ []
 
 -- The place of the first of such bytes, or the end.
 abbrev pub place_of : ℕ → List ℕ → ℕ
@@ -54,12 +87,12 @@ abbrev pub numbers_view : Sexagesimal → Numbers
 numbers_view n =
     record { degrees = n.degrees.now; minutes = n.minutes.now; seconds = n.seconds.now }
 
--- With a hyphen after the degrees and after the minutes.
-abbrev pub by_hyphens : List ℕ → Numbers
-by_hyphens bytes = record {
-  degrees = before hyphen bytes;
-  minutes = before hyphen (after hyphen bytes);
-  seconds = after hyphen (after hyphen bytes);
+-- With a mark after the degrees and after the minutes: hyphens, colons or blanks.
+abbrev pub by_mark : ℕ → List ℕ → Numbers
+by_mark mark bytes = record {
+  degrees = before mark bytes;
+  minutes = before mark (after mark bytes);
+  seconds = after mark (after mark bytes);
 }
 
 -- The bytes after one that they begin with; none, where they begin with another.
@@ -67,29 +100,53 @@ abbrev pub without_first : ℕ → List ℕ → List ℕ
 without_first mark [] = []
 without_first mark (b ∷ bytes) = if b == mark then bytes else []
 
--- The bytes before one that they end with; none, where they end with another.
-abbrev pub without_last : ℕ → List ℕ → List ℕ
-without_last mark bytes =
-    if length (before mark bytes) + 1 == length bytes then before mark bytes else []
+-- The bytes after the first of these signs that they begin with; none, where they begin with none.
+abbrev pub without_sign : List (List ℕ) → List ℕ → List ℕ
+without_sign [] bytes = []
+without_sign (sign ∷ signs) bytes =
+    if bytes_eq (take (length sign) bytes) sign then drop (length sign) bytes
+    else without_sign signs bytes
 
--- With the sign of degrees, which is two bytes, after the degrees, that of minutes after the
--- minutes and that of seconds at the end.
+-- Bytes of seconds: digits and the decimal point or comma.
+abbrev pub is_of_seconds : ℕ → Bool
+is_of_seconds b = is_ascii_digit b || is_mark b
+
+-- The seconds that bytes begin with, where a sign of seconds and nothing more follows; else none.
+abbrev pub signed_seconds : List ℕ → List ℕ
+signed_seconds bytes =
+    if list_any (λ sign. bytes_eq sign (drop (prefix_len is_of_seconds bytes) bytes)) second_signs
+    then take (prefix_len is_of_seconds bytes) bytes else []
+
+-- What stands after the sign of degrees, which is two bytes, and blanks after it.
+abbrev pub after_degrees : List ℕ → List ℕ
+after_degrees bytes =
+    without_blanks_before (without_first degree_sign_end (after degree_sign bytes))
+
+-- With the signs: two digits of minutes stand before theirs, and blanks may stand after it.
 abbrev pub by_signs : List ℕ → Numbers
 by_signs bytes = record {
   degrees = before degree_sign bytes;
-  minutes = before minute_sign (without_first degree_sign_end (after degree_sign bytes));
-  seconds = without_last second_sign
-      (after minute_sign (without_first degree_sign_end (after degree_sign bytes)));
+  minutes = take 2 (after_degrees bytes);
+  seconds = signed_seconds
+      (without_blanks_before (without_sign minute_signs (drop 2 (after_degrees bytes))));
 }
 
--- A direction has minutes where it has a hyphen or the sign of degrees.
+-- Whether bytes have this one.
+abbrev pub has_mark : ℕ → List ℕ → Bool
+has_mark mark bytes = list_any (λ b. b == mark) bytes
+
+-- A direction has minutes where it has a hyphen, a colon, a blank or the sign of degrees.
 abbrev pub has_minutes : List ℕ → Bool
-has_minutes bytes = list_any (λ b. (b == hyphen) || (b == degree_sign)) bytes
+has_minutes bytes =
+    has_mark degree_sign bytes || (has_mark colon bytes || (has_mark blank bytes
+    || has_mark hyphen bytes))
 
 -- Its numbers.
 abbrev pub numbers_of : List ℕ → Numbers
 numbers_of bytes =
-    if list_any (λ b. b == degree_sign) bytes then by_signs bytes else by_hyphens bytes
+    if has_mark degree_sign bytes then by_signs bytes
+    else (if has_mark colon bytes then by_mark colon bytes
+    else (if has_mark blank bytes then by_mark blank bytes else by_mark hyphen bytes))
 
 -- Degrees: one to three digits.
 abbrev pub are_degrees : List ℕ → Bool
@@ -141,3 +198,83 @@ abbrev pub sexagesimal_step : Numbers → ℕ
 sexagesimal_step n =
     if are_whole_seconds n.seconds
     then told_step (sexagesimal_value n) (length (decimals_part n.seconds)) else 1
+
+-- Degrees with their minutes and seconds after the point, as they are written: the first two
+-- decimals are minutes, the next two seconds, and those that follow decimals of seconds.
+pub record PackedDigits : Type 0 where
+  pub degrees : List ℕ
+  pub minutes : List ℕ
+  pub seconds : List ℕ
+  pub fraction : List ℕ
+  -- How many digits stand after the point.
+  pub decimals : ℕ
+
+-- The same, of the digits in memory.
+abbrev pub packed_view : Packed → PackedDigits
+packed_view p = record {
+  degrees = p.degrees.now;
+  minutes = p.minutes.now;
+  seconds = p.seconds.now;
+  fraction = p.fraction.now;
+  decimals = p.decimals;
+}
+
+-- The digits of such degrees.
+abbrev pub packed_digits : List ℕ → PackedDigits
+packed_digits bytes = record {
+  degrees = whole_part bytes;
+  minutes = take 2 (decimals_part bytes);
+  seconds = take 2 (drop 2 (decimals_part bytes));
+  fraction = drop 2 (drop 2 (decimals_part bytes));
+  decimals = length (decimals_part bytes);
+}
+
+-- The number of minutes or of whole seconds that at most two digits write: one that isn't there is
+-- 0.
+abbrev pub sixtieths_value : List ℕ → ℕ
+sixtieths_value digits = digits_value 10 digits * 10 ^ (2 - length digits)
+
+-- Such digits write a number below 60.
+abbrev pub are_sixtieths : List ℕ → Bool
+are_sixtieths digits = list_all is_ascii_digit digits && nat_lt (sixtieths_value digits) 60
+
+-- Seconds, and any number of their decimals.
+abbrev pub are_packed_seconds : PackedDigits → Bool
+are_packed_seconds p = are_sixtieths p.seconds && are_decimals 9 p.fraction
+
+-- The seconds, in units of their ninth decimal.
+abbrev pub packed_seconds : PackedDigits → ℕ
+packed_seconds p = sixtieths_value p.seconds * 10 ^ 9 + fraction_value 9 p.fraction
+
+-- Digits are such degrees: minutes and seconds are below 60.
+abbrev pub is_packed : PackedDigits → Bool
+is_packed p = are_degrees p.degrees && (are_sixtieths p.minutes && are_packed_seconds p)
+
+-- The direction in parts: 40 units of the ninth decimal of a second are a part, and what is less is
+-- left out.
+abbrev pub packed_value : PackedDigits → ℕ
+packed_value p =
+    DEGREE * digits_value 10 p.degrees + MINUTE * sixtieths_value p.minutes
+    + packed_seconds p / 40
+
+-- Nothing but zeros stands past the ninth decimal.
+abbrev pub end_in_nine : List ℕ → Bool
+end_in_nine digits = end_in_zeros 9 digits
+
+-- Nothing is left out of it.
+abbrev pub is_packed_whole : PackedDigits → Bool
+is_packed_whole p = end_in_nine p.fraction && (packed_seconds p % 40 == 0)
+
+-- One unit of the last of so many decimals, in parts: none, tens of minutes, minutes, tens of
+-- seconds, and from the fourth on seconds and their decimals.
+abbrev pub packed_unit : ℕ → ℕ
+packed_unit decimals =
+    if decimals == 0 then 0
+    else (if decimals == 1 then 10 * MINUTE
+    else (if decimals == 2 then MINUTE
+    else (if decimals == 3 then 10 * seconds_step 0 else seconds_step (decimals - 4))))
+
+-- The step to which such a direction is rounded as it is written, in parts; 1 where something is
+-- left out of its seconds.
+abbrev pub packed_step : PackedDigits → ℕ
+packed_step p = if is_packed_whole p then packed_unit p.decimals else 1

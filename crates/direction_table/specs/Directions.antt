@@ -3,25 +3,27 @@
 -- are 360 degrees.
 use Rattle.std.specs.Prelude.{ℕ, ◌-◌, ◌*◌, ◌^◌, Bool, not, ◌&&◌, ◌==◌, nat_le, if◌then◌else◌}
 use Rattle.std.specs.Prelude.{List, ℤ, pos}
-use Rattle.direction_table.specs.Degrees.{has_minutes, is_sexagesimal, numbers_of}
-use Rattle.direction_table.specs.Degrees.{sexagesimal_step, sexagesimal_value}
+use Rattle.direction_table.specs.Degrees.{has_minutes, is_packed, is_sexagesimal, numbers_of}
+use Rattle.direction_table.specs.Degrees.{packed_digits, packed_step, packed_value, sexagesimal_step}
+use Rattle.direction_table.specs.Degrees.{sexagesimal_value}
 use Rattle.direction_table.specs.Gons.{has_exponent, is_negative, is_size, is_whole_size, signed}
 use Rattle.direction_table.specs.Gons.{size_decimals, size_value, unsigned}
 use Rattle.direction_table.specs.declared.direction.TheConstants.{CIRCLE_PARTS, DEGREE_PARTS}
 use Rattle.adjust_kernel.specs.declared.units.TheConstants.{PARTS}
 use Rattle.direction_table.specs.declared.unit.AngleUnit.{AngleUnit}
-use Rattle.direction_table.specs.declared.unit.AngleUnit.TheVariants.{Gon, Degrees}
+use Rattle.direction_table.specs.declared.unit.AngleUnit.TheVariants.{Gon, Degrees, PackedDegrees}
 
--- Degrees have minutes where they have a hyphen or the sign of degrees, and no exponent.
+-- Degrees have minutes where they have one of the marks of minutes, and no exponent.
 abbrev pub are_sexagesimal : List ℕ → Bool
 are_sexagesimal bytes = has_minutes bytes && not (has_exponent bytes)
 
 -- Bytes are a number of the unit, without a sign: of gon a decimal number, of degrees one too, or
--- degrees with their minutes and seconds.
+-- degrees with their minutes and seconds; of packed degrees one with these after the point.
 abbrev pub is_angle : AngleUnit → List ℕ → Bool
 is_angle Gon bytes = is_size bytes
 is_angle Degrees bytes =
     if are_sexagesimal bytes then is_sexagesimal (numbers_of bytes) else is_size bytes
+is_angle PackedDegrees bytes = is_packed (packed_digits bytes)
 
 -- Its parts. What stands past the ninth decimal, of seconds what is less than a part, is left out.
 abbrev pub angle_value : AngleUnit → List ℕ → ℕ
@@ -29,6 +31,7 @@ angle_value Gon bytes = PARTS * size_value bytes
 angle_value Degrees bytes =
     if are_sexagesimal bytes then sexagesimal_value (numbers_of bytes)
     else DEGREE_PARTS * size_value bytes
+angle_value PackedDegrees bytes = packed_value (packed_digits bytes)
 
 -- One unit of the last of so many decimals, in units of the ninth; 0 where there are none.
 abbrev pub last_unit : ℕ → ℕ
@@ -48,6 +51,7 @@ angle_step Gon bytes = size_step PARTS bytes
 angle_step Degrees bytes =
     if are_sexagesimal bytes then sexagesimal_step (numbers_of bytes)
     else size_step DEGREE_PARTS bytes
+angle_step PackedDegrees bytes = packed_step (packed_digits bytes)
 
 -- A field is a direction: such a number, with an optional sign before it.
 abbrev pub is_direction : AngleUnit → List ℕ → Bool

@@ -39,8 +39,8 @@ scaled_number bytes (sign ∷ digits) =
     }
 
 -- The number that bytes write, with an exponent or without.
-abbrev pub number_in : List ℕ → Fraction
-number_in bytes =
+abbrev pub written_number : List ℕ → Fraction
+written_number bytes =
     if has_exponent bytes then scaled_number (mantissa bytes) (exponent bytes)
     else plain_number bytes
 

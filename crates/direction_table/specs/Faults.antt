@@ -69,6 +69,24 @@ table_rules unit targets = record {
   of_end = λ before. None;
 }
 
+-- Whether a row of a pair of columns says nothing: it names no target, and has no direction.
+abbrev pub says_nothing : AngleUnit → List (List ℕ) → List (List ℕ) → Bool
+says_nothing unit targets row =
+    not (has_name targets (name_of row)) && not (is_direction unit (beside_name row))
+
+-- The fault of a row of a pair of columns, by the rows before it: one that says nothing has none.
+unfoldable pub column_row_fault : AngleUnit → List (List ℕ) → List (List (List ℕ)) → List (List ℕ)
+    → Option RowKind
+column_row_fault unit targets before row =
+    if says_nothing unit targets row then None else stating_fault unit targets before row
+
+-- What the rows of a pair of columns have to keep.
+abbrev pub column_rules : AngleUnit → List (List ℕ) → RowRules (List (List ℕ)) RowKind
+column_rules unit targets = record {
+  of_row = column_row_fault unit targets;
+  of_end = λ before. None;
+}
+
 -- No place has a fault.
 abbrev pub HasNoFault : AngleUnit → List (List ℕ) → List (List (List ℕ)) → Type 0
 HasNoFault unit targets rows = (place : ℕ) → fault_at (table_rules unit targets) rows place ≡ None

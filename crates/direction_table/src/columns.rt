@@ -56,3 +56,11 @@ pub(crate) fn are_titles(unit: AngleUnit, targets: &[Name], row: &ByteRecord) ->
     }
     Direction::of(unit, without_blanks(field(row, 1))).is_none()
 }
+
+/// Whether a row of a pair of columns says nothing: it names no target, and has no direction.
+pub(crate) fn says_nothing(unit: AngleUnit, targets: &[Name], row: &ByteRecord) -> bool
+    ensures { result ≡ faults.says_nothing unit targets.now (tidy targets.now (fields_of row.now)) }
+{
+    !has_target(targets, named(targets, field(row, 0)))
+        && Direction::of(unit, without_blanks(field(row, 1))).is_none()
+}

@@ -46,7 +46,7 @@ fn are_zeros(digits: &[u8]) -> bool
 }
 
 /// At most so many decimals, in units of the last of so many.
-fn counted_decimals(digits: &[u8], most: usize) -> Option<u64>
+pub(crate) fn counted_decimals(digits: &[u8], most: usize) -> Option<u64>
     requires most { most ≤ MOST_DIGITS }
     requires few { length digits.now ≤ most }
     ensures value { IfSome result
@@ -84,7 +84,7 @@ fn first_mark(bytes: &[u8]) -> Option<usize>
 }
 
 /// The place of the decimal point or comma of a number, or its end.
-fn mark_of(bytes: &[u8]) -> usize
+pub(crate) fn mark_of(bytes: &[u8]) -> usize
     ensures value { result ≡ spec.mark_of bytes.now }
     ensures inside { result ≤ length bytes.now }
 {
@@ -158,15 +158,15 @@ fn are_digits(digits: &[u8]) -> bool
 
 /// Decimals after a point.
 #[derive(Clone, Copy)]
-struct Decimals {
+pub(crate) struct Decimals {
     /// Those that count, in units of the last of them.
-    value: u64,
+    pub(crate) value: u64,
     /// Whether those after them are 0.
-    is_whole: bool,
+    pub(crate) is_whole: bool,
 }
 
 /// Any number of decimals, of which nine count.
-fn decimals_of(digits: &[u8]) -> Option<Decimals>
+pub(crate) fn decimals_of(digits: &[u8]) -> Option<Decimals>
     ensures value { IfSome result (λ d. d.value ≡ spec.fraction_value MOST_DIGITS digits.now) }
     ensures bound { IfSome result (λ d. d.value < 10 ^ 18) }
     ensures whole { IfSome result (λ d. d.is_whole ≡ spec.end_in_zeros MOST_DIGITS digits.now) }

@@ -1,14 +1,16 @@
 //! Directions in degrees, minutes and seconds as text.
 
-ghost use Rattle.std.specs.Prelude.{◌≡◌, ◌<◌, ◌≤◌, ◌==◌, ◌^◌, length, true, false, IfSome};
+ghost use Rattle.std.specs.Prelude.{◌≡◌, ◌<◌, ◌≤◌, ◌==◌, ◌^◌, length, not, true, false, IfSome};
 ghost use Rattle.std.specs.Prelude.{IfNone, OnSome};
-ghost use Rattle.std.specs.List.{list_any, position};
+ghost use Rattle.std.specs.List.{list_any, position, prefix_len};
+ghost use Rattle.std.specs.Str.{bytes_eq};
 ghost use Rattle.std.specs.Str.Parse.{digits_value};
 ghost use Rattle.direction_table.specs.DecimalNumbers.{decimals_part};
 ghost use Rattle.direction_table.specs.Degrees as spec;
 
-use crate::decimal::{after_first, read_shifted, whole_of};
+use crate::decimal::{after_first, counted_decimals, decimals_of, mark_of, read_shifted, whole_of};
 use crate::direction::{Angle, COARSEST_STEP, FINEST_STEP, SECOND_PARTS};
+use crate::field::without_blanks_before;
 use crate::gon::MOST_WHOLE;
 
 /// Parts in a degree.
@@ -55,7 +57,7 @@ fn place_of(bytes: &[u8], mark: u8) -> usize
 }
 
 /// What stands before the first of such bytes, and after it.
-fn cut(bytes: &[u8], mark: u8) -> (&[u8], &[u8])
+pub(crate) fn cut(bytes: &[u8], mark: u8) -> (&[u8], &[u8])
     ensures before { result.0.now ≡ spec.before mark bytes.now }
     ensures after { result.1.now ≡ spec.after mark bytes.now }
 {
@@ -73,30 +75,77 @@ fn without_first(bytes: &[u8], mark: u8) -> &[u8]
     }
 }
 
-/// The bytes before one that they end with; none, where they end with another.
-fn without_last(bytes: &[u8], mark: u8) -> &[u8]
-    ensures { result.now ≡ spec.without_last mark bytes.now }
+/// The bytes after a sign of minutes that they begin with; none, where they begin with none.
+fn without_minute_sign(bytes: &[u8]) -> &[u8]
+    ensures { result.now ≡ spec.without_sign spec.minute_signs bytes.now }
 {
-    let (before, _) = cut(bytes, mark);
-    if before.len() + 1 == bytes.len() {
-        before
-    } else {
-        &[]
+    match bytes {
+        [b'\'', rest @ ..] => rest,
+        [0xE2, 0x80, 0xB2, rest @ ..] => rest,
+        [0xE2, 0x80, 0x99, rest @ ..] => rest,
+        _ => &[],
     }
 }
 
-/// Whether a direction has minutes: a hyphen or the sign of degrees.
+/// Whether bytes are a sign of seconds and nothing more.
+fn is_second_sign(bytes: &[u8]) -> bool
+    ensures { result ≡ list_any (λ sign. bytes_eq sign bytes.now) spec.second_signs }
+{
+    match bytes {
+        [b'"'] => true,
+        [b'\'', b'\''] => true,
+        [0xE2, 0x80, 0xB3] => true,
+        [0xE2, 0x80, 0x9D] => true,
+        _ => false,
+    }
+}
+
+/// Whether a byte is one of seconds.
+fn is_of_seconds(byte: u8) -> bool
+    ensures { result ≡ spec.is_of_seconds byte }
+{
+    byte.is_ascii_digit() || byte == b'.' || byte == b','
+}
+
+/// The place of the first byte that is none of seconds.
+fn first_other(bytes: &[u8]) -> Option<usize>
+    ensures value { result ≡ position (λ b. not (spec.is_of_seconds b)) bytes.now }
+    ensures inside { IfSome result (λ place. place < length bytes.now) }
+{
+    bytes.iter().position(|b| !is_of_seconds(*b))
+}
+
+/// The place of the first byte that is none of seconds, or the end.
+fn end_of_seconds(bytes: &[u8]) -> usize
+    ensures value { result ≡ prefix_len spec.is_of_seconds bytes.now }
+    ensures inside { result ≤ length bytes.now }
+{
+    first_other(bytes).unwrap_or(bytes.len())
+}
+
+/// The seconds that bytes begin with, where a sign of seconds and nothing more follows; else none.
+fn signed_seconds(bytes: &[u8]) -> &[u8]
+    ensures { result.now ≡ spec.signed_seconds bytes.now }
+{
+    let (seconds, sign) = bytes.split_at(end_of_seconds(bytes));
+    if is_second_sign(sign) { seconds } else { &[] }
+}
+
+/// Whether bytes have this one.
+fn has_mark(bytes: &[u8], mark: u8) -> bool
+    ensures { result ≡ spec.has_mark mark bytes.now }
+{
+    bytes.iter().any(|b| *b == mark)
+}
+
+/// Whether a direction has minutes: a hyphen, a colon, a blank or the sign of degrees.
 pub(crate) fn has_minutes(bytes: &[u8]) -> bool
     ensures { result ≡ spec.has_minutes bytes.now }
 {
-    bytes.iter().any(|b| *b == b'-' || *b == DEGREE_SIGN)
-}
-
-/// Whether bytes have the sign of degrees.
-fn has_sign(bytes: &[u8]) -> bool
-    ensures { result ≡ list_any (λ b. b == spec.degree_sign) bytes.now }
-{
-    bytes.iter().any(|b| *b == DEGREE_SIGN)
+    has_mark(bytes, DEGREE_SIGN)
+        || has_mark(bytes, b':')
+        || has_mark(bytes, b' ')
+        || has_mark(bytes, b'-')
 }
 
 /// The three numbers of a direction, as they are written.
@@ -107,12 +156,12 @@ struct Sexagesimal<'a> {
     seconds: &'a [u8],
 }
 
-/// The numbers that have a hyphen after the degrees and after the minutes.
-fn by_hyphens(bytes: &[u8]) -> Sexagesimal<'_>
-    ensures { spec.numbers_view result ≡ spec.by_hyphens bytes.now }
+/// The numbers that have a mark after the degrees and after the minutes.
+fn by_mark(bytes: &[u8], mark: u8) -> Sexagesimal<'_>
+    ensures { spec.numbers_view result ≡ spec.by_mark mark bytes.now }
 {
-    let (degrees, rest) = cut(bytes, b'-');
-    let (minutes, seconds) = cut(rest, b'-');
+    let (degrees, rest) = cut(bytes, mark);
+    let (minutes, seconds) = cut(rest, mark);
     Sexagesimal {
         degrees,
         minutes,
@@ -125,11 +174,12 @@ fn by_signs(bytes: &[u8]) -> Sexagesimal<'_>
     ensures { spec.numbers_view result ≡ spec.by_signs bytes.now }
 {
     let (degrees, rest) = cut(bytes, DEGREE_SIGN);
-    let (minutes, rest) = cut(without_first(rest, DEGREE_SIGN_END), b'\'');
+    let rest = without_blanks_before(without_first(rest, DEGREE_SIGN_END));
+    let (minutes, rest) = rest.split_at(rest.len().min(SIXTIETHS_DIGITS));
     Sexagesimal {
         degrees,
         minutes,
-        seconds: without_last(rest, b'"'),
+        seconds: signed_seconds(without_blanks_before(without_minute_sign(rest))),
     }
 }
 
@@ -137,11 +187,22 @@ fn by_signs(bytes: &[u8]) -> Sexagesimal<'_>
 fn numbers_of(bytes: &[u8]) -> Sexagesimal<'_>
     ensures { spec.numbers_view result ≡ spec.numbers_of bytes.now }
 {
-    if has_sign(bytes) {
+    if has_mark(bytes, DEGREE_SIGN) {
         by_signs(bytes)
+    } else if has_mark(bytes, b':') {
+        by_mark(bytes, b':')
+    } else if has_mark(bytes, b' ') {
+        by_mark(bytes, b' ')
     } else {
-        by_hyphens(bytes)
+        by_mark(bytes, b'-')
     }
+}
+
+/// Whether bytes are degrees, minutes and seconds.
+pub(crate) fn is_sexagesimal(bytes: &[u8]) -> bool
+    ensures { result ≡ spec.is_sexagesimal (spec.numbers_of bytes.now) }
+{
+    sexagesimal_of(bytes).is_some()
 }
 
 /// Degrees of one to three digits.
@@ -258,6 +319,134 @@ fn told_step(size: u128, decimals: usize) -> u64
         return 0;
     }
     step_of(decimals)
+}
+
+/// Degrees whose minutes and seconds stand after the point, as they are written.
+#[derive(Clone, Copy)]
+struct Packed<'a> {
+    degrees: &'a [u8],
+    minutes: &'a [u8],
+    seconds: &'a [u8],
+    /// The decimals of seconds.
+    fraction: &'a [u8],
+    /// How many digits stand after the point.
+    decimals: usize,
+}
+
+/// The digits of such degrees.
+fn packed_digits(bytes: &[u8]) -> Packed<'_>
+    ensures digits { spec.packed_view result ≡ spec.packed_digits bytes.now }
+    ensures minutes { length result.minutes.now ≤ 2 }
+    ensures seconds { length result.seconds.now ≤ 2 }
+{
+    let (degrees, rest) = bytes.split_at(mark_of(bytes));
+    let decimals = after_first(rest);
+    let (minutes, left) = decimals.split_at(decimals.len().min(SIXTIETHS_DIGITS));
+    let (seconds, fraction) = left.split_at(left.len().min(SIXTIETHS_DIGITS));
+    Packed {
+        degrees,
+        minutes,
+        seconds,
+        fraction,
+        decimals: decimals.len(),
+    }
+}
+
+/// Minutes or whole seconds of at most two digits, of which one that isn't there is 0; below 60.
+fn sixtieths_of(digits: &[u8]) -> Option<u64>
+    requires { length digits.now ≤ 2 }
+    ensures value { IfSome result (λ number. number ≡ spec.sixtieths_value digits.now) }
+    ensures bound { IfSome result (λ number. number < 60) }
+    ensures some { OnSome result (spec.are_sixtieths digits.now ≡ true) }
+    ensures none { IfNone result (spec.are_sixtieths digits.now ≡ false) }
+{
+    let sixtieths = counted_decimals(digits, SIXTIETHS_DIGITS)?;
+    if sixtieths >= SIXTIETHS {
+        return None;
+    }
+    Some(sixtieths)
+}
+
+/// Seconds after a point.
+#[derive(Clone, Copy)]
+struct PackedSeconds {
+    /// In units of their ninth decimal; what stands past it is left out.
+    value: u128,
+    /// Whether nothing but zeros is left out.
+    is_whole: bool,
+}
+
+/// The seconds of two digits and decimals.
+fn packed_seconds_of(digits: &Packed<'_>) -> Option<PackedSeconds>
+    requires { length digits.now.seconds.now ≤ 2 }
+    ensures value { IfSome result
+        (λ seconds. seconds.value ≡ spec.packed_seconds (spec.packed_view digits.now)) }
+    ensures bound { IfSome result (λ seconds. seconds.value < 10 ^ 30) }
+    ensures whole { IfSome result
+        (λ seconds. seconds.is_whole ≡ spec.end_in_nine digits.now.fraction.now) }
+    ensures some { OnSome result (spec.are_packed_seconds (spec.packed_view digits.now) ≡ true) }
+    ensures none { IfNone result (spec.are_packed_seconds (spec.packed_view digits.now) ≡ false) }
+{
+    let seconds = sixtieths_of(digits.seconds)?;
+    let fraction = decimals_of(digits.fraction)?;
+    Some(PackedSeconds {
+        value: u128::from(seconds) * SECOND + u128::from(fraction.value),
+        is_whole: fraction.is_whole,
+    })
+}
+
+/// The direction of degrees whose minutes and seconds stand after the point.
+pub(crate) fn packed_of(bytes: &[u8]) -> Option<Angle>
+    ensures size { IfSome result
+        (λ angle. angle.size ≡ spec.packed_value (spec.packed_digits bytes.now)) }
+    ensures step { IfSome result
+        (λ angle. angle.step ≡ spec.packed_step (spec.packed_digits bytes.now)) }
+    ensures bound { IfSome result (λ angle. angle.step ≤ COARSEST_STEP) }
+    ensures some { OnSome result (spec.is_packed (spec.packed_digits bytes.now) ≡ true) }
+    ensures none { IfNone result (spec.is_packed (spec.packed_digits bytes.now) ≡ false) }
+{
+    packed_by(&packed_digits(bytes))
+}
+
+/// The direction of these digits.
+fn packed_by(digits: &Packed<'_>) -> Option<Angle>
+    requires minutes { length digits.now.minutes.now ≤ 2 }
+    requires seconds { length digits.now.seconds.now ≤ 2 }
+    ensures size { IfSome result
+        (λ angle. angle.size ≡ spec.packed_value (spec.packed_view digits.now)) }
+    ensures step { IfSome result
+        (λ angle. angle.step ≡ spec.packed_step (spec.packed_view digits.now)) }
+    ensures bound { IfSome result (λ angle. angle.step ≤ COARSEST_STEP) }
+    ensures some { OnSome result (spec.is_packed (spec.packed_view digits.now) ≡ true) }
+    ensures none { IfNone result (spec.is_packed (spec.packed_view digits.now) ≡ false) }
+{
+    let degrees = degrees_of(digits.degrees)?;
+    let minutes = sixtieths_of(digits.minutes)?;
+    let seconds = packed_seconds_of(digits)?;
+    Some(Angle {
+        size: u128::from(DEGREE) * u128::from(degrees)
+            + u128::from(MINUTE) * u128::from(minutes)
+            + seconds.value / PART,
+        step: if seconds.is_whole && seconds.value % PART == 0 {
+            packed_unit(digits.decimals)
+        } else {
+            FINEST_STEP
+        },
+    })
+}
+
+/// One unit of the last of so many decimals after which minutes and seconds stand, in parts.
+fn packed_unit(decimals: usize) -> u64
+    ensures value { result ≡ spec.packed_unit decimals }
+    ensures bound { result ≤ COARSEST_STEP }
+{
+    match decimals {
+        0 => 0,
+        1 => 10 * MINUTE,
+        2 => MINUTE,
+        3 => 10 * step_of(0),
+        _ => step_of(decimals - 4),
+    }
 }
 
 /// The step of so many decimals of seconds, in parts.

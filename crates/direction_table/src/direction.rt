@@ -6,7 +6,7 @@ ghost use Rattle.adjust_kernel.specs.Within.{IsWithin};
 ghost use Rattle.direction_table.specs.Directions as spec;
 ghost use Rattle.direction_table.specs.Gons as gons;
 
-use crate::degrees::{has_minutes, sexagesimal_of};
+use crate::degrees::{has_minutes, packed_of, sexagesimal_of};
 use crate::gon::{MOST_DECIMALS, has_exponent, size_of};
 use crate::unit::AngleUnit;
 use adjust_kernel::{CIRCLE, PARTS};
@@ -90,6 +90,7 @@ fn angle_of(unit: AngleUnit, bytes: &[u8]) -> Option<Angle>
                 decimal_of(bytes, DEGREE_PARTS)
             }
         }
+        AngleUnit::PackedDegrees => packed_of(bytes),
     }
 }
 

@@ -58,6 +58,10 @@ pub enum TableFault {
     /// There are more bytes than a table may have: see whether they are a table.
     #[error("longer than {most} bytes", most = LONGEST_TABLE)]
     TooLong,
+    /// More columns fit, of which these are the first two, from 1: state those of names and of
+    /// directions.
+    #[error("columns {0} and {1} both fit")]
+    Columns(u32, u32),
     /// The first row with a fault, from 1, and its fault: mend that row.
     #[error("row {0}: {1}")]
     Row(u32, RowKind),
@@ -77,6 +81,7 @@ impl TableFault {
     {
         match self {
             TableFault::TooLong => "TooLong",
+            TableFault::Columns(_, _) => "Columns",
             TableFault::Row(_, kind) => kind.name(),
             TableFault::Missing(_) => "Missing",
             TableFault::Memory => "out of memory",

@@ -17,14 +17,14 @@ pub(crate) fn field(row: &ByteRecord, at: usize) -> &[u8]
 }
 
 /// A field without the white space before it.
-fn without_blanks_before(field: &[u8]) -> &[u8]
+pub(crate) fn without_blanks_before(field: &[u8]) -> &[u8]
     ensures { result.now ≡ spec.without_blanks_before field.now }
 {
     field.trim_ascii_start()
 }
 
 /// A field without the white space after it.
-fn without_blanks_after(field: &[u8]) -> &[u8]
+pub(crate) fn without_blanks_after(field: &[u8]) -> &[u8]
     ensures { result.now ≡ spec.without_blanks_after field.now }
 {
     field.trim_ascii_end()

@@ -74,6 +74,24 @@ pub(crate) fn kept_row<'a>(
     }
 }
 
+/// The fields of a record that count, as a record of its own.
+pub(crate) fn kept_record(
+    alloc: Global,
+    separator: Separator,
+    raw: ByteRecord,
+) -> Result<ByteRecord, AllocError>
+    ensures { IfOk result (λ row. fields_of row ≡ spec.kept separator (fields_of raw)) }
+{
+    match separator {
+        Separator::Comma | Separator::Semicolon | Separator::Tab => Ok(raw),
+        Separator::Blanks => {
+            let mut kept = ByteRecord::new(alloc);
+            keep_fields(&mut kept, &raw)?;
+            Ok(kept)
+        }
+    }
+}
+
 /// What the first row of a text is by a separator.
 #[derive(Clone, Copy)]
 struct FirstRow {

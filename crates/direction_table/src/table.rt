@@ -2,15 +2,17 @@
 //!
 //! The rows go through `csv`'s writer, which puts quotes where a name asks for them.
 
-ghost use Rattle.std.specs.Prelude.{◌≡◌, ◌++◌, [], ◌∷◌, List, ℕ, IfOk, OnOk};
-ghost use Rattle.csv.specs.Writing.{default_writer, row_text};
-ghost use Rattle.sheet_format.specs.Texts.{HasWritten};
+ghost use Rattle.std.specs.Prelude.{◌≡◌, IfOk, OnOk};
+ghost use Rattle.row_forms.specs.Forms.{number_in};
+ghost use Rattle.row_forms.specs.Writing.{Writes};
 ghost use Rattle.direction_table.specs.TableTexts as spec;
+ghost use Rattle.direction_table.specs.Texts.{direction_text};
 
 use crate::decimals::Decimals;
 use crate::text::push_direction;
 use adjust_kernel::Name;
-use csv::{Writer, WriterBuilder};
+use csv::Writer;
+use row_forms::{RowForm, rows_in, set_point, write_row};
 use std::alloc::{AllocError, Global};
 use std::io::Write;
 
@@ -24,18 +26,19 @@ pub struct TargetDirection {
 }
 
 /// The text of the table of these targets and directions, a row for each in their order, with so
-/// many decimals; decimals after the last are left out.
+/// many decimals, in a form; decimals after the last are left out.
 ///
 /// The only error is that memory was refused.
 pub fn table_text(
     alloc: Global,
     stated: &[TargetDirection],
     decimals: Decimals,
+    form: RowForm,
 ) -> Result<Vec<u8>, AllocError>
-    ensures { IfOk result (λ text. text.items ≡ spec.table_text decimals stated.now) }
+    ensures { IfOk result (λ text. text.items ≡ spec.table_text form decimals stated.now) }
 {
-    let mut writer = WriterBuilder::new().from_writer(Vec::new(alloc));
-    push_rows(alloc, &mut writer, stated, decimals)?;
+    let mut writer = rows_in(form, Vec::new(alloc));
+    push_rows(alloc, &mut writer, stated, decimals, form)?;
     writer.into_inner().map_err(|_| AllocError)
 }
 
@@ -45,30 +48,31 @@ fn push_rows<W: Write + Drop>(
     writer: &mut Writer<W>,
     stated: &[TargetDirection],
     decimals: Decimals,
+    form: RowForm,
 ) -> Result<(), AllocError>
-    ensures { OnOk result ((text : List ℕ) → HasWritten W.contents writer.old text
-        → HasWritten W.contents writer.new (text ++ spec.table_text decimals stated.now)) }
+    ensures { OnOk result (Writes form W.contents writer.old writer.new
+        (spec.table_text form decimals stated.now)) }
 {
     let mut field = Vec::new(alloc);
     for row in stated {
-        field.clear();
-        push_direction(&mut field, row.direction, decimals)?;
-        push_row(writer, &row.name, field.as_slice())?;
+        set_direction(&mut field, row.direction, decimals, form)?;
+        write_row(writer, &[row.name.bytes(), field.as_slice()])?;
     }
     Ok(())
 }
 
-/// Writes the row of a target after those that were written.
-fn push_row<W: Write + Drop>(
-    writer: &mut Writer<W>,
-    name: &Name,
-    direction: &[u8],
+/// Makes a text that of a direction.
+fn set_direction(
+    text: &mut Vec<u8>,
+    direction: u64,
+    decimals: Decimals,
+    form: RowForm,
 ) -> Result<(), AllocError>
-    ensures { OnOk result ((text : List ℕ) → HasWritten W.contents writer.old text
-        → HasWritten W.contents writer.new
-        (text ++ row_text default_writer (name.now ∷ direction.now ∷ []))) }
+    ensures { OnOk result
+        (text.new.items ≡ number_in form (direction_text decimals direction)) }
 {
-    writer
-        .write_fields(&[name.bytes(), direction])
-        .map_err(|_| AllocError)
+    text.clear();
+    push_direction(text, direction, decimals)?;
+    set_point(text, form);
+    Ok(())
 }

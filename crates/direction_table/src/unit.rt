@@ -7,4 +7,7 @@ pub enum AngleUnit {
     Gon,
     /// Degrees, with their minutes and seconds or with decimals: 360 of them are a full circle.
     Degrees,
+    /// Degrees whose first two decimals are minutes, the next two seconds, and the others decimals
+    /// of seconds.
+    PackedDegrees,
 }

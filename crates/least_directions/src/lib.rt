@@ -4,7 +4,8 @@
 //! `apart_by` takes the directions that a program printed, one for each target of a station,
 //! complete or not, and tells how near one rotation brings them to the least-squares directions:
 //! least over all directions, orientations, denominators and full turns. `rounded_directions`
-//! answers these directions themselves, rounded to steps. Both are exact.
+//! answers these directions themselves, rounded to steps, and `rounded_by` by an adjustment. All
+//! are exact.
 #![tactic(auto)]
 
 mod apart;
@@ -12,4 +13,4 @@ pub mod laws;
 mod rounded;
 
 pub use apart::apart_by;
-pub use rounded::rounded_directions;
+pub use rounded::{rounded_by, rounded_directions};

@@ -2,10 +2,12 @@
 ghost use Rattle.std.specs.Prelude.{◌≡◌, ◌≤◌, ◌<◌, ◌%◌, ℕ, All, length, slice_index_or, IfErr};
 ghost use Rattle.std.specs.Prelude.{IfOk, OnOk};
 ghost use Rattle.directions_apart.specs.Rounding.{IsRounded};
+ghost use Rattle.adjust_kernel.specs.declared.bounds.TheConstants.{LARGEST_RESIDUAL_LIMIT};
 ghost use Rattle.adjust_kernel.specs.declared.units.TheConstants.{CIRCLE};
 ghost use Rattle.exact_adjustment.specs.Adjustments.{choice_by};
+ghost use Rattle.exact_adjustment.specs.Exact.{IsExact, KeepsLimit};
 ghost use Rattle.exact_adjustment.specs.Faults.{IsAdjustError};
-ghost use Rattle.exact_adjustment.specs.LeastOf.{HasResidualsWithin};
+ghost use Rattle.exact_adjustment.specs.LeastOf.{AreTied, HasResidualsWithin};
 ghost use Rattle.least_directions.specs.LeastDirections.{AreRounded};
 
 use adjust_kernel::{CIRCLE, ResidualLimit, Station};
@@ -57,8 +59,31 @@ pub fn rounded_directions(
     ensures held { OnOk result (HasResidualsWithin station.now limit) }
     ensures fault { IfErr result (IsAdjustError station.now limit) }
 {
+    let adjustment = adjust(alloc, station, limit)?;
+    Ok(rounded_by(alloc, station, &adjustment, step)?)
+}
+
+/// What `rounded_directions` answers, by an adjustment of the station.
+///
+/// The only error is that memory was refused.
+pub fn rounded_by(
+    alloc: Global,
+    station: &Station,
+    adjustment: &Adjustment,
+    step: u32,
+) -> Result<Vec<u64>, AllocError>
+    requires exact { IsExact station.now adjustment.now }
+    requires limited { KeepsLimit station.now adjustment.now LARGEST_RESIDUAL_LIMIT }
+    requires tied { AreTied station.now }
+    requires some { 1 ≤ step }
+    requires circle { CIRCLE % step ≡ 0 }
+    ensures rounded { IfOk result (λ directions. AreRounded station.now step directions.items) }
+    ensures first { IfOk result (λ directions. slice_index_or directions.items 0 0 ≡ 0) }
+    ensures whole { IfOk result (λ directions.
+        All (λ direction. (direction < CIRCLE) × (direction % step ≡ 0)) directions.items) }
+{
     // A station says of what it answers that it keeps the rules.
     let _ = station.obs();
-    let adjustment = adjust(alloc, station, limit)?;
-    Ok(rounded_to_steps(alloc, &adjustment, step)?)
+    let directions = rounded_to_steps(alloc, adjustment, step)?;
+    Ok(directions)
 }

@@ -6,12 +6,21 @@ mod printed;
 
 use adjust_kernel::{Name, Obs, PARTS, Station};
 use direction_table::{
-    AngleUnit, Decimals, LONGEST_TABLE, RowKind, TableFault, TargetDirection, push_direction,
-    read_stated_table, read_table, table_text,
+    AngleUnit, Decimals, LONGEST_TABLE, RowKind, TableFault, TableForm, TargetDirection,
+    push_direction, read_stated_table, read_table, table_text,
 };
+use row_forms::RowForm;
 use std::alloc::Global;
 use std::process::Abort;
 use std::test::Fail;
+
+/// How a table in this unit is read, no columns of which are stated.
+fn in_unit(unit: AngleUnit) -> TableForm {
+    TableForm {
+        unit,
+        columns: None,
+    }
+}
 
 /// A station of targets of these names.
 fn station_of(rt: &impl Abort, alloc: Global, names: &[&[u8]]) -> Result<Station, Fail> {
@@ -46,7 +55,7 @@ fn gon_answer(
     station: &Station,
     bytes: &[u8],
 ) -> Result<String, Fail> {
-    match read_table(alloc, AngleUnit::Gon, station.targets(), bytes) {
+    match read_table(alloc, in_unit(AngleUnit::Gon), station.targets(), bytes) {
         Ok(directions) => {
             let mut units = Vec::new(alloc);
             for parts in directions.iter() {
@@ -77,7 +86,7 @@ const TABLES: [(&str, &str); 14] = [
     ("A,1\nA,2\nC,401\n", "Row(2, Twice)"),
     ("A,400\nB,-400.000\n", "[0, 0]"),
     ("A,-399.5\nB,+0.25\n", "[-399500000000, 250000000]"),
-    ("A,1\nB,2\n,\n", "Row(3, Name)"),
+    ("A,1\nB,2\n,\n", "[1000000000, 2000000000]"),
 ];
 
 #[test]
@@ -103,11 +112,11 @@ const WAYS: [(&str, &str); 52] = [
         "[0, 50000030000]",
     ),
     ("\"Point; name\",\"Hz, gon\"\nA,0\nB,1\n", "[0, 1000000000]"),
-    ("C,D\nE,F\nA,0\nB,1\n", "Row(2, Number)"),
+    ("C,D\nE,F\nA,0\nB,1\n", "[0, 1000000000]"),
     ("C,D\nC,1\n", "Row(2, Unknown)"),
     ("C,D\nA,0\n", "Missing(2)"),
     ("A,D\nA,0\nB,1\n", "Row(1, Number)"),
-    ("Target\nA,0\nB,1\n", "Row(1, Fields)"),
+    ("Target\nA,0\nB,1\n", "[0, 1000000000]"),
     // White space around fields.
     ("A, 0.0\nB, 50.00003\n", "[0, 50000030000]"),
     ("A ,0.0\n B,50.00003 \n", "[0, 50000030000]"),
@@ -136,7 +145,7 @@ const WAYS: [(&str, &str); 52] = [
     ("A,\"0,00000\"\nB,\"50,00003\"\n", "[0, 50000030000]"),
     ("A;0,5\nB;50,125\n", "[500000000, 50125000000]"),
     ("A 0,5\nB 50,125\n", "[500000000, 50125000000]"),
-    ("A,0,5\nB,50,125\n", "Row(1, Fields)"),
+    ("A,0,5\nB,50,125\n", "Columns(2, 3)"),
     ("A;1.000,5\nB;1\n", "Row(1, Number)"),
     // Signs, short numbers, many decimals, full circles.
     ("A,+0.0\nB,+50.00003\n", "[0, 50000030000]"),
@@ -285,7 +294,12 @@ const OFF: [(AngleUnit, &str, u64); 12] = [
 fn what_is_left_out_is_told(rt: HostRuntime) -> Result<(), Fail> {
     let station = station_of(&rt, rt.alloc(), &[b"A", b"B"])?;
     for (unit, text, off) in OFF {
-        let table = read_stated_table(rt.alloc(), unit, station.targets(), text.as_bytes());
+        let table = read_stated_table(
+            rt.alloc(),
+            in_unit(unit),
+            station.targets(),
+            text.as_bytes(),
+        );
         let table = table.expect(&rt, "a table");
         assert_eq!(rt; table.most_off, off, "of {text}");
     }
@@ -301,7 +315,12 @@ fn the_finest_row_tells_the_usual_limit(rt: HostRuntime) -> Result<(), Fail> {
     ];
     for (unit, cases) in units {
         for (text, within) in cases {
-            let table = read_stated_table(rt.alloc(), unit, station.targets(), text.as_bytes());
+            let table = read_stated_table(
+                rt.alloc(),
+                in_unit(unit),
+                station.targets(),
+                text.as_bytes(),
+            );
             let table = table.expect(&rt, "a table");
             assert_eq!(rt; table.usual_within, *within, "of {text}");
         }
@@ -353,7 +372,12 @@ fn degrees_are_read_as_parts_of_the_circle(rt: HostRuntime) -> Result<(), Fail> 
     for (direction, expected) in DEGREES {
         let text = format!(in rt.alloc(); "A,{direction}\nB,0\n")?;
         let unit = AngleUnit::Degrees;
-        let found = match read_table(rt.alloc(), unit, station.targets(), text.as_bytes()) {
+        let found = match read_table(
+            rt.alloc(),
+            in_unit(unit),
+            station.targets(),
+            text.as_bytes(),
+        ) {
             Ok(directions) => format!(in rt.alloc(); "{directions:?}")?,
             Err(fault) => format!(in rt.alloc(); "{fault:?}")?,
         };
@@ -371,7 +395,12 @@ fn a_decimal_comma_of_degrees_is_no_separator(rt: HostRuntime) -> Result<(), Fai
     ];
     for (text, expected) in cases {
         let unit = AngleUnit::Degrees;
-        let found = match read_table(rt.alloc(), unit, station.targets(), text.as_bytes()) {
+        let found = match read_table(
+            rt.alloc(),
+            in_unit(unit),
+            station.targets(),
+            text.as_bytes(),
+        ) {
             Ok(directions) => format!(in rt.alloc(); "{directions:?}")?,
             Err(fault) => format!(in rt.alloc(); "{fault:?}")?,
         };
@@ -437,6 +466,7 @@ row 7: the direction is more than a full circle
 row 7: the station has no target of this name
 row 7: a row before has this name
 longer than 1048576 bytes
+columns 4 and 5 both fit
 target 7 has no row
 out of memory
 ";
@@ -452,6 +482,7 @@ fn a_fault_is_told_in_words(rt: HostRuntime) -> Result<(), Fail> {
         TableFault::Row(7, RowKind::Unknown),
         TableFault::Row(7, RowKind::Twice),
         TableFault::TooLong,
+        TableFault::Columns(4, 5),
         TableFault::Missing(7),
         TableFault::Memory,
     ] {
@@ -519,11 +550,14 @@ fn a_worked_table_is_written(rt: HostRuntime) -> Result<(), Fail> {
         TargetDirection { name, direction }
     });
     let decimals = Decimals::new(6).expect(&rt, "a number of decimals");
-    let text = table_text(rt.alloc(), &stated, decimals)?;
-    assert_eq!(rt;
-        text.as_slice(),
-        b"A,0.000000\n\"B,1\",50.000030\n".as_slice()
-    );
+    let cases: [(RowForm, &[u8]); 2] = [
+        (RowForm::Commas, b"A,0.000000\n\"B,1\",50.000030\n"),
+        (RowForm::Semicolons, b"A;0,000000\nB,1;50,000030\n"),
+    ];
+    for (form, want) in cases {
+        let text = table_text(rt.alloc(), &stated, decimals, form)?;
+        assert_eq!(rt; text.as_slice(), want);
+    }
     Ok(())
 }
 
@@ -573,10 +607,17 @@ fn a_table_of_each_number_of_decimals_is_read_again(rt: HostRuntime) -> Result<(
         let directions = [0, largest, 7_000_000_000, 50_100_000_000, decimals.step()];
         let stated = stated_of(&rt, rt.alloc(), &NAMES, &directions)?;
         let station = station_of(&rt, rt.alloc(), &NAMES)?;
-        let text = table_text(rt.alloc(), &stated, decimals)?;
-        let read = read_table(rt.alloc(), AngleUnit::Gon, station.targets(), &text);
-        let read = read.expect(&rt, "a table");
-        assert!(rt; are_read(&read, &stated), "with {count} decimals");
+        for form in [RowForm::Commas, RowForm::Semicolons] {
+            let text = table_text(rt.alloc(), &stated, decimals, form)?;
+            let read = read_table(
+                rt.alloc(),
+                in_unit(AngleUnit::Gon),
+                station.targets(),
+                &text,
+            );
+            let read = read.expect(&rt, "a table");
+            assert!(rt; are_read(&read, &stated), "{form:?} with {count} decimals");
+        }
     }
     Ok(())
 }
@@ -601,7 +642,7 @@ fn names_that_ask_for_quotes_get_them(rt: HostRuntime) -> Result<(), Fail> {
         10_000_000,
     ];
     let stated = stated_of(&rt, rt.alloc(), &NAMES, &directions)?;
-    let text = table_text(rt.alloc(), &stated, decimals)?;
+    let text = table_text(rt.alloc(), &stated, decimals, RowForm::Commas)?;
     assert_eq!(rt; text.as_slice(), FIVE);
     Ok(())
 }

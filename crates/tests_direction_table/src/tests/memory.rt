@@ -7,11 +7,12 @@
 //! `rt test` runs it. `rt try --test` watches over memory itself, and ends the test in place of
 //! refusing.
 
-use super::{are_read, stated_of, station_of};
+use super::{are_read, in_unit, stated_of, station_of};
 use adjust_kernel::Station;
 use direction_table::{
     AngleUnit, Decimals, RowKind, TableFault, TargetDirection, read_table, table_text,
 };
+use row_forms::RowForm;
 use std::alloc::{AllocError, Global};
 use std::process::Abort;
 use std::test::Fail;
@@ -32,7 +33,7 @@ fn read_with_more(
     let mut refused = 0u32;
     for run in 0..SPARE / STEP {
         let plug = Vec::<u8>::with_capacity(alloc, SPARE.saturating_sub(STEP * run));
-        let answer = read_table(alloc, AngleUnit::Gon, station.targets(), bytes);
+        let answer = read_table(alloc, in_unit(AngleUnit::Gon), station.targets(), bytes);
         drop(plug);
         match answer {
             Err(TableFault::Memory) => refused = refused.saturating_add(1),
@@ -52,7 +53,7 @@ fn write_with_more(
     let mut refused = 0u32;
     for run in 0..SPARE / STEP {
         let plug = Vec::<u8>::with_capacity(alloc, SPARE.saturating_sub(STEP * run));
-        let answer = table_text(alloc, stated, decimals);
+        let answer = table_text(alloc, stated, decimals, RowForm::Commas);
         drop(plug);
         match answer {
             Err(AllocError) => refused = refused.saturating_add(1),

@@ -21,11 +21,7 @@ const WAYS: [(&str, &str, &str); 21] = [
     ("a plus", "A,+0.00000\nB,+50.00003\n", READ),
     ("no digit before the point", "A,.00000\nB,50.00003\n", READ),
     ("no digit after the point", "A,0.\nB,50.00003\n", READ),
-    (
-        "a unit",
-        "A,0.00000 gon\nB,50.00003 gon\n",
-        "Row(1, Number)",
-    ),
+    ("a unit", "A,0.00000 gon\nB,50.00003 gon\n", READ),
     ("ten decimals", "A,0.0000000000\nB,50.0000300000\n", READ),
     (
         "an exponent",
@@ -36,7 +32,7 @@ const WAYS: [(&str, &str, &str); 21] = [
     (
         "a comment",
         "# directions of S1\nA,0.00000\nB,50.00003\n",
-        "Row(2, Fields)",
+        READ,
     ),
     (
         "zeros before a name",

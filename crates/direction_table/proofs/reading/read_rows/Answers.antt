@@ -67,11 +67,11 @@ pub returns-in-Err-clause-fault : goal.returns-in-Err-clause-fault
 returns-in-Err-clause-fault c =
     let next = rw c.if-not-found.false at c.in_ok-found.ensures.next in
     let here = rw (← c.in_ok-row.ensures) at (rw next at c.rows.invariant.0) in
-    inl (
-      c.requires.short,
-      c.rows.number,
-      refl,
-      read-fault _ _ _ _ _ _ _ _ here c.in-Err.kind
+    inl record {
+      place = c.rows.number;
+      kind = c.in-Err.kind;
+      is_row = refl;
+      first = read-fault _ _ _ _ _ _ _ _ here c.in-Err.kind
           (sym c.begins_with_titles.ensures ∙ c.if-begins_with_titles.false)
-          (λ before stated. c.in-Err.ensures.fault before (c.deref_mut.ensures.value ∙ stated)),
-    )
+          (λ before stated. c.in-Err.ensures.fault before (c.deref_mut.ensures.value ∙ stated));
+    }

@@ -1,0 +1,3 @@
+pub mod TextRows
+pub mod FieldLengths
+pub mod TurnedBytes
