@@ -5,4 +5,6 @@ pub mod RenamedBlocks
 pub mod EndedLines
 pub mod CopiedLines
 pub mod SaidChanges
+pub mod Stating
+pub mod Placing
 pub mod OneAnswer

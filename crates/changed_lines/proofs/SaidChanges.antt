@@ -142,6 +142,15 @@ nameless text at found no_name c says = by c.edit says where
       let p = parts text says.0 name at says.1 (are_digits says.0 c.line says.2) found in
       no_name (subst IsName (sym p.of_name) says.3)
 
+-- Digits alone name no point.
+pub not_both : (text : List ℕ) (line other : ℕ) (name : List ℕ) → SaysEdit text line Out
+    → SaysEdit text other (Rename name) → ⊥
+not_both text line other name out says =
+    no_other text (length says.0) (are_digits text line out)
+    (omega (arith, ap (λ (bs : List ℕ). length bs) says.1, length-append says.0 (61 ∷ name)))
+    (ap (λ (b : ℕ). b == 61) (ap (λ (bs : List ℕ). get_or bs (length says.0) 0) says.1
+    ∙ at_seam says.0 name))
+
 -- A text around its first byte of a kind.
 pub around : (byte : ℕ) (text : List ℕ) (at : ℕ) → position (λ b. b == byte) text ≡ Some at
     → text ≡ take at text ++ byte ∷ drop (at + 1) text

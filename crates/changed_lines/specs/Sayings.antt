@@ -7,8 +7,9 @@ use Rattle.changed_lines.specs.declared.change.Change.{Change}
 use Rattle.changed_lines.specs.declared.change.Edit.{Edit}
 use Rattle.changed_lines.specs.declared.change.Edit.TheVariants.{Out, Rename}
 
--- Digits say the number of a line: ten at most, and below 2^32.
+-- Digits say the number of a line: one at least and ten at most, and below 2^32.
 pub record SaysLine (digits : List ℕ) (line : ℕ) : Type 0 where
+  pub some : 1 ≤ length digits
   pub short : length digits ≤ 10
   pub number : decimal_number digits ≡ Some line
   pub within : line ≤ 4294967295

@@ -12,10 +12,14 @@ mod copy;
 mod fault;
 mod first_line;
 pub mod laws;
+mod order;
 mod renaming;
 mod saying;
+mod stated;
 
 pub use change::{Change, Edit};
 pub use copy::changed_copy;
 pub use fault::ChangeFault;
+pub use order::in_order;
 pub use saying::{Unsaid, change_in, changes_in};
+pub use stated::{EditKind, Unstated, changes_of};

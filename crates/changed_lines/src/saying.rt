@@ -45,7 +45,7 @@ fn line_in(digits: &[u8]) -> Option<u32>
     ensures some { IfSome result (SaysLine digits.now) }
     ensures none { IfNone result ((line : ℕ) → ¬ SaysLine digits.now line) }
 {
-    if digits.len() > MOST_DIGITS {
+    if digits.is_empty() || digits.len() > MOST_DIGITS {
         return None;
     }
     let number = decimal_number(digits)?;
@@ -74,7 +74,7 @@ pub fn change_in(text: &[u8]) -> Option<Change>
 }
 
 /// Adds a change of this line.
-fn push(changes: &mut Vec<Change>, line: u32, edit: Edit) -> Result<(), AllocError>
+pub(crate) fn push(changes: &mut Vec<Change>, line: u32, edit: Edit) -> Result<(), AllocError>
     ensures { OnOk result (changes.new.items
         ≡ changes.old.items ++ (record { line = line; edit = edit }) ∷ []) }
 {
