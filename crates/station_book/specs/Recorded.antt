@@ -1,5 +1,5 @@
 -- What a field file recorded, in the words of its blocks alone.
-use Rattle.std.specs.Prelude.{◌≡◌, ℕ, ℤ, IsTrue, List, Contains, Some, ◌⊎◌}
+use Rattle.std.specs.Prelude.{◌≡◌, ℕ, ℤ, pos, IsTrue, List, Contains, Some, ◌⊎◌}
 use Rattle.adjust_kernel.specs.Matching.{Key, observed}
 use Rattle.station_book.specs.declared.face.Face.{Face}
 use Rattle.station_book.specs.declared.face.Face.TheVariants.{One, Two}
@@ -44,12 +44,14 @@ pub record IsRecorded (limits : FaceLimits) (h : History) (name : List ℕ) (k :
   pub difference : ℤ
   pub two_i : IsTwoI limits.two_i (angles_at first) (angles_at second) difference
 
--- The same, with the face differences of the same two readings, each within its limit.
+-- The same, with the face differences of the same two readings, each within its limit, and the
+-- zenith angle of the same reading of face I.
 pub record IsRecordedWith (limits : FaceLimits) (h : History) (name : List ℕ) (k : Key) (f : Faces)
     : Type 0 where
   pub recorded : IsRecorded limits h name k
   pub two_c : IsTwoC limits.two_c (angles_at recorded.first) (angles_at recorded.second) f.two_c
   pub two_i : IsTwoI limits.two_i (angles_at recorded.first) (angles_at recorded.second) f.two_i
+  pub zenith : f.zenith ≡ pos (angles_at recorded.first).zenith
 
 -- The reading at this place is listed: it is one of the two readings of which an observation is
 -- listed at its station, set and target.

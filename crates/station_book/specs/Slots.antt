@@ -1,6 +1,6 @@
 -- The readings of a set by target, as a book keeps them.
 use Rattle.std.specs.Prelude.{ℕ, Bool, ◌&&◌, ◌||◌, is_some, is_none, List, [], ◌∷◌, Option, Some}
-use Rattle.std.specs.Prelude.{None, IfSome, filter_map, slice_index_or}
+use Rattle.std.specs.Prelude.{pos, None, IfSome, filter_map, slice_index_or}
 use Rattle.std.specs.List.{list_any, list_all, enumerate_from}
 use Rattle.adjust_kernel.specs.declared.obs.Obs.{Obs}
 use Rattle.station_book.specs.declared.face.Face.{Face}
@@ -80,9 +80,10 @@ obs_at set p = observation_of set p.0 p.1.one p.1.two
 abbrev pub obs_of : ℕ → List Slot → List Obs
 obs_of set slots = filter_map (obs_at set) (enumerate_from 0 slots)
 
--- the face differences of two readings
+-- the face differences of two readings, and the zenith angle of that in face I
 abbrev pub compared : Option Angles → Option Angles → Option Faces
-compared (Some a) (Some b) = Some (record { two_c = two_c a b; two_i = two_i a b })
+compared (Some a) (Some b) =
+    Some (record { two_c = two_c a b; two_i = two_i a b; zenith = pos a.zenith })
 compared (Some a) None = None
 compared None b = None
 

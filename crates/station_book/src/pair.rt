@@ -1,6 +1,6 @@
 //! What the two readings of a target give.
 
-ghost use Rattle.std.specs.Prelude.{◌≡◌, ◌<◌, ◌≤◌};
+ghost use Rattle.std.specs.Prelude.{◌≡◌, ◌<◌, ◌≤◌, pos};
 ghost use Rattle.station_book.specs.declared.bounds.TheConstants.{CIRCLE};
 ghost use Rattle.station_book.specs.declared.limits.TheConstants.{LARGEST_LIMIT};
 ghost use Rattle.station_book.specs.Faults.{has_no_two_c, has_no_two_i};
@@ -22,16 +22,21 @@ fn half_turned(first: Angles, second: Angles) -> u32
     (second.hz + CIRCLE - first.hz) % CIRCLE
 }
 
-/// The face differences.
+/// The face differences, and the zenith angle of face I.
 pub(crate) fn faces_of(first: Angles, second: Angles) -> Faces
     requires first_in { AreOnCircle first }
     requires second_in { AreOnCircle second }
     ensures two_c { result.two_c ≡ two_c first second }
     ensures two_i { result.two_i ≡ two_i first second }
+    ensures zenith { result.zenith ≡ pos first.zenith }
 {
     let two_c = half_turned(first, second) as i32 - HALF_CIRCLE as i32;
     let two_i = (first.zenith + second.zenith) as i32 - CIRCLE as i32;
-    Faces { two_c, two_i }
+    Faces {
+        two_c,
+        two_i,
+        zenith: first.zenith as i32,
+    }
 }
 
 /// The two-face direction, in half units.

@@ -211,7 +211,8 @@ pub(crate) fn make_room(
     Ok(())
 }
 
-/// Appends the observations of a set and their face differences. All growths come first.
+/// Appends the observations of a set, their face differences and zenith angles. All growths come
+/// first.
 pub(crate) fn push_pairs(
     set: u32,
     slots: &[Slot],

@@ -103,7 +103,10 @@ fn expect_list(rt: &impl Abort, book: Book) {
         let obs = station.obs().get(place).expect(rt, "an observation");
         assert_eq!(rt; (obs.set, obs.target, obs.value), (*set, *target, *value));
         let faces = surveyed.faces().get(place).expect(rt, "differences");
-        assert_eq!(rt; (faces.two_c, faces.two_i), (*two_c, *two_i));
+        assert_eq!(rt;
+            (faces.two_c, faces.two_i, faces.zenith),
+            (*two_c, *two_i, 10_000_000)
+        );
     }
 }
 
@@ -333,13 +336,14 @@ fn a_refused_end_of_a_set_leaves_the_book(rt: HostRuntime) {
 
 #[test]
 fn directions_and_differences_at_their_limits(rt: HostRuntime) {
-    let rows: [(&[u8], &[u8], u32, i32, i32); 7] = [
+    let rows: [(&[u8], &[u8], u32, i32, i32, i32); 7] = [
         (
             b"110003+0000000A 21.102+00000000 22.102+10000000",
             b"110004+0000000A 21.102+20002000 22.102+30000000",
             2000,
             2000,
             0,
+            10_000_000,
         ),
         (
             b"110003+0000000A 21.102+00000000 22.102+10000000",
@@ -347,6 +351,7 @@ fn directions_and_differences_at_their_limits(rt: HostRuntime) {
             79_998_000,
             -2000,
             0,
+            10_000_000,
         ),
         (
             b"110003+0000000A 21.102+39999999 22.102+10000000",
@@ -354,6 +359,7 @@ fn directions_and_differences_at_their_limits(rt: HostRuntime) {
             0,
             2,
             0,
+            10_000_000,
         ),
         (
             b"110003+0000000A 21.102+00000000 22.102+19999999",
@@ -361,6 +367,7 @@ fn directions_and_differences_at_their_limits(rt: HostRuntime) {
             0,
             0,
             0,
+            19_999_999,
         ),
         (
             b"110003+0000000A 21.102+39999995 22.102+10000000",
@@ -368,6 +375,7 @@ fn directions_and_differences_at_their_limits(rt: HostRuntime) {
             79_999_990,
             0,
             2000,
+            10_000_000,
         ),
         (
             b"110003+0000000A 21.102+00000000 22.102+10000000",
@@ -375,6 +383,7 @@ fn directions_and_differences_at_their_limits(rt: HostRuntime) {
             0,
             0,
             -2000,
+            10_000_000,
         ),
         (
             b"110003+0000000A 21.102+19999995 22.102+30000000",
@@ -382,9 +391,10 @@ fn directions_and_differences_at_their_limits(rt: HostRuntime) {
             79_999_990,
             0,
             0,
+            10_000_000,
         ),
     ];
-    for (first, second, value, two_c, two_i) in rows.iter() {
+    for (first, second, value, two_c, two_i, zenith) in rows.iter() {
         let mut book = book_of(&rt, rt.alloc(), 2);
         assert_eq!(rt; take(&rt, &mut book, first), Ok(()));
         assert_eq!(rt; take(&rt, &mut book, second), Ok(()));
@@ -397,7 +407,10 @@ fn directions_and_differences_at_their_limits(rt: HostRuntime) {
             .expect(&rt, "an observation");
         assert_eq!(rt; obs.value, *value);
         let faces = surveyed.faces().get(0).expect(&rt, "differences");
-        assert_eq!(rt; (faces.two_c, faces.two_i), (*two_c, *two_i));
+        assert_eq!(rt;
+            (faces.two_c, faces.two_i, faces.zenith),
+            (*two_c, *two_i, *zenith)
+        );
     }
     assert!(rt; Limits::new(1_000_001, 0).is_none());
     assert!(rt; Limits::new(0, 1_000_001).is_none());

@@ -91,6 +91,7 @@ module _ (limits : FaceLimits) where
           two_c = computed_two_c limits.two_c (angles_at a) (angles_at b) (place_on_circle a)
               (place_on_circle b) within.two_c;
           two_i = computed_two_i limits.two_i (angles_at a) (angles_at b) within.two_i;
+          zenith = refl;
         },
         h,
       )

@@ -36,7 +36,8 @@ one_faces limits small c a b h k =
     b.two_c h.two_c k.two_c in
     let i_same : a.two_i ≡ b.two_i = one_two_i limits.two_i c.first c.second a.two_i b.two_i h.two_i
     k.two_i in
-    λ i. record { two_c = c_same i; two_i = i_same i }
+    let zenith : a.zenith ≡ b.zenith = h.zenith ∙ sym k.zenith in
+    λ i. record { two_c = c_same i; two_i = i_same i; zenith = zenith i }
 
 all_some : (xs ys : List ℕ) → map Some xs ≡ map Some ys → xs ≡ ys
 all_some [] [] e = refl

@@ -1,7 +1,7 @@
 -- What is listed at a station is what the file recorded there: none is missing, none is added.
 use Rattle.std.proofs.Common.{◌≡◌, ◌↔◌, ℕ, true, ◌&&◌, List, [], ◌∷◌, length, map, reverse, get_or}
 use Rattle.std.proofs.Common.{Some, refl, sym, ap, ◌∙◌, inl, inr, subst}
-use Rattle.std.specs.Prelude.{ℤ}
+use Rattle.std.specs.Prelude.{ℤ, pos}
 use Rattle.std.specs.List.{Contains, AllZip}
 use Rattle.std.proofs.lemmas.Bool.{and_from, eq-eqb}
 use Rattle.adjust_kernel.specs.declared.obs.Obs.{Obs}
@@ -314,6 +314,7 @@ with_faces limits h st s placed surveyed (c ∷ cs) (o ∷ os) (f ∷ fs) inside
               (angles_at r.recorded.second) f.two_i)
               first
               (subst (λ (b : Angles). IsTwoI limits.two_i c.first b f.two_i) second two.0.two_i);
+          zenith = two.0.zenith ∙ ap (λ (a : Angles). pos a.zenith) first;
         }
 
 -- Beside each direction stand the face differences of its two readings.

@@ -151,9 +151,10 @@ fn face_differences_and_limits_are_copied_as_they_are(rt: HostRuntime) {
     let faces = Faces {
         two_c: 10,
         two_i: 2,
+        zenith: 10_000_000,
     };
     let copy = faces.clone().expect(&rt, "a copy");
-    assert_eq!(rt; (copy.two_c, copy.two_i), (10, 2));
+    assert_eq!(rt; (copy.two_c, copy.two_i, copy.zenith), (10, 2, 10_000_000));
     let limits = Limits::new(10, 2).expect(&rt, "limits");
     let copy = limits.clone().expect(&rt, "a copy");
     assert_eq!(rt; (copy.two_c(), copy.two_i()), (10, 2));
@@ -162,7 +163,8 @@ fn face_differences_and_limits_are_copied_as_they_are(rt: HostRuntime) {
             faces
                 != Faces {
                     two_c: other.0 as i32,
-                    two_i: other.1 as i32
+                    two_i: other.1 as i32,
+                    zenith: 10_000_000
                 }
         );
         assert!(rt; limits != Limits::new(other.0, other.1).expect(&rt, "limits"));
