@@ -25,16 +25,16 @@ use Rattle.station_compare.specs.Faults.{of_file}
 use Rattle.station_compare.specs.declared.agreement.Agreement.{Agreement}
 use Rattle.station_compare.specs.declared.fault.CompareFault.{CompareFault}
 use Rattle.station_compare.specs.declared.fault.CompareFault.TheVariants.{File, Memory}
-use Rattle.direction_table.specs.declared.unit.AngleUnit.{AngleUnit}
+use Rattle.direction_table.specs.declared.form.TableForm.{TableForm}
 
 -- A table that agrees was read to its end.
-ended_by : (unit : AngleUnit) (station : StationValue) (residual : ℕ) (within : Option ℕ)
+ended_by : (form : TableForm) (station : StationValue) (residual : ℕ) (within : Option ℕ)
     (a : Agreement) (input : Input)
-    → ByInput unit station residual within input (Ok a)
-    → (bytes : List ℕ) × (input ≡ Ended bytes) × IsAgreement unit station residual bytes within a
-ended_by unit station residual within a (Ended bytes) h = (bytes, refl, h)
-ended_by unit station residual within a (BrokeOff bytes) h = elim h [ inl e ↦ cc | inr e ↦ cc ]
-ended_by unit station residual within a RanPast h = elim h [ inl e ↦ cc | inr e ↦ cc ]
+    → ByInput form station residual within input (Ok a)
+    → (bytes : List ℕ) × (input ≡ Ended bytes) × IsAgreement form station residual bytes within a
+ended_by form station residual within a (Ended bytes) h = (bytes, refl, h)
+ended_by form station residual within a (BrokeOff bytes) h = elim h [ inl e ↦ cc | inr e ↦ cc ]
+ended_by form station residual within a RanPast h = elim h [ inl e ↦ cc | inr e ↦ cc ]
 
 -- A station that can be adjusted, all of whose residuals keep the limit, has no fault of its own.
 pub no_adjust_fault : (station : StationValue) (residual : ℕ) (fault : AdjustFault)
@@ -45,19 +45,19 @@ no_adjust_fault station residual fault has held own h =
     own h
 
 -- No fault of the field file comes of the table.
-no_file_fault : (unit : AngleUnit) (its : SurveyedStation) (residual : ℕ) (within : Option ℕ)
+no_file_fault : (form : TableForm) (its : SurveyedStation) (residual : ℕ) (within : Option ℕ)
     (fault : Fault) (input : Input)
-    → ByInput unit its.station residual within input (Err (File fault)) → ⊥
-no_file_fault unit its residual within fault (Ended bytes) h = h
-no_file_fault unit its residual within fault (BrokeOff bytes) h =
+    → ByInput form its.station residual within input (Err (File fault)) → ⊥
+no_file_fault form its residual within fault (Ended bytes) h = h
+no_file_fault form its residual within fault (BrokeOff bytes) h =
     elim h [ inl e ↦ cc | inr e ↦ cc ]
-no_file_fault unit its residual within fault RanPast h = elim h [ inl e ↦ cc | inr e ↦ cc ]
+no_file_fault form its residual within fault RanPast h = elim h [ inl e ↦ cc | inr e ↦ cc ]
 
-module _ (unit : AngleUnit) (limits : ResultLimits) (lines : FileAnswers) (stated : Told)
+module _ (form : TableForm) (limits : ResultLimits) (lines : FileAnswers) (stated : Told)
     (name : List ℕ) (within : Option ℕ) where
   -- A table that agrees is compared.
-  pub compared_of : (a : Agreement) (h : Agrees unit limits lines stated name within a)
-      → IsComparedWith unit h.its.station h.bytes a.how_far.apart
+  pub compared_of : (a : Agreement) (h : Agrees form limits lines stated name within a)
+      → IsComparedWith form h.its.station h.bytes a.how_far.apart
   compared_of a h = record {
     directions = h.directions;
     states = h.states;
@@ -73,11 +73,11 @@ module _ (unit : AngleUnit) (limits : ResultLimits) (lines : FileAnswers) (state
   -- What is answered, where the station was found.
   pub compares_by_table : (its : SurveyedStation) (r : Result Agreement CompareFault)
       → IsStationOfFile limits.faces lines name its
-      → ByInput unit its.station limits.residual within (input_within LONGEST_TABLE stated) r
-      → Compares unit limits lines stated name within r
+      → ByInput form its.station limits.residual within (input_within LONGEST_TABLE stated) r
+      → Compares form limits lines stated name within r
   compares_by_table its (Ok a) station h =
       let (bytes, whole, is) =
-      ended_by unit its.station limits.residual within a (input_within LONGEST_TABLE stated) h in
+      ended_by form its.station limits.residual within a (input_within LONGEST_TABLE stated) h in
       record {
         its = its;
         station = station;
@@ -98,7 +98,7 @@ module _ (unit : AngleUnit) (limits : ResultLimits) (lines : FileAnswers) (state
         counted = is.counted;
       }
   compares_by_table its (Err (File fault)) station h =
-      absurd (no_file_fault unit its limits.residual within fault
+      absurd (no_file_fault form its limits.residual within fault
       (input_within LONGEST_TABLE stated) h)
   compares_by_table its (Err Memory) station h = tt
   compares_by_table its (Err fault) station h =
@@ -106,7 +106,7 @@ module _ (unit : AngleUnit) (limits : ResultLimits) (lines : FileAnswers) (state
 
   -- What is answered of a fault of the field file.
   pub compares_by_file : (fault : Fault) → IsOfFile fault → Surveys limits.faces lines (Err fault)
-      → Compares unit limits lines stated name within (Err (of_file fault))
+      → Compares form limits lines stated name within (Err (of_file fault))
   compares_by_file file.NoStation o h = absurd o
   compares_by_file file.Memory o h = tt
   compares_by_file fault o h = h

@@ -2,3 +2,5 @@ pub mod Comparisons
 pub mod OneStation
 pub mod OneAnswer
 pub mod SomeAnswer
+pub mod NameLists
+pub mod Hinting

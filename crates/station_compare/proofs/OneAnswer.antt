@@ -10,7 +10,7 @@ use Rattle.direction_table.proofs.LawLemmas.{never_both, one_fault, one_table}
 use Rattle.direction_table.specs.Tables.{IsTableFault}
 use Rattle.direction_table.specs.declared.fault.TableFault.{TableFault}
 use Rattle.direction_table.specs.declared.reading.TheConstants.{LONGEST_TABLE}
-use Rattle.direction_table.specs.declared.unit.AngleUnit.{AngleUnit}
+use Rattle.direction_table.specs.declared.form.TableForm.{TableForm}
 use Rattle.directions_apart.specs.Apart.{stated_by}
 use Rattle.exact_adjustment.proofs.LawLemmas as adjustment
 use Rattle.exact_adjustment.specs.Faults.{IsOfStation}
@@ -35,26 +35,26 @@ use Rattle.station_compare.specs.declared.fault.CompareFault.{CompareFault}
 use Rattle.station_compare.specs.declared.fault.CompareFault.TheVariants.{File, TableRead, Table}
 use Rattle.station_compare.specs.declared.fault.CompareFault.TheVariants.{Adjust, Apart, Memory}
 
-module _ (unit : AngleUnit) (station : StationValue) (residual : ℕ) (bytes : List ℕ) where
+module _ (form : TableForm) (station : StationValue) (residual : ℕ) (bytes : List ℕ) where
   -- What the bytes of a table come to: their fault, that of the adjustment, or how far they are
   -- apart.
   abbrev ComeTo : Result (Result ℕ AdjustFault) TableFault → Type 0
-  ComeTo (Err fault) = IsTableFault unit station.targets bytes fault
-  ComeTo (Ok (Err fault)) = IsUnadjusted unit station residual bytes fault × IsOfStation fault
+  ComeTo (Err fault) = IsTableFault form station.targets bytes fault
+  ComeTo (Ok (Err fault)) = IsUnadjusted form station residual bytes fault × IsOfStation fault
   ComeTo (Ok (Ok apart)) =
-      HasResidualsWithin station residual × IsComparedWith unit station bytes apart
+      HasResidualsWithin station residual × IsComparedWith form station bytes apart
 
   -- Bytes with a fault are not compared, nor is their station adjusted.
   no_table : (fault : TableFault) (r : Result ℕ AdjustFault) → ComeTo (Err fault) → ComeTo (Ok r)
       → ⊥
   no_table fault (Ok n) h p =
-      never_both unit station.targets bytes p.1.directions fault p.1.states h
+      never_both form station.targets bytes p.1.directions fault p.1.states h
   no_table fault (Err f) h p =
-      never_both unit station.targets bytes p.0.directions fault p.0.states h
+      never_both form station.targets bytes p.0.directions fault p.0.states h
 
   -- They come to one thing.
   one_outcome : (a b : Result (Result ℕ AdjustFault) TableFault) → ComeTo a → ComeTo b → a ≡ b
-  one_outcome (Err f) (Err g) p q = ap Err (one_fault unit station.targets bytes f g p q)
+  one_outcome (Err f) (Err g) p q = ap Err (one_fault form station.targets bytes f g p q)
   one_outcome (Err f) (Ok b) p q = absurd (no_table f b p q)
   one_outcome (Ok a) (Err g) p q = absurd (no_table g a q p)
   one_outcome (Ok (Err f)) (Ok (Err g)) p q =
@@ -65,9 +65,9 @@ module _ (unit : AngleUnit) (station : StationValue) (residual : ℕ) (bytes : L
   one_outcome (Ok (Ok n)) (Ok (Err g)) p q =
       absurd (no_adjust_fault station residual g p.1.are_apart.adjustable p.0 q.1 q.0.fault_stands)
   one_outcome (Ok (Ok n)) (Ok (Ok m)) p q =
-      let same = one_table unit station.targets bytes p.1.directions q.1.directions p.1.states
+      let same = one_table form station.targets bytes p.1.directions q.1.directions p.1.states
       q.1.states in
-      let off = off_in unit station.targets bytes in
+      let off = off_in form station.targets bytes in
       ap (λ k. Ok (Ok k)) (one_distance station (stated_by q.1.directions) off n m
       (subst (λ ds. AreApart station (stated_by ds) off n) same p.1.are_apart) q.1.are_apart)
 
@@ -78,7 +78,7 @@ module _ (unit : AngleUnit) (station : StationValue) (residual : ℕ) (bytes : L
     answer_of greatest (Err fault) = Err (Table fault)
     answer_of greatest (Ok (Err fault)) = Err (Adjust fault)
     answer_of greatest (Ok (Ok apart)) =
-        let limit = limit_in_force unit within station.targets bytes in
+        let limit = limit_in_force form within station.targets bytes in
         if nat_le apart limit
         then Ok (record {
           name = station.name;
@@ -95,7 +95,7 @@ module _ (unit : AngleUnit) (station : StationValue) (residual : ℕ) (bytes : L
     SaysGreatest greatest (Err fault) = ⊤
 
     answers : (greatest : ℕ) (r : Result Agreement CompareFault) → SaysGreatest greatest r
-        → IsSettled r → ByTable unit station residual within bytes r
+        → IsSettled r → ByTable form station residual within bytes r
         → (c : Result (Result ℕ AdjustFault) TableFault) × ComeTo c × (r ≡ answer_of greatest c)
     answers greatest (Ok a) says set h = (
       Ok (Ok a.how_far.apart),
@@ -111,8 +111,8 @@ module _ (unit : AngleUnit) (station : StationValue) (residual : ℕ) (bytes : L
 
     -- Two answers say one.
     one_greatest : (r s : Result Agreement CompareFault)
-        → ByTable unit station residual within bytes r
-        → ByTable unit station residual within bytes s
+        → ByTable form station residual within bytes r
+        → ByTable form station residual within bytes s
         → (greatest : ℕ) × SaysGreatest greatest r × SaysGreatest greatest s
     one_greatest (Ok a) (Ok b) p h =
         (a.greatest, refl, one_size station b.greatest a.greatest h.greatest p.greatest)
@@ -121,8 +121,8 @@ module _ (unit : AngleUnit) (station : StationValue) (residual : ℕ) (bytes : L
     one_greatest (Err f) (Err g) p h = (0, tt, tt)
 
     pub one_by_table : (r s : Result Agreement CompareFault) → IsSettled r → IsSettled s
-        → ByTable unit station residual within bytes r
-        → ByTable unit station residual within bytes s → r ≡ s
+        → ByTable form station residual within bytes r
+        → ByTable form station residual within bytes s → r ≡ s
     one_by_table r s set also p h =
         let (greatest, says, says_too) = one_greatest r s p h in
         let (a, comes, is) = answers greatest r says set p in
@@ -135,35 +135,35 @@ is_fault : (r : Result Agreement CompareFault) (fault : CompareFault) → IsSett
 is_fault r fault set (inl e) = e
 is_fault r fault set (inr e) = absurd (subst IsSettled e set)
 
-pub one_by_input : (unit : AngleUnit) (station : StationValue) (residual : ℕ) (within : Option ℕ)
+pub one_by_input : (form : TableForm) (station : StationValue) (residual : ℕ) (within : Option ℕ)
     (input : Input) (r s : Result Agreement CompareFault) → IsSettled r → IsSettled s
-    → ByInput unit station residual within input r
-    → ByInput unit station residual within input s → r ≡ s
-one_by_input unit station residual within (Ended bytes) r s set also p h =
-    one_by_table unit station residual bytes within r s set also p h
-one_by_input unit station residual within (BrokeOff bytes) r s set also p h =
+    → ByInput form station residual within input r
+    → ByInput form station residual within input s → r ≡ s
+one_by_input form station residual within (Ended bytes) r s set also p h =
+    one_by_table form station residual bytes within r s set also p h
+one_by_input form station residual within (BrokeOff bytes) r s set also p h =
     is_fault r TableRead set p ∙ sym (is_fault s TableRead also h)
-one_by_input unit station residual within RanPast r s set also p h =
+one_by_input form station residual within RanPast r s set also p h =
     is_fault r _ set p ∙ sym (is_fault s _ also h)
 
-module _ (unit : AngleUnit) (limits : ResultLimits) (small : AreLimits limits.faces) (file : FileAnswers)
+module _ (form : TableForm) (limits : ResultLimits) (small : AreLimits limits.faces) (file : FileAnswers)
     (stated : Told) (name : List ℕ) (within : Option ℕ) where
   -- What is said of an answer's station.
   abbrev So : SurveyedStation → Result Agreement CompareFault → Type 0
   So its r =
       IsSettled r
-      × ByInput unit its.station limits.residual within (input_within LONGEST_TABLE stated) r
+      × ByInput form its.station limits.residual within (input_within LONGEST_TABLE stated) r
 
   stands : (r : Result Agreement CompareFault) → IsSettled r
-      → Compares unit limits file stated name within r → IsOf limits.faces small file name So r
+      → Compares form limits file stated name within r → IsOf limits.faces small file name So r
   stands (Ok a) set h = of_station limits.faces small file name So h.its (Ok a) h.station (
     tt,
-    subst (λ (input : Input). ByInput unit h.its.station limits.residual within input (Ok a))
+    subst (λ (input : Input). ByInput form h.its.station limits.residual within input (Ok a))
         (sym h.whole)
         (record {
           how_far = record {
             held = h.held;
-            compared = compared_of unit limits file stated name within a h;
+            compared = compared_of form limits file stated name within a h;
             limit = h.limit;
           };
           agrees = h.agrees;
@@ -181,8 +181,8 @@ module _ (unit : AngleUnit) (limits : ResultLimits) (small : AreLimits limits.fa
 
   -- A comparison has one answer.
   pub one_answer : (r s : Result Agreement CompareFault) → IsSettled r → IsSettled s
-      → Compares unit limits file stated name within r
-      → Compares unit limits file stated name within s → r ≡ s
+      → Compares form limits file stated name within r
+      → Compares form limits file stated name within s → r ≡ s
   one_answer r s set also p h = one_of_each limits.faces small file name So
-      (λ its x y a b. one_by_input unit its.station limits.residual within _ x y a.0 b.0 a.1 b.1) r s
+      (λ its x y a b. one_by_input form its.station limits.residual within _ x y a.0 b.0 a.1 b.1) r s
       (stands r set p) (stands s also h)

@@ -44,7 +44,7 @@ use Rattle.station_compare.specs.declared.agreement.Agreement.{Agreement}
 use Rattle.station_compare.specs.declared.fault.CompareFault.{CompareFault}
 use Rattle.station_compare.specs.declared.fault.CompareFault.TheVariants.{File, TableRead, Table}
 use Rattle.station_compare.specs.declared.fault.CompareFault.TheVariants.{Adjust}
-use Rattle.direction_table.specs.declared.unit.AngleUnit.{AngleUnit}
+use Rattle.direction_table.specs.declared.form.TableForm.{TableForm}
 
 -- Lines come to blocks or to a fault of theirs, and never to this one.
 at_the_end : (past : History) (o : Option BookKind) → Err NoStation ≡ at_end past o → ⊥
@@ -120,13 +120,13 @@ module _ (limits : FaceLimits) (small : AreLimits limits) (file : FileAnswers) (
   pub of_file : Answer
   of_file = let came = some_outcome limits file in by_outcome came.0 came.1
 
-module _ (unit : AngleUnit) (limits : ResultLimits) (small : AreLimits limits.faces) (file : FileAnswers)
+module _ (form : TableForm) (limits : ResultLimits) (small : AreLimits limits.faces) (file : FileAnswers)
     (stated : Told) (name : List ℕ) (within : Option ℕ) where
   abbrev AnAnswer : Type 0
   AnAnswer =
-      ((r : Result Agreement CompareFault) × Compares unit limits file stated name within r
+      ((r : Result Agreement CompareFault) × Compares form limits file stated name within r
       × IsNoMemory r)
-      ⊎ IsUpToAdjustment unit limits file stated name
+      ⊎ IsUpToAdjustment form limits file stated name
 
   by_fault : (fault : Fault) → FileComesTo limits.faces file (Err fault) → AnAnswer
   by_fault NoStation h = absurd (never_no_station limits.faces [] file.lines file.last h)
@@ -135,19 +135,19 @@ module _ (unit : AngleUnit) (limits : ResultLimits) (small : AreLimits limits.fa
   -- Where the station was found, what comes of the table has an answer, or comes to an adjustment.
   module _ (its : SurveyedStation) (of : IsStationOfFile limits.faces file name its) where
     answered : (input : Input) → input_within LONGEST_TABLE stated ≡ input
-        → (r : Result Agreement CompareFault) → ByInput unit its.station limits.residual within input r
+        → (r : Result Agreement CompareFault) → ByInput form its.station limits.residual within input r
         → IsNoMemory r → AnAnswer
     answered input e r h settled = inl (
       r,
-      compares_by_table unit limits file stated name within its
-          r of (subst (λ i. ByInput unit its.station limits.residual within i r) (sym e) h),
+      compares_by_table form limits file stated name within its
+          r of (subst (λ i. ByInput form its.station limits.residual within i r) (sym e) h),
       settled,
     )
 
     by_input : (input : Input) → input_within LONGEST_TABLE stated ≡ input → AnAnswer
     by_input (BrokeOff bytes) e = answered (BrokeOff bytes) e (Err TableRead) (inl refl) tt
     by_input RanPast e = answered RanPast e (Err (Table table.TooLong)) (inl refl) tt
-    by_input (Ended bytes) e = elim (table_or_fault unit its.station.targets bytes) [
+    by_input (Ended bytes) e = elim (table_or_fault form its.station.targets bytes) [
       | inr h ↦ answered (Ended bytes) e (Err (Table h.0)) h.1 tt
       | inl h ↦ elim (tied_or_not its.station) [
         | inl tied ↦ inr (record {

@@ -19,11 +19,11 @@ use Rattle.station_check.specs.StationOfFile.{IsStationOfFile}
 use Rattle.station_compare.specs.LimitInForce.{limit_in_force, off_in}
 use Rattle.station_compare.specs.declared.agreement.Agreement.{Agreement}
 use Rattle.station_results.specs.Greatest.{IsGreatestSize}
-use Rattle.direction_table.specs.declared.unit.AngleUnit.{AngleUnit}
+use Rattle.direction_table.specs.declared.form.TableForm.{TableForm}
 
 -- Of these lines of a field file, and of these bytes of a table and how they end, this is the
 -- agreement for the station of this name; `within` is the limit that is stated, or none.
-pub record Agrees (unit : AngleUnit) (limits : ResultLimits) (file : FileAnswers) (stated : Told)
+pub record Agrees (form : TableForm) (limits : ResultLimits) (file : FileAnswers) (stated : Told)
     (name : List ℕ)
     (within : Option ℕ) (a : Agreement) : Type 0 where
   -- The station of this name: its observations are exactly its two-face directions, and every face
@@ -34,7 +34,7 @@ pub record Agrees (unit : AngleUnit) (limits : ResultLimits) (file : FileAnswers
   pub bytes : List ℕ
   pub whole : input_within LONGEST_TABLE stated ≡ Ended bytes
   pub directions : List ℤ
-  pub states : IsTableText unit its.station.targets bytes directions
+  pub states : IsTableText form its.station.targets bytes directions
   -- The station's observations hold all sets and targets together, and its exact adjustment keeps
   -- the largest residual limit: so a least-squares choice of directions, orientations and full
   -- turns, over any denominator, is there.
@@ -45,16 +45,16 @@ pub record Agrees (unit : AngleUnit) (limits : ResultLimits) (file : FileAnswers
   -- is least, with each number that may be off from it.
   pub brought : (c : Choice) (turns : List ℤ) → IsLeastOf its.station c turns
       → AreBroughtWithin (length its.station.targets) c (stated_by directions)
-      (off_in unit its.station.targets bytes) a.how_far.apart
+      (off_in form its.station.targets bytes) a.how_far.apart
   -- And no rotation brings them nearer by a unit.
   pub no_nearer : (nearer : ℕ) → nearer < a.how_far.apart → (c : Choice) (turns : List ℤ)
       → IsLeastOf its.station c turns
       → ¬ AreBroughtWithin (length its.station.targets) c (stated_by directions)
-      (off_in unit its.station.targets bytes) nearer
+      (off_in form its.station.targets bytes) nearer
   -- That is no further than the limit that it says: the one in force, which is the stated one, or
   -- the usual one for the steps to which the table's rows round their directions.
   pub agrees : a.how_far.apart ≤ a.how_far.limit
-  pub limit : a.how_far.limit ≡ limit_in_force unit within its.station.targets bytes
+  pub limit : a.how_far.limit ≡ limit_in_force form within its.station.targets bytes
   -- The greatest residual of the station is this in size, in units of 0.001 mgon: of its
   -- observations, adjusted by least squares, each rounded from the exact fraction.
   pub greatest : IsGreatestSize its.station a.greatest

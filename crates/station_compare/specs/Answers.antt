@@ -19,30 +19,30 @@ use Rattle.station_compare.specs.declared.agreement.Agreement.{Agreement}
 use Rattle.station_compare.specs.declared.fault.CompareFault.{CompareFault}
 use Rattle.station_compare.specs.declared.fault.CompareFault.TheVariants.{File, TableRead, Table}
 use Rattle.station_compare.specs.declared.fault.CompareFault.TheVariants.{Adjust, Apart, Memory}
-use Rattle.direction_table.specs.declared.unit.AngleUnit.{AngleUnit}
+use Rattle.direction_table.specs.declared.form.TableForm.{TableForm}
 
 -- The file has a station of this name, and with what came of the table's reader this is the fault.
-pub record IsRefusedByTable (unit : AngleUnit) (limits : ResultLimits) (file : FileAnswers)
+pub record IsRefusedByTable (form : TableForm) (limits : ResultLimits) (file : FileAnswers)
     (stated : Told)
     (name : List ℕ) (within : Option ℕ) (fault : CompareFault) : Type 0 where
   pub its : SurveyedStation
   pub station : IsStationOfFile limits.faces file name its
-  pub by_input : ByInput unit its.station limits.residual within
+  pub by_input : ByInput form its.station limits.residual within
       (input_within LONGEST_TABLE stated) (Err fault)
 
 -- What is answered, for the station of a name: that the table agrees; or the first fault that
 -- stands, in the order of the file, the station, the table, the adjustment and how far they are
 -- apart.
-abbrev pub Compares : AngleUnit → ResultLimits → FileAnswers → Told → List ℕ → Option ℕ
+abbrev pub Compares : TableForm → ResultLimits → FileAnswers → Told → List ℕ → Option ℕ
     → Result Agreement CompareFault → Type 0
-Compares unit limits file stated name within (Ok a) = Agrees unit limits file stated name within a
-Compares unit limits file stated name within (Err (File NoStation)) =
+Compares form limits file stated name within (Ok a) = Agrees form limits file stated name within a
+Compares form limits file stated name within (Err (File NoStation)) =
     HasNoStation limits.faces file name
-Compares unit limits file stated name within (Err (File fault)) =
+Compares form limits file stated name within (Err (File fault)) =
     FileComesTo limits.faces file (Err fault)
-Compares unit limits file stated name within (Err Memory) = ⊤
-Compares unit limits file stated name within (Err fault) =
-    IsRefusedByTable unit limits file stated name within fault
+Compares form limits file stated name within (Err Memory) = ⊤
+Compares form limits file stated name within (Err fault) =
+    IsRefusedByTable form limits file stated name within fault
 
 -- How a fault leaves the table's reader: at one of the field file, or where that has no station of
 -- the name, it was not asked; at `TableRead` a read of it failed, and it has broken off; at a fault
@@ -51,6 +51,7 @@ Compares unit limits file stated name within (Err fault) =
 abbrev pub table_left : CompareFault → Leaving
 table_left (File fault) = Unasked
 table_left TableRead = BrokenOff
+table_left (Table (table.Columns first second)) = ReadOut
 table_left (Table (table.Row number kind)) = ReadOut
 table_left (Table (table.Missing target)) = ReadOut
 table_left (Adjust fault) = ReadOut

@@ -16,6 +16,7 @@ abbrev pub compare_place_text : CompareFault → List ℕ
 compare_place_text (File fault) = place_text fault
 compare_place_text TableRead = codes "table: "
 compare_place_text (Table table.TooLong) = codes "table: "
+compare_place_text (Table (table.Columns first second)) = codes "table: "
 compare_place_text (Table (table.Row number _)) = numbered_place (codes "table row ") number
 compare_place_text (Table (table.Missing target)) = codes "table: "
 compare_place_text (Adjust fault) = codes "adjust: "
@@ -25,6 +26,8 @@ compare_place_text fault = []
 -- What a fault carries.
 abbrev pub compare_carried_text : CompareFault → List ℕ
 compare_carried_text (File fault) = carried_text fault
+compare_carried_text (Table (table.Columns first second)) =
+    number_text (Some first) ++ number_text (Some second)
 compare_carried_text (Table (table.Missing target)) = number_text (Some target)
 compare_carried_text (Adjust (adjust.Residual number)) = number_text (Some number)
 compare_carried_text (Apart how_far) = codes " " ++ how_far_text how_far

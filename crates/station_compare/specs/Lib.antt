@@ -9,4 +9,9 @@ pub mod Faults
 pub mod FaultNames
 pub mod AgreementTexts
 pub mod FaultTexts
+pub mod HintTexts
+pub mod Refusals
+pub mod Hints
 pub mod Runs
+-- The inside.
+pub mod NameLists

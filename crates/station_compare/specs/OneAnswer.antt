@@ -12,7 +12,7 @@ use Rattle.station_book.specs.Stations.{SurveyedStation}
 use Rattle.station_check.specs.StationOfFile.{IsStationOfFile}
 use Rattle.station_compare.specs.declared.fault.CompareFault.{CompareFault}
 use Rattle.station_compare.specs.declared.fault.CompareFault.TheVariants.{Adjust, Memory}
-use Rattle.direction_table.specs.declared.unit.AngleUnit.{AngleUnit}
+use Rattle.direction_table.specs.declared.form.TableForm.{TableForm}
 
 -- The answer is of the input alone: not that memory ran out, nor that no adjustment was found.
 abbrev pub IsSettled : {A : Type 0} → Result A CompareFault → Type 0
@@ -28,7 +28,7 @@ IsNoMemory result = ⊤
 
 -- All before the adjustment is without fault: the file has a station of this name, whose
 -- observations hold all sets and targets together, and the bytes are a table of its directions.
-pub record IsUpToAdjustment (unit : AngleUnit) (limits : ResultLimits) (file : FileAnswers)
+pub record IsUpToAdjustment (form : TableForm) (limits : ResultLimits) (file : FileAnswers)
     (stated : Told)
     (name : List ℕ) : Type 0 where
   pub its : SurveyedStation
@@ -37,4 +37,4 @@ pub record IsUpToAdjustment (unit : AngleUnit) (limits : ResultLimits) (file : F
   pub bytes : List ℕ
   pub whole : input_within LONGEST_TABLE stated ≡ Ended bytes
   pub directions : List ℤ
-  pub states : IsTableText unit its.station.targets bytes directions
+  pub states : IsTableText form its.station.targets bytes directions

@@ -41,7 +41,9 @@ fn add_compare_place(line: &mut VerdictLine, fault: CompareFault)
             add_numbered_place(line, b"table row ", number);
         }
         CompareFault::TableRead
-        | CompareFault::Table(TableFault::TooLong | TableFault::Missing(_)) => {
+        | CompareFault::Table(
+            TableFault::TooLong | TableFault::Columns(_, _) | TableFault::Missing(_),
+        ) => {
             add(line, b"table: ");
         }
         CompareFault::Adjust(_) => add(line, b"adjust: "),
@@ -58,6 +60,10 @@ fn add_compare_carried(line: &mut VerdictLine, fault: CompareFault)
 {
     match fault {
         CompareFault::File(fault) => add_carried(line, fault),
+        CompareFault::Table(TableFault::Columns(first, second)) => {
+            add_number(line, Some(first));
+            add_number(line, Some(second));
+        }
         CompareFault::Table(TableFault::Missing(target)) => add_number(line, Some(target)),
         CompareFault::Adjust(AdjustFault::Residual(number)) => add_number(line, Some(number)),
         CompareFault::Apart(how_far) => {

@@ -27,7 +27,7 @@ abbrev pub IsBeforePoint : List ℕ → List ℕ → Type 0
 IsBeforePoint line told = (Lacks (codes ".") line × (told ≡ line))
     ⊎ ((after : List ℕ) × SplitsAtFirst (codes ".") line told after)
 
--- The fault that a line tells of, with the number that it carries: what stands after the line's
+-- The fault that a line tells of, with the numbers that it carries: what stands after the line's
 -- last ": ", or the whole of it where it has none.
 abbrev pub IsFaultIn : List ℕ → List ℕ → Type 0
 IsFaultIn line fault = (Lacks (codes ": ") line × (fault ≡ line))
@@ -38,17 +38,16 @@ IsFaultIn line fault = (Lacks (codes ": ") line × (fault ≡ line))
 abbrev pub IsNumber : List ℕ → Type 0
 IsNumber word = All (λ c. IsTrue (is_ascii_digit c)) word
 
--- The name of a fault with the number that it carries: the last word is left out where it is a
--- number.
-abbrev pub IsNameIn : List ℕ → List ℕ → Type 0
-IsNameIn fault name = (Lacks (codes " ") fault × (name ≡ fault))
+-- A fault without the last number that it carries: the last word is left out where it is a number.
+abbrev pub LeavesNumber : List ℕ → List ℕ → Type 0
+LeavesNumber fault left = (Lacks (codes " ") fault × (left ≡ fault))
     ⊎ ((before : List ℕ) × (word : List ℕ) × SplitsAtLast (codes " ") fault before word
-    × ((IsNumber word × (name ≡ before)) ⊎ (¬ (IsNumber word) × (name ≡ fault))))
+    × ((IsNumber word × (left ≡ before)) ⊎ (¬ (IsNumber word) × (left ≡ fault))))
 
--- A line, or a part of it, has this name of a fault.
+-- A line, or a part of it, has this name of a fault, which carries two numbers at most.
 abbrev pub Names : List ℕ → List ℕ → Type 0
-Names line name = (told : List ℕ) × (fault : List ℕ) × IsBeforePoint line told
-    × IsFaultIn told fault × IsNameIn fault name
+Names line name = (told : List ℕ) × (fault : List ℕ) × (left : List ℕ) × IsBeforePoint line told
+    × IsFaultIn told fault × LeavesNumber fault left × LeavesNumber left name
 
 -- The fault has this name, written just so.
 abbrev pub HasName : List ℕ → Explanation → Type 0

@@ -125,14 +125,14 @@ pub fn explanation_meant<'a>(groups: &[&'a [Explanation]], name: &str) -> Option
 
 /// The explanations of all faults that the line of a refusal can name, in groups, about in the
 /// order in which they are looked for.
-pub fn all_explanations() -> [&'static [Explanation]; 14]
+pub fn all_explanations() -> [&'static [Explanation]; 15]
     ensures { IsTheTable result }
 {
     EXPLANATIONS
 }
 
 /// The table that `all_explanations` hands out.
-const EXPLANATIONS: [&[Explanation]; 14] = [
+const EXPLANATIONS: [&[Explanation]; 15] = [
     FILE_FAULTS,
     STATION_FAULTS,
     NUMBER_FAULTS,
@@ -141,6 +141,7 @@ const EXPLANATIONS: [&[Explanation]; 14] = [
     BLOCK_MARK_FAULTS,
     SET_MARK_FAULTS,
     STATED_MARK_FAULTS,
+    CHANGE_FAULTS,
     ROW_FAULTS,
     VALUE_FAULTS,
     MATCH_FAULTS,
@@ -214,8 +215,8 @@ Look at that word. A cut word in the last line means that the transfer broke off
 transfer the file again, or leave the line out. Two lines in one mean that files were joined of
 which the first lacked its last line end: join them again with one. Two blanks between words, or one
 before the first, are too many. The words of a line have 16 bytes of content if it begins with '*',
-and else 8. For a line of titles, check a copy without it, by 'prepare.py --blocks' of the examples;
-for a sheet, name GSI first and SHEET second.",
+and else 8. For a line of titles, check a copy without it, by 'change --leave-out BLOCK'; for a
+sheet, name GSI first and SHEET second.",
     },
     Said {
         names: &["FirstWord"],
@@ -253,7 +254,7 @@ in one face and not in the other. The end of the file has the number after the l
         remedy: "\
 Look in 'station_check words GSI' for the target that stands once in the set: its
 readings are the blocks before this one, back to its code 20. A name that is spelled in two ways is
-two targets: of the examples, prepare.py gives a block another name in a copy. If a face is missing,
+two targets: 'change --rename BLOCK=NAME' gives one another name in a copy. If a face is missing,
 or the set was broken off, check a copy without the other reading or without the set: prepare.py has
 --blocks and --set for that. Record detail points after code 30.",
     },
@@ -547,13 +548,16 @@ stations is to be divided first: 'mark' cannot see where another begins.",
     },
     Said {
         names: &["NameTooLong"],
-        meaning: "the name of the station is too long for a line of GSI-8",
+        meaning: "the name is too long for the line",
         when: "\
-The code lines get the width of the lines beside them. The name has more than 8 characters, and the
-first reading in a set stands in a line of GSI-8.",
+A name of more than 8 characters has no room in a line of GSI-8. Of 'mark' it is the station's: the
+code lines get the width of the lines beside them, and the first reading in a set stands in such a
+line. Of 'change' it is the name that --rename states for this line; a line of GSI-16 has room for
+16 characters.",
         example: "refused: block 1: mark: NameTooLong",
         remedy: "\
-State a shorter name with --station; or rename the set-up line in a copy.",
+State a shorter name, with --station or with --rename; or rename the line that sets up
+in a copy.",
     },
     Said {
         names: &["Empty"],
@@ -764,7 +768,7 @@ target. Detail that is read in face I alone may have such a name.",
 See in the field book where the instrument was set up. If it was moved before this
 reading, mark two copies, each with its own --station NAME: with 'prepare.py --blocks' of the
 examples leave out all from there on in one, and all before it in the other. If a name is wrong,
-'prepare.py --rename BLOCK NAME' gives it in a copy.",
+'change --rename BLOCK=NAME' gives another in a copy.",
     },
     Said {
         names: &["ByTargets"],
@@ -814,6 +818,53 @@ set, leave its blocks out of a copy with --blocks, and mark that.",
     },
 ];
 
+/// Faults of changes of lines.
+const CHANGE_FAULTS: &[Explanation] = &[
+    Said {
+        names: &["NoSuchLine"],
+        meaning: "the file has no line of this number",
+        when: "\
+A change is stated of this line, and the file has fewer. Lines count from 1 as the blocks of
+refusals do: a line of blanks has no number.",
+        example: "refused: block 62: change: NoSuchLine",
+        remedy: "\
+See the numbers in the first column of 'station_check words GSI'. All are those of the
+field file, whatever is left out before them; a refusal of a copy counts the lines of the copy.",
+    },
+    Said {
+        names: &["LineOrder"],
+        meaning: "a change is stated of a line that has one, or of line 0",
+        when: "\
+Each line may be left out or renamed once, and lines count from 1. On the command line the changes
+stand in any order. In the library each is of a line after that of the change before.",
+        example: "refused: block 9: change: LineOrder",
+        remedy: "\
+State one change of this line.",
+    },
+    Said {
+        names: &["ZeroBefore"],
+        meaning: "the name for this line begins with a zero",
+        when: "\
+A name stands in its word with zeros before it, so it is read without them: 007 would be read as 7.
+The name 0 alone may be stated.",
+        example: "refused: block 9: change: ZeroBefore",
+        remedy: "\
+State the name without the zeros before it.",
+    },
+    Said {
+        names: &["NoPoint"],
+        meaning: "this line cannot have the name of a point",
+        when: "\
+The line would be no measurement with the name: no block that begins with word 11. It is a code
+block, or a line of titles; or it is cut off, or has a word that is none.",
+        example: "refused: block 1: change: NoPoint",
+        remedy: "\
+See the line in 'station_check words GSI'. Of what is no measurement, leave the line
+out. To give a code block another word 42, 'prepare.py --rename BLOCK NAME' of the
+examples writes a copy.",
+    },
+];
+
 /// Faults of the bytes and the first rows of a sheet.
 const ROW_FAULTS: &[Explanation] = &[
     Said {
@@ -830,9 +881,10 @@ See that the path names a sheet or a table: none that a station needs is so long
         meaning: "this row has the wrong number of columns",
         when: "\
 A row of a sheet has five columns, separated by four commas; columns may be empty. A row of a table
-has two, the name and the direction, and after them blank ones alone. The first row of a table tells
-what separates the columns of all: commas, semicolons, tabs or blanks. A column that begins with a
-quote goes on to the next quote, over separators and ends of lines.",
+has two, the name and the direction, and after them blank ones alone; or it has more, of which one
+pair fits or is stated. The first row of a table of two tells what separates them: commas,
+semicolons, tabs or blanks. A column that begins with a quote goes on to the next quote, over
+separators and ends of lines.",
         example: "refused: sheet row 3: Fields",
         remedy: "\
 Look at the separators and quotes of that row. A line of blanks or a comment is a row
@@ -840,8 +892,8 @@ too: leave it out. A spreadsheet may have written the sheet with semicolons in p
 table in UTF-16 has this fault in row 2: save it as plain text, in ASCII or UTF-8. In quotes stands
 a name that has the separator, and a direction with a decimal comma if commas separate. If row 1 has
 this fault, see that SHEET or TABLE names the right file; if row 2 of a table has it, titles may be
-separated in another way than the rows: leave them out. Of a table with more columns, keep the two
-of the name and the direction.",
+separated in another way than the rows: leave them out. Of a table with more columns state those of
+the names and of the directions, as '--columns 2,5'.",
     },
     Said {
         names: &["Kind"],
@@ -894,17 +946,17 @@ const VALUE_FAULTS: &[Explanation] = &[
 A number of a sheet is written as '0', or as a digit 1 to 9 with further digits, with a leading '-'
 if it is negative: with no point, blank, plus or zero before it. A direction of a table has at most
 3 digits before its decimal point or comma, a '+' or '-' before them if need be, any number of
-decimals, and no unit. An exponent has its sign, as 1.5e-05 or 1.39e+02. With --degrees there may be
-minutes and seconds, as 59-04-09.18: of two digits each, below 60, and with any decimals of the
-seconds.",
+decimals, and no unit but 'gon'. An exponent has its sign, as 1.5e-05 or 1.39e+02. With --degrees
+there may be minutes and seconds, as 59-04-09.18: of two digits each, below 60, and with any
+decimals of the seconds; with --dmmss they stand after the point, as 59.040918.",
         example: "refused: sheet row 3: Number",
         remedy: "\
 Write the number so. Directions and orientations of a sheet are whole numbers too: they
 are in half units of 0.005 mgon, times the denominator of the sheet. Those of a table are in gon, or
-in degrees if --degrees is stated: state it for 59-04-09.18 and the like. In place of the hyphens
-there may be the sign of degrees in UTF-8, ' and \", but not the typographic signs of minutes and
-seconds. Leave out the unit. A table has one row of titles at most, its
-first, which may not begin with a target's name: leave out others.",
+in degrees if --degrees is stated: state it for 59-04-09.18 and the like, with colons, blanks or the
+signs of degrees, minutes and seconds (UTF-8) in place of the hyphens. Leave out any unit but 'gon'.
+If the row names no target, state the columns of the names and of the directions, as
+'--columns 1,2': then a row that is wrong is named, and titles or sums are passed over.",
     },
     Said {
         names: &["Range"],
@@ -913,7 +965,7 @@ first, which may not begin with a target's name: leave out others.",
 The denominator is 1 to 10^9, directions and orientations are -10^18 to 10^18; in version 2 these
 are 1 to 10^12, and -10^21 to 10^21. The number of a set is 1 to 9999, a two-face direction 0 to
 79999999, and full turns are -9 to 9. A direction of a table is from -400 to 400 gon, or with
---degrees from -360 to 360 degrees.",
+--degrees or --dmmss from -360 to 360 degrees.",
         example: "refused: sheet row 3: Range",
         remedy: "\
 See what made the number so large. A two-face direction is in half units of 0.005 mgon.
@@ -1098,6 +1150,17 @@ Leave out one of the two rows. If they differ, see which of them is the adjusted
 direction.",
     },
     Said {
+        names: &["Columns"],
+        meaning: "more columns of the table fit than one",
+        when: "\
+The table has more than two columns, and these two, counted from 1, both name each target of the
+station, or both have a direction in each row of a target.",
+        example: "refused: table: Columns 3 4",
+        remedy: "\
+State which column names the targets and which has their directions, by their numbers:
+'--columns 2,4'. If the two are degrees and minutes, with seconds after them, state --degrees.",
+    },
+    Said {
         names: &["Missing"],
         meaning: "a target of the station has no row in the table",
         when: "\
@@ -1142,7 +1205,8 @@ target, since all others take the other half: 1 mgon shows as 0.500 mgon, and in
 0.500 beside -0.500. If one row stands out, see what the program did: plain means of incomplete
 sets, weights and observations that it left out give other directions. If all rows differ by no more
 than the program rounds, as where it prints six digits of each number, state the first number of the
-line, as '--within 0.015mgon'. If the program prints degrees, state --degrees.",
+line, as '--within 0.015mgon'. If the program prints degrees, state --degrees; if 59.040918 is
+59-04-09.18 there, --dmmss.",
     },
 ];
 

@@ -1,14 +1,15 @@
 //! The name of a fault in a line that names it.
 
 ghost use Rattle.std.specs.Prelude.{◌↔◌, IsTrue};
-ghost use Rattle.station_explain.specs.Naming.{Names, IsBeforePoint, IsFaultIn, IsNameIn, IsNumber};
+ghost use Rattle.station_explain.specs.Naming.{Names, IsBeforePoint, IsFaultIn, LeavesNumber};
+ghost use Rattle.station_explain.specs.Naming.{IsNumber};
 
 /// The name of a fault in the line of a refusal, or in a part of it: without what stands before it,
-/// and without the numbers that it carries.
+/// and without the numbers that it carries, two at most.
 pub fn fault_named_in(line: &str) -> &str
     ensures { Names line.now result.now }
 {
-    name_in(fault_in(before_point(line)))
+    without_number(without_number(fault_in(before_point(line))))
 }
 
 /// A line up to its first point, which stands in a number with decimals.
@@ -31,9 +32,9 @@ fn fault_in(line: &str) -> &str
     }
 }
 
-/// The name of a fault, without the number that it carries.
-fn name_in(fault: &str) -> &str
-    ensures { IsNameIn fault.now result.now }
+/// A fault without the last number that it carries.
+fn without_number(fault: &str) -> &str
+    ensures { LeavesNumber fault.now result.now }
 {
     match fault.rsplit_once(" ") {
         Some((name, word)) => { if is_number(word) { name } else { fault } }

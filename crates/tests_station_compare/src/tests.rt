@@ -4,8 +4,9 @@ mod ends;
 
 use adjust_kernel::{Name, ResidualLimit};
 use byte_ends::{Held, Script};
-use direction_table::{AngleUnit, Decimals, RowKind, TableFault};
+use direction_table::{AngleUnit, Decimals, RowKind, TableFault, TableForm};
 use exact_adjustment::AdjustFault;
+use row_forms::RowForm;
 use station_answers::{Directions, answer_of};
 use station_book::{Limits, ResultLimits};
 use station_check::Fault;
@@ -38,6 +39,14 @@ fn far(apart: u32, limit: u32) -> Result<HowFar, CompareFault> {
     Err(CompareFault::Apart(HowFar { apart, limit }))
 }
 
+/// How a table in this unit is read, no columns of which are stated.
+fn in_unit(unit: AngleUnit) -> TableForm {
+    TableForm {
+        unit,
+        columns: None,
+    }
+}
+
 /// How far apart the directions of a table are, or why not told.
 fn compared(
     rt: &impl Abort,
@@ -62,7 +71,8 @@ fn compared_in(
 ) -> Result<HowFar, CompareFault> {
     let gsi = Script::new(gsi, usize::MAX, false);
     let mut table = Script::new(table, usize::MAX, false);
-    let answer = compare_bytes(alloc, gsi, &mut table, unit, name, limits(rt), within);
+    let form = in_unit(unit);
+    let answer = compare_bytes(alloc, gsi, &mut table, form, name, limits(rt), within);
     answer.map(|agreement| agreement.how_far)
 }
 
@@ -216,19 +226,20 @@ fn a_residual_at_the_limit_is_kept_and_a_half_unit_below_it_refused(
         let gsi = Script::new(S1, usize::MAX, false);
         let mut table = Script::new(table, usize::MAX, false);
         let limits = held_to(&rt, residual);
-        let unit = AngleUnit::Gon;
-        let answer = compare_bytes(rt.alloc(), gsi, &mut table, unit, b"S1", limits, None);
+        let form = in_unit(AngleUnit::Gon);
+        let answer = compare_bytes(rt.alloc(), gsi, &mut table, form, b"S1", limits, None);
         assert_eq!(rt; answer.map(|agreement| agreement.how_far), want);
     }
     let asked = Directions {
         decimals: Decimals::new(6).expect(&rt, "decimals"),
+        form: RowForm::Commas,
     };
     let refused = Some(CompareFault::Adjust(AdjustFault::Residual(1)));
     for (residual, want) in [(1, None), (0, refused)] {
         let gsi = Script::new(S1, usize::MAX, false);
         let limits = held_to(&rt, residual);
         let (answer, _gsi) = answer_of(rt.alloc(), gsi, b"S1", limits, &asked);
-        assert_eq!(rt; answer.err(), want);
+        assert_eq!(rt; answer.err().map(|refusal| refusal.fault), want);
     }
     Ok(())
 }
@@ -238,8 +249,8 @@ fn an_agreement_has_the_greatest_residual(rt: HostRuntime) -> Result<(), Fail> {
     // 1 half unit, 0.005 mgon, is 5 units of 0.001 mgon.
     let gsi = Script::new(S1, usize::MAX, false);
     let mut table = Script::new(b"A,0\nB,50.00003\n", usize::MAX, false);
-    let unit = AngleUnit::Gon;
-    let answer = compare_bytes(rt.alloc(), gsi, &mut table, unit, b"S1", limits(&rt), None);
+    let form = in_unit(AngleUnit::Gon);
+    let answer = compare_bytes(rt.alloc(), gsi, &mut table, form, b"S1", limits(&rt), None);
     assert_eq!(rt; answer.map(|agreement| agreement.greatest), Ok(5));
     Ok(())
 }
@@ -310,7 +321,13 @@ fn a_run_prints_its_line_and_answers_its_status(rt: HostRuntime) -> Result<(), F
             b"agrees S1: 2 sets, 2 targets, within 0.000 mgon, limit 0.010 mgon, greatest residual 0.005 mgon\n",
             b"",
         ),
-        (b"A,0\n", false, 1, b"", b"refused: table: Missing 2\n"),
+        (
+            b"A,0\n",
+            false,
+            1,
+            b"",
+            b"refused: table: Missing 2\nthe table lacks B\n",
+        ),
         (b"A,0\n", true, 1, b"", b"refused: table: Read\n"),
     ];
     for (table, fails, status, printed, refused) in cases {
@@ -324,7 +341,7 @@ fn a_run_prints_its_line_and_answers_its_status(rt: HostRuntime) -> Result<(), F
             alloc,
             gsi,
             &mut table,
-            AngleUnit::Gon,
+            in_unit(AngleUnit::Gon),
             b"S1",
             limits,
             None,

@@ -189,7 +189,7 @@ fn a_field_file_has_residuals_or_its_first_fault(rt: HostRuntime) -> Result<(), 
         let (answer, _gsi) = answer_of(rt.alloc(), gsi, name, limits(&rt), &Residuals);
         match (answer, want) {
             (Ok(text), Ok(want)) => assert_eq!(rt; text.as_slice(), want),
-            (Err(fault), Err(want)) => assert_eq!(rt; fault, want),
+            (Err(refusal), Err(want)) => assert_eq!(rt; refusal.fault, want),
             _ => assert!(rt; false),
         }
     }
@@ -200,7 +200,13 @@ fn a_field_file_has_residuals_or_its_first_fault(rt: HostRuntime) -> Result<(), 
 fn a_run_prints_its_text_and_answers_its_status(rt: HostRuntime) -> Result<(), Fail> {
     let cases: [(&[u8], bool, u8, &[u8], &[u8]); 3] = [
         (b"S1", false, 0, RESIDUALS, b""),
-        (b"S2", false, 1, b"", b"refused: no station\n"),
+        (
+            b"S2",
+            false,
+            1,
+            b"",
+            b"refused: no station\nthe file has S1\n",
+        ),
         (b"S1", true, 1, b"", b"refused: block 13: Read\n"),
     ];
     for (name, fails, status, printed, refused) in cases {
@@ -223,7 +229,10 @@ fn a_writer_without_room_or_whose_flush_fails_is_told(rt: HostRuntime) -> Result
         let mut out = Held::new(rt.alloc(), room, 7, flush_fails).map_err(|_| "no memory")?;
         let limits = limits(&rt);
         let answer = write_answer(rt.alloc(), gsi, b"S1", limits, &Residuals, &mut out);
-        assert_eq!(rt; answer, Err(CompareFault::Write));
+        assert_eq!(rt;
+            answer.map_err(|refusal| refusal.fault),
+            Err(CompareFault::Write)
+        );
         let written = room.min(RESIDUALS.len());
         assert_eq!(rt; out.bytes(), &RESIDUALS[..written]);
     }

@@ -1,8 +1,9 @@
 //! Readers that fail or end once and writers that fail once, and go on after, at both commands.
 
-use super::{S1, limits};
+use super::{S1, in_unit, limits};
 use byte_ends::{Held, OfRead, OfWrite, Script, Sink, Source};
 use direction_table::{AngleUnit, Decimals};
+use row_forms::RowForm;
 use station_answers::{Directions, run_answer};
 use std::alloc::Global;
 use std::process::Abort;
@@ -50,7 +51,7 @@ impl Command {
                 alloc,
                 gsi,
                 table,
-                AngleUnit::Gon,
+                in_unit(AngleUnit::Gon),
                 b"S1",
                 limits,
                 None,
@@ -60,6 +61,7 @@ impl Command {
             Command::Directions => {
                 let asked = Directions {
                     decimals: Decimals::new(6).expect(rt, "decimals"),
+                    form: RowForm::Commas,
                 };
                 run_answer(alloc, gsi, b"S1", limits, &asked, out, err)
             }
