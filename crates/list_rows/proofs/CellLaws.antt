@@ -1,4 +1,4 @@
--- Cells: what `csv` writes of a name, and of numbers, which call for no quotes.
+-- Cells: what `csv` writes of a name, and of numbers, which call for no quotes in either form.
 use Rattle.std.proofs.Common.{◌≡◌, ℕ, ◌+◌, ◌/◌, ◌%◌, ◌<◌, ◌≤◌, ◌^◌, List, [], ◌∷◌, ◌++◌}
 use Rattle.std.proofs.Common.{true, false, ap, append_assoc, arith, length, refl, zero, suc}
 use Rattle.std.proofs.Common.{FitsSigned, ℤ, pos, negsuc, ◌-◌, ◌∙◌, length-append}
@@ -14,127 +14,162 @@ use Rattle.std.proofs.lemmas.List.{length-take-le, take-take, take_at}
 use Rattle.std.proofs.Math.Seq.{take-append-add}
 use Rattle.std.proofs.lemmas.List.Folds.{list_any-append}
 use Rattle.adjust_kernel.specs.Names.{IsName}
-use Rattle.csv.specs.Writing.{default_writer, field_text, fields_text, is_blank, needs_byte}
+use Rattle.csv.specs.Writing.{field_text, fields_text, is_blank, needs_byte}
 use Rattle.csv.specs.Writing.{needs_quotes, quoted, row_text}
-use Rattle.angle_texts.specs.MgonTexts.{hundredths_text, short_mgon_text, sign_text}
-use Rattle.direction_table.specs.Texts.{decimals_of, direction_text}
-use Rattle.list_rows.specs.RowPieces.{cell_text}
+use Rattle.angle_texts.specs.MgonTexts.{sign_text}
+use Rattle.direction_table.specs.Texts.{decimals_of}
+use Rattle.list_rows.specs.RowPieces.{cell_text, gon_text, hundredths_text, mgon_text}
 use Rattle.list_rows.specs.RowTexts.{titles}
 use Rattle.sheet_format.proofs.CanonicalDecimals.{numerals}
-use Rattle.sheet_format.proofs.TextLengths.{length-field}
+use Rattle.row_forms.proofs.FieldLengths.{length-field}
+use Rattle.row_forms.specs.Forms.{point_of, separator, writer_of}
+use Rattle.row_forms.specs.declared.form.RowForm.{RowForm}
+use Rattle.row_forms.specs.declared.form.RowForm.TheVariants.{Commas, Semicolons}
 
 -- A field is plain that calls for no quotes.
-abbrev pub IsPlain : List ℕ → Type 0
-IsPlain field = needs_quotes default_writer field ≡ false
+abbrev pub IsPlain : RowForm → List ℕ → Type 0
+IsPlain form field = needs_quotes (writer_of form) field ≡ false
 
 -- A plain field is written as it is.
-pub plain-field : (field : List ℕ) → IsPlain field → field_text default_writer field ≡ field
-plain-field field h = ap (λ b. if b then quoted default_writer field else field) h
+pub plain-field : (form : RowForm) (field : List ℕ) → IsPlain form field
+    → field_text (writer_of form) field ≡ field
+plain-field form field h = ap (λ b. if b then quoted (writer_of form) field else field) h
 
 -- Two plain fields make a plain one.
-pub plain-both : (a b : List ℕ) → IsPlain a → IsPlain b → IsPlain (a ++ b)
-plain-both a b ha hb = rw (list_any-append (needs_byte default_writer) a b, ha, hb) refl
+pub plain-both : (form : RowForm) (a b : List ℕ) → IsPlain form a → IsPlain form b
+    → IsPlain form (a ++ b)
+plain-both form a b ha hb = rw (list_any-append (needs_byte (writer_of form)) a b, ha, hb) refl
 
--- A digit, a sign or a point is plain.
-byte-plain : (b : ℕ) → 45 ≤ b → b ≤ 57 → needs_byte default_writer b ≡ false
-byte-plain b low high = rw (
+-- A digit or a minus is plain.
+byte-plain : (form : RowForm) (b : ℕ) → 45 ≤ b → b ≤ 57 → needs_byte (writer_of form) b ≡ false
+byte-plain Commas b low high = rw (
   ne_eqb b 44 (omega (arith, low)),
   ne_eqb b 34 (omega (arith, low)),
   ne_eqb b 13 (omega (arith, low)),
   ne_eqb b 10 (omega (arith, low)),
 ) refl
+byte-plain Semicolons b low high = rw (
+  ne_eqb b 59 (omega (arith, high)),
+  ne_eqb b 34 (omega (arith, low)),
+  ne_eqb b 13 (omega (arith, low)),
+  ne_eqb b 10 (omega (arith, low)),
+) refl
 
-one-plain : (b : ℕ) → 45 ≤ b → b ≤ 57 → IsPlain (b ∷ [])
-one-plain b low high = rw (byte-plain b low high) refl
+one-plain : (form : RowForm) (b : ℕ) → 45 ≤ b → b ≤ 57 → IsPlain form (b ∷ [])
+one-plain form b low high = rw (byte-plain form b low high) refl
 
-digits-plain : (ds : List ℕ) → list_all is_ascii_digit ds ≡ true → IsPlain ds
-digits-plain [] e = refl
-digits-plain (d ∷ ds) e =
+digits-plain : (form : RowForm) (ds : List ℕ) → list_all is_ascii_digit ds ≡ true
+    → IsPlain form ds
+digits-plain form [] e = refl
+digits-plain form (d ∷ ds) e =
     let parts = and_parts (is_ascii_digit d) (list_all is_ascii_digit ds) e in
     let digit : (48 ≤ d) × (d ≤ 57) = grind (arith, nat_tests, parts.0) in
-    plain-both (d ∷ []) ds (one-plain d (omega (arith, digit.0)) digit.1)
-    (digits-plain ds parts.1)
+    plain-both form (d ∷ []) ds (one-plain form d (omega (arith, digit.0)) digit.1)
+    (digits-plain form ds parts.1)
 
 -- A number is plain.
-pub decimal-plain : (n : ℕ) → n < 2 ^ 64 → IsPlain (decimal n)
-decimal-plain n fits = digits-plain (decimal n) (digits_decimal numerals n fits)
+pub decimal-plain : (form : RowForm) (n : ℕ) → n < 2 ^ 64 → IsPlain form (decimal n)
+decimal-plain form n fits = digits-plain form (decimal n) (digits_decimal numerals n fits)
 
-last-digit-plain : (n : ℕ) → IsPlain ((48 + n % 10) ∷ [])
-last-digit-plain n = one-plain (48 + n % 10) (omega arith) (omega arith)
+-- The point of a form is plain.
+point-plain : (form : RowForm) → IsPlain form (point_of form ∷ [])
+point-plain Commas = refl
+point-plain Semicolons = refl
 
-decimals-plain : (count n : ℕ) → IsPlain (decimals_of count n)
-decimals-plain zero n = refl
-decimals-plain (suc k) n =
-    plain-both (decimals_of k n) _ (decimals-plain k n) (last-digit-plain (n / 10 ^ (8 - k)))
+last-digit-plain : (form : RowForm) (n : ℕ) → IsPlain form ((48 + n % 10) ∷ [])
+last-digit-plain form n = one-plain form (48 + n % 10) (omega arith) (omega arith)
+
+decimals-plain : (form : RowForm) (count n : ℕ) → IsPlain form (decimals_of count n)
+decimals-plain form zero n = refl
+decimals-plain form (suc k) n =
+    plain-both form (decimals_of k n) _ (decimals-plain form k n)
+    (last-digit-plain form (n / 10 ^ (8 - k)))
 
 -- A direction is plain.
-pub gon-plain : (n : ℕ) → n < 2 ^ 64 → IsPlain (direction_text 6 n)
-gon-plain n fits =
-    plain-both (decimal (n / 10 ^ 9)) _ (decimal-plain (n / 10 ^ 9) (omega (arith, fits)))
-    (plain-both (46 ∷ []) (decimals_of 6 n) refl (decimals-plain 6 n))
+pub gon-plain : (form : RowForm) (n : ℕ) → n < 2 ^ 64 → IsPlain form (gon_text form n)
+gon-plain form n fits =
+    plain-both form (decimal (n / 10 ^ 9)) _
+    (decimal-plain form (n / 10 ^ 9) (omega (arith, fits)))
+    (plain-both form (point_of form ∷ []) (decimals_of 6 n) (point-plain form)
+    (decimals-plain form 6 n))
 
-sign-plain : (units : ℤ) → IsPlain (sign_text units)
-sign-plain (pos n) = refl
-sign-plain (negsuc n) = refl
+sign-plain : (form : RowForm) (units : ℤ) → IsPlain form (sign_text units)
+sign-plain form (pos n) = refl
+sign-plain Commas (negsuc n) = refl
+sign-plain Semicolons (negsuc n) = refl
 
-hundredths-plain : (n : ℕ) → n < 2 ^ 64 → IsPlain (hundredths_text n)
-hundredths-plain n fits =
+hundredths-plain : (form : RowForm) (n : ℕ) → n < 2 ^ 64 → IsPlain form (hundredths_text form n)
+hundredths-plain form n fits =
     let tenths = (48 + n / 10 % 10) ∷ [] in
     let hundredths = (48 + n % 10) ∷ [] in
-    plain-both (decimal (n / 100)) (46 ∷ (tenths ++ hundredths))
-    (decimal-plain (n / 100) (omega (arith, fits)))
-    (plain-both (46 ∷ []) (tenths ++ hundredths) refl
-    (plain-both tenths hundredths (last-digit-plain (n / 10)) (last-digit-plain n)))
+    plain-both form (decimal (n / 100)) (point_of form ∷ (tenths ++ hundredths))
+    (decimal-plain form (n / 100) (omega (arith, fits)))
+    (plain-both form (point_of form ∷ []) (tenths ++ hundredths) (point-plain form)
+    (plain-both form tenths hundredths (last-digit-plain form (n / 10)) (last-digit-plain form n)))
 
-size-fits : (units : ℤ) → FitsSigned w32 units → unsigned_abs units < 2 ^ 64
+pub size-fits : (units : ℤ) → FitsSigned w32 units → unsigned_abs units < 2 ^ 64
 size-fits (pos n) h = omega (arith, h.sfits)
 size-fits (negsuc n) h = omega (arith, h.sfits)
 
 -- A face difference is plain.
-pub mgon-plain : (units : ℤ) → FitsSigned w32 units → IsPlain (short_mgon_text units)
-mgon-plain units fits =
-    plain-both (sign_text units) (hundredths_text (unsigned_abs units)) (sign-plain units)
-    (hundredths-plain (unsigned_abs units) (size-fits units fits))
+pub mgon-plain : (form : RowForm) (units : ℤ) → FitsSigned w32 units
+    → IsPlain form (mgon_text form units)
+mgon-plain form units fits =
+    plain-both form (sign_text units) (hundredths_text form (unsigned_abs units))
+    (sign-plain form units) (hundredths-plain form (unsigned_abs units) (size-fits units fits))
 
 -- A row of six fields, of which the first and the third are names.
-pub six-pieces : (station set target direction two_c two_i : List ℕ)
-    → IsPlain set → IsPlain direction → IsPlain two_c → IsPlain two_i
-    → (cell_text station ++ (set ++ (44 ∷ []))) ++ (cell_text target
-    ++ (direction ++ (44 ∷ (two_c ++ (44 ∷ (two_i ++ (10 ∷ [])))))))
-    ≡ row_text default_writer (station ∷ set ∷ target ∷ direction ∷ two_c ∷ two_i ∷ [])
+pub six-pieces : (form : RowForm) (station set target direction two_c two_i : List ℕ)
+    → IsPlain form set → IsPlain form direction → IsPlain form two_c → IsPlain form two_i
+    → (cell_text form station ++ (set ++ (separator form ∷ []))) ++ (cell_text form target
+    ++ (direction ++ (separator form
+    ∷ (two_c ++ (separator form ∷ (two_i ++ (10 ∷ [])))))))
+    ≡ row_text (writer_of form) (station ∷ set ∷ target ∷ direction ∷ two_c ∷ two_i ∷ [])
 unfolding fields_text is_blank
-six-pieces station set target direction two_c two_i ps pd pc pi =
-    rw (plain-field set ps, plain-field direction pd, plain-field two_c pc, plain-field two_i pi)
-    (simp append_assoc refl)
+six-pieces form station set target direction two_c two_i ps pd pc pi =
+    rw (
+      plain-field form set ps,
+      plain-field form direction pd,
+      plain-field form two_c pc,
+      plain-field form two_i pi,
+    ) (simp append_assoc refl)
 
 -- The row of a name and an empty field.
-pub name-row : (name : List ℕ) → row_text default_writer (name ∷ [] ∷ [])
-    ≡ cell_text name ++ (10 ∷ [])
+pub name-row : (form : RowForm) (name : List ℕ) → row_text (writer_of form) (name ∷ [] ∷ [])
+    ≡ cell_text form name ++ (10 ∷ [])
 unfolding fields_text is_blank
-name-row name = refl
+name-row form name = refl
 
--- The row of titles.
-pub title-row : codes "station,set,target,direction,2c,2i\n" ≡ row_text default_writer titles
+-- The rows of titles.
+pub title-row : codes "station,set,target,direction,2c,2i\n" ≡ row_text (writer_of Commas) titles
 unfolding fields_text is_blank
 title-row = refl
 
+pub title-row-of-semicolons : codes "station;set;target;direction;2c;2i\n"
+    ≡ row_text (writer_of Semicolons) titles
+unfolding fields_text is_blank
+title-row-of-semicolons = refl
+
 -- Of a row of a name and an empty field, all but its last two bytes are the name.
-pub name-part : (row name : List ℕ) → row ≡ row_text default_writer (name ∷ [] ∷ [])
-    → take (length row - 2) row ≡ field_text default_writer name
-name-part row name is =
-    let field = field_text default_writer name in
-    let whole : row ≡ field ++ (44 ∷ 10 ∷ []) =
-    is ∙ name-row name ∙ append_assoc field (44 ∷ []) (10 ∷ []) in
-    let count = ap length whole ∙ length-append field (44 ∷ 10 ∷ []) in
+pub name-part : (form : RowForm) (row name : List ℕ)
+    → row ≡ row_text (writer_of form) (name ∷ [] ∷ [])
+    → take (length row - 2) row ≡ field_text (writer_of form) name
+name-part form row name is =
+    let field = field_text (writer_of form) name in
+    let end = separator form ∷ 10 ∷ [] in
+    let whole : row ≡ field ++ end =
+    is ∙ name-row form name ∙ append_assoc field (separator form ∷ []) (10 ∷ []) in
+    let count = ap length whole ∙ length-append field end in
     ap (take (length row - 2)) whole
-    ∙ take_at field (44 ∷ 10 ∷ []) (length row - 2) (omega (arith, count))
+    ∙ take_at field end (length row - 2) (omega (arith, count))
 
 -- A cell of a name is short.
-pub cell-short : (name : List ℕ) → IsName name → length (cell_text name) ≤ 35
-cell-short name is = omega (
+pub cell-short : (form : RowForm) (name : List ℕ) → IsName name
+    → length (cell_text form name) ≤ 35
+cell-short form name is = omega (
   arith,
-  length-append (field_text default_writer name) (44 ∷ []),
-  length-field name,
+  length-append (field_text (writer_of form) name) (separator form ∷ []),
+  length-field form name,
   is.short,
 )
 

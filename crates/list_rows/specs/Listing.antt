@@ -2,6 +2,7 @@
 use Rattle.std.specs.Prelude.{◌≡◌, ℕ, List, Result, Ok, Err, ⊤}
 use Rattle.gsi_file.specs.FileAnswers.{FileAnswers}
 use Rattle.list_rows.specs.RowTexts.{stations_text}
+use Rattle.row_forms.specs.declared.form.RowForm.{RowForm}
 use Rattle.station_book.specs.Limits.{FaceLimits}
 use Rattle.station_book.specs.Stations.{SurveyedStation}
 use Rattle.station_check.specs.NotedSurveys.{IsNotedSurvey}
@@ -14,16 +15,16 @@ pub record NotedText : Type 0 where
   pub text : List ℕ
   pub unchecked : ℕ
 
--- The file ended without a fault, the text has the rows of its stations, and so many of its
--- readings went unchecked.
-pub record IsListOfRows (limits : FaceLimits) (file : FileAnswers) (list : NotedText)
-    : Type 0 where
+-- The file ended without a fault, the text has the rows of its stations in this form, and so many
+-- of its readings went unchecked.
+pub record IsListOfRows (form : RowForm) (limits : FaceLimits) (file : FileAnswers)
+    (list : NotedText) : Type 0 where
   pub stations : List SurveyedStation
   pub survey : IsNotedSurvey limits file stations list.unchecked
-  pub text_is : list.text ≡ stations_text stations
+  pub text_is : list.text ≡ stations_text form stations
 
 -- The answer is that, or the file's first fault, as of the plain list; or that memory ran out.
-abbrev pub TellsRows : FaceLimits → FileAnswers → Result NotedText Fault → Type 0
-TellsRows limits file (Ok list) = IsListOfRows limits file list
-TellsRows limits file (Err Memory) = ⊤
-TellsRows limits file (Err fault) = FileComesTo limits file (Err fault)
+abbrev pub TellsRows : RowForm → FaceLimits → FileAnswers → Result NotedText Fault → Type 0
+TellsRows form limits file (Ok list) = IsListOfRows form limits file list
+TellsRows form limits file (Err Memory) = ⊤
+TellsRows form limits file (Err fault) = FileComesTo limits file (Err fault)

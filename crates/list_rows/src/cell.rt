@@ -3,30 +3,29 @@
 //! So each name's cell is made once, by `csv` where the name calls for quotes, and copied into the
 //! rows: all bytes that a cell has room for, since a copy of a constant length is a few loads and
 //! stores.
-ghost use Rattle.std.specs.Prelude.{◌≡◌, ◌≤◌, ◌<◌, ◌+◌, ◌++◌, ◌∷◌, [], length, map, IfOk, OnOk};
+ghost use Rattle.std.specs.Prelude.{◌≡◌, ◌≤◌, ◌<◌, ◌+◌, ◌++◌, ◌∷◌, [], length, map, IfOk};
 ghost use Rattle.std.specs.Prelude.{decimal};
 ghost use Rattle.adjust_kernel.specs.Names.{IsName};
-ghost use Rattle.csv.specs.Writing.{comma, default_writer, needs_quotes, row_text};
+ghost use Rattle.csv.specs.Writing.{needs_quotes, row_text};
 ghost use Rattle.list_rows.specs.RowPieces as spec;
-ghost use Rattle.sheet_format.specs.Texts.{Writes};
+ghost use Rattle.row_forms.specs.Forms.{separator, writer_of};
 
 use crate::put::{put, put_bytes};
 use adjust_kernel::{LONGEST_NAME, Name, Station};
-use csv::{Writer, WriterBuilder};
 use itoa::Buffer;
+use row_forms::{RowForm, rows_in, write_row};
 use station_check::LONGEST_U32;
 use std::alloc::{AllocError, Global};
-use std::io::Write;
 use std::marker::Model;
 
 /// Bytes that no name passes as `csv` writes it: each of them a quote, which is written twice, and
 /// the two quotes around it.
 const LONGEST_FIELD: usize = 2 * LONGEST_NAME + 2;
 
-/// Bytes that a cell has room for: a name and a number, each with its comma.
+/// Bytes that a cell has room for: a name and a number, each with its separator.
 pub(crate) const LONGEST_CELL: usize = LONGEST_FIELD + 1 + LONGEST_U32 + 1;
 
-/// A piece that rows share, with a comma at its end.
+/// A piece that rows share, with a separator at its end.
 #[derive(Drop)]
 pub(crate) struct Cell {
     bytes: [u8; LONGEST_CELL],
@@ -46,17 +45,16 @@ impl Model for Cell {
 
 impl Cell {
     ghost use Rattle.std.specs.Prelude.{◌≡◌, ◌≤◌, ◌<◌, ◌+◌, ◌++◌, ◌∷◌, [], length, take};
-    ghost use Rattle.csv.specs.Writing.{comma};
 
-    /// A cell of two pieces of text, and a comma after them.
-    fn new(first: &[u8], second: &[u8]) -> Cell
+    /// A cell of two pieces of text, and what separates it from the next.
+    fn new(first: &[u8], second: &[u8], separator: u8) -> Cell
         requires { length first.now + length second.now < LONGEST_CELL }
-        ensures { result ≡ first.now ++ (second.now ++ (comma ∷ [])) }
+        ensures { result ≡ first.now ++ (second.now ++ (separator ∷ [])) }
     {
         let mut bytes = [0; LONGEST_CELL];
         let middle = put_bytes(&mut bytes, 0, first);
         let end = put_bytes(&mut bytes, middle, second);
-        let len = put(&mut bytes, end, b",");
+        let len = put(&mut bytes, end, &[separator]);
         Cell { bytes, len }
     }
 
@@ -78,73 +76,78 @@ impl Cell {
 }
 
 /// Whether `csv` puts quotes around a name.
-fn calls_for_quotes(name: &[u8]) -> bool
-    ensures { result ≡ needs_quotes default_writer name.now }
+fn calls_for_quotes(name: &[u8], form: RowForm) -> bool
+    ensures { result ≡ needs_quotes (writer_of form) name.now }
 {
-    name.iter().any(|&byte| byte == b',' || byte == b'"' || byte == b'\r' || byte == b'\n')
-}
-
-/// Writes one row after those that were written. An error of `csv` is out of memory: the text is
-/// made there.
-fn push_row<W: Write + Drop>(writer: &mut Writer<W>, fields: &[&[u8]]) -> Result<(), AllocError>
-    ensures { OnOk result (Writes W.contents writer.old writer.new
-        (row_text default_writer (map (λ f. f.now) fields.now))) }
-{
-    writer.write_fields(fields).map_err(|_| AllocError)
+    let separator = form.separator();
+    name.iter().any(|&byte| byte == separator || byte == b'"' || byte == b'\r' || byte == b'\n')
 }
 
 /// The row of a name and an empty field, as `csv` writes it.
-fn row_of(alloc: Global, name: &[u8]) -> Result<Vec<u8>, AllocError>
-    ensures { IfOk result (λ row. row.items ≡ row_text default_writer (name.now ∷ [] ∷ [])) }
+fn row_of(alloc: Global, name: &[u8], form: RowForm) -> Result<Vec<u8>, AllocError>
+    ensures { IfOk result (λ row. row.items
+        ≡ row_text (writer_of form) (name.now ∷ [] ∷ [])) }
 {
-    let mut writer = WriterBuilder::new().from_writer(Vec::new(alloc));
-    push_row(&mut writer, &[name, b"".as_slice()])?;
+    let mut writer = rows_in(form, Vec::new(alloc));
+    write_row(&mut writer, &[name, b"".as_slice()])?;
     writer.into_inner().map_err(|_| AllocError)
 }
 
 /// The cell of a name.
-fn cell_of(alloc: Global, name: &Name) -> Result<Cell, AllocError>
-    ensures cell { IfOk result (λ cell. cell ≡ spec.cell_text name.now) }
-    ensures short { length (spec.cell_text name.now) ≤ LONGEST_FIELD + 1 }
+fn cell_of(alloc: Global, name: &Name, form: RowForm) -> Result<Cell, AllocError>
+    ensures cell { IfOk result (λ cell. cell ≡ spec.cell_text form name.now) }
+    ensures short { length (spec.cell_text form name.now) ≤ LONGEST_FIELD + 1 }
 {
     let bytes = name.bytes();
-    if calls_for_quotes(bytes) {
-        let row = row_of(alloc, bytes)?;
-        // After the name there is a comma, an empty field and the end of the line.
-        return Ok(Cell::new(&row[..row.len() - 2], b""));
+    if calls_for_quotes(bytes, form) {
+        let row = row_of(alloc, bytes, form)?;
+        // After the name there is a separator, an empty field and the end of the line.
+        return Ok(Cell::new(&row[..row.len() - 2], b"", form.separator()));
     }
-    Ok(Cell::new(bytes, b""))
+    Ok(Cell::new(bytes, b"", form.separator()))
 }
 
 /// The cells of names, in their order.
-pub(crate) fn cells_of(alloc: Global, names: &[Name]) -> Result<Vec<Cell>, AllocError>
-    ensures { IfOk result (λ cells. cells.items ≡ map spec.cell_text names.now) }
+pub(crate) fn cells_of(
+    alloc: Global,
+    names: &[Name],
+    form: RowForm,
+) -> Result<Vec<Cell>, AllocError>
+    ensures { IfOk result (λ cells. cells.items ≡ map (spec.cell_text form) names.now) }
 {
     let mut cells = Vec::with_capacity(alloc, names.len())?;
     for name in names {
-        cells.push(cell_of(alloc, name)?)?;
+        cells.push(cell_of(alloc, name, form)?)?;
     }
     Ok(cells)
 }
 
 /// What the rows of a set begin with, by the cell of the station's name.
-fn start_of(station: &Cell, set: u16) -> Cell
+fn start_of(station: &Cell, set: u16, form: RowForm) -> Cell
     requires { length station.now ≤ LONGEST_FIELD + 1 }
-    ensures { result ≡ station.now ++ (decimal set ++ (comma ∷ [])) }
+    ensures { result ≡ station.now ++ (decimal set ++ (separator form ∷ [])) }
 {
     let mut digits = Buffer::new();
-    Cell::new(station.bytes(), digits.format(set).as_bytes())
+    Cell::new(
+        station.bytes(),
+        digits.format(set).as_bytes(),
+        form.separator(),
+    )
 }
 
 /// What the rows of each set of a station begin with.
-pub(crate) fn starts_of(alloc: Global, station: &Station) -> Result<Vec<Cell>, AllocError>
+pub(crate) fn starts_of(
+    alloc: Global,
+    station: &Station,
+    form: RowForm,
+) -> Result<Vec<Cell>, AllocError>
     ensures { IfOk result (λ starts. starts.items
-        ≡ map (spec.start_text station.now.name) station.now.sets) }
+        ≡ map (spec.start_text form station.now.name) station.now.sets) }
 {
-    let name = cell_of(alloc, &station.name())?;
+    let name = cell_of(alloc, &station.name(), form)?;
     let mut starts = Vec::with_capacity(alloc, station.sets().len())?;
     for set in station.sets() {
-        starts.push(start_of(&name, *set))?;
+        starts.push(start_of(&name, *set, form))?;
     }
     Ok(starts)
 }

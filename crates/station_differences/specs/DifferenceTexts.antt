@@ -1,11 +1,12 @@
--- The text of the differences of a table from its station (profile).
+-- The text of the differences of a table from its station, in a form (profile).
 use Rattle.std.specs.Prelude.{ℕ, ◌+◌, ◌*◌, ◌/◌, ◌%◌, ◌==◌, Bool, if◌then◌else◌, List, [], ◌∷◌, map}
 use Rattle.std.specs.Prelude.{codes, ℤ, ◌-ℤ◌}
 use Rattle.std.specs.List.{list_all}
 use Rattle.angle_texts.specs.MgonTexts.{mgon_text}
 use Rattle.direction_table.specs.Texts.{direction_text}
 use Rattle.adjust_kernel.specs.declared.units.TheConstants.{CIRCLE, PARTS, UNIT}
-use Rattle.sheet_format.specs.Texts.{rows_text}
+use Rattle.row_forms.specs.Forms.{number_in, rows_text}
+use Rattle.row_forms.specs.declared.form.RowForm.{RowForm}
 use Rattle.station_differences.specs.Medians.{median_of}
 use Rattle.station_differences.specs.declared.compared.TargetDifference.{TargetDifference}
 
@@ -38,12 +39,16 @@ from_median_text median difference = mgon_text (difference -ℤ median)
 
 -- The row of a target: its name, its stated direction and its least-squares direction in gon, and
 -- their difference in mgon, as it is and less the median.
-abbrev pub row_of : Bool → ℤ → TargetDifference → List (List ℕ)
-row_of short median row =
-    row.target ∷ stated_text short row.stated ∷ direction_text 6 row.least
-    ∷ mgon_text row.difference ∷ from_median_text median row.difference ∷ []
+abbrev pub row_of : RowForm → Bool → ℤ → TargetDifference → List (List ℕ)
+row_of form short median row =
+    row.target ∷ number_in form (stated_text short row.stated)
+    ∷ number_in form (direction_text 6 row.least) ∷ number_in form (mgon_text row.difference)
+    ∷ number_in form (from_median_text median row.difference) ∷ []
 
--- The text: the titles, and the rows of the targets, in their order.
-abbrev pub differences_text : List TargetDifference → List ℕ
-differences_text rows =
-    rows_text (titles ∷ map (row_of (are_short rows) (median_of rows)) rows)
+-- The rows of the targets, in their order.
+abbrev pub rows_of : RowForm → List TargetDifference → List (List (List ℕ))
+rows_of form rows = map (row_of form (are_short rows) (median_of rows)) rows
+
+-- The text: the titles, and the rows.
+abbrev pub differences_text : RowForm → List TargetDifference → List ℕ
+differences_text form rows = rows_text form (titles ∷ rows_of form rows)

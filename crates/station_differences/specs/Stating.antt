@@ -6,18 +6,19 @@
 use Rattle.std.specs.Prelude.{◌≡◌, ℕ, List, ℤ}
 use Rattle.adjust_kernel.specs.Stations.{StationValue}
 use Rattle.direction_table.specs.Tables.{IsTableText}
-use Rattle.direction_table.specs.declared.unit.AngleUnit.{AngleUnit}
+use Rattle.direction_table.specs.declared.form.TableForm.{TableForm}
+use Rattle.row_forms.specs.declared.form.RowForm.{RowForm}
 use Rattle.station_differences.specs.Differences.{AreCompared}
 use Rattle.station_differences.specs.DifferenceTexts.{differences_text}
 use Rattle.station_differences.specs.declared.compared.TargetDifference.{TargetDifference}
 
--- This is the text of the differences of a table's bytes from a station.
-pub record IsDifferencesText (unit : AngleUnit) (station : StationValue)
+-- This is the text, with its rows in a form, of the differences of a table's bytes from a station.
+pub record IsDifferencesText (form : TableForm) (printed : RowForm) (station : StationValue)
     (bytes text : List ℕ) : Type 0 where
   -- The bytes state these directions, one for each target of the station.
   pub directions : List ℤ
-  pub states : IsTableText unit station.targets bytes directions
+  pub states : IsTableText form station.targets bytes directions
   -- The rows of the targets, with these directions and the least-squares ones.
   pub rows : List TargetDifference
   pub compared : AreCompared station directions rows
-  pub text_is : text ≡ differences_text rows
+  pub text_is : text ≡ differences_text printed rows

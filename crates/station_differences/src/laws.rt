@@ -2,9 +2,10 @@
 ghost use Rattle.std.specs.Prelude.{◌≡◌, ◌≤◌, ℕ, List, All, ℤ, length, pos, true};
 ghost use Rattle.adjust_kernel.specs.Stations.{StationValue};
 ghost use Rattle.adjust_kernel.specs.Within.{IsWithin};
-ghost use Rattle.direction_table.specs.declared.unit.AngleUnit.{AngleUnit};
+ghost use Rattle.direction_table.specs.declared.form.TableForm.{TableForm};
 ghost use Rattle.directions_apart.specs.Apart.{stated_by};
 ghost use Rattle.least_directions.specs.LeastDirections.{AreApart};
+ghost use Rattle.row_forms.specs.declared.form.RowForm.{RowForm};
 ghost use Rattle.station_differences.specs.Differences.{AreCompared, differences_of};
 ghost use Rattle.station_differences.specs.Medians.{is_median, median_of};
 ghost use Rattle.station_differences.specs.Stating.{IsDifferencesText};
@@ -15,8 +16,9 @@ ghost use Rattle.station_differences.specs.declared.compared.TargetDifference.{T
 pub fn one_list()
     ensures compared { (station : StationValue) (stated : List ℤ) (a b : List TargetDifference)
         → AreCompared station stated a → AreCompared station stated b → a ≡ b }
-    ensures text { (unit : AngleUnit) (station : StationValue) (bytes a b : List ℕ)
-        → IsDifferencesText unit station bytes a → IsDifferencesText unit station bytes b → a ≡ b }
+    ensures text { (form : TableForm) (printed : RowForm) (station : StationValue)
+        (bytes a b : List ℕ) → IsDifferencesText form printed station bytes a
+        → IsDifferencesText form printed station bytes b → a ≡ b }
 {}
 
 /// No difference is larger in size than the directions are apart, as `compare` tells it: both in

@@ -1,30 +1,37 @@
 //! The text of differences, made in memory.
 //!
 //! The rows go through `csv`'s writer, which puts quotes where a name asks for them.
-ghost use Rattle.std.specs.Prelude.{◌≡◌, ◌++◌, ◌-ℤ◌, map, IfOk, OnOk, OnErr};
+ghost use Rattle.std.specs.Prelude.{◌≡◌, ◌++◌, ◌-ℤ◌, IfOk, OnOk, OnErr};
 ghost use Rattle.angle_texts.specs.MgonTexts.{sign_text};
 ghost use Rattle.direction_table.specs.Beginnings.{IsBegun};
-ghost use Rattle.csv.specs.Writing.{default_writer, row_text};
-ghost use Rattle.sheet_format.specs.Texts.{Writes, rows_text};
+ghost use Rattle.csv.specs.Writing.{row_text};
+ghost use Rattle.row_forms.specs.Forms.{rows_text, writer_of};
+ghost use Rattle.row_forms.specs.Writing.{Writes};
+ghost use Rattle.row_forms.specs.declared.form.RowForm.{RowForm as Form};
 ghost use Rattle.station_differences.specs.DifferenceTexts as spec;
-ghost use Rattle.station_differences.specs.Medians as medians;
 
 use crate::compared::TargetDifference;
 use crate::median::median_of;
 use adjust_kernel::{CIRCLE, PARTS, UNIT};
 use angle_texts::{digit, push_gon, push_mgon, push_thousandths};
-use csv::{Writer, WriterBuilder};
+use csv::Writer;
+use row_forms::{RowForm, rows_in, set_point, write_row};
 use std::alloc::{AllocError, Global};
 use std::io::Write;
 
-/// The text of the targets of a station: a row of titles, and a row for each in their order.
+/// The text of the targets of a station, in a form: a row of titles, and a row for each in their
+/// order.
 ///
 /// The only error is that memory was refused.
-pub fn text_of(alloc: Global, rows: &[TargetDifference]) -> Result<Vec<u8>, AllocError>
-    ensures { IfOk result (λ text. text.items ≡ spec.differences_text rows.now) }
+pub fn text_of(
+    alloc: Global,
+    rows: &[TargetDifference],
+    form: RowForm,
+) -> Result<Vec<u8>, AllocError>
+    ensures { IfOk result (λ text. text.items ≡ spec.differences_text form rows.now) }
 {
-    let mut writer = WriterBuilder::new().from_writer(Vec::new(alloc));
-    push_all(alloc, &mut writer, rows)?;
+    let mut writer = rows_in(form, Vec::new(alloc));
+    push_all(alloc, &mut writer, rows, form)?;
     writer.into_inner().map_err(|_| AllocError)
 }
 
@@ -33,20 +40,21 @@ fn push_all<W: Write + Drop>(
     alloc: Global,
     writer: &mut Writer<W>,
     rows: &[TargetDifference],
+    form: RowForm,
 ) -> Result<(), AllocError>
-    ensures { OnOk result (Writes W.contents writer.old writer.new
-        (spec.differences_text rows.now)) }
+    ensures { OnOk result (Writes form W.contents writer.old writer.new
+        (spec.differences_text form rows.now)) }
 {
     push_titles(writer)?;
-    push_rows(alloc, writer, rows)
+    push_rows(alloc, writer, rows, form)
 }
 
 /// Writes the titles.
 fn push_titles<W: Write + Drop>(writer: &mut Writer<W>) -> Result<(), AllocError>
-    ensures { OnOk result (Writes W.contents writer.old writer.new
-        (row_text default_writer spec.titles)) }
+    ensures { (form : Form) → OnOk result (Writes form W.contents writer.old writer.new
+        (row_text (writer_of form) spec.titles)) }
 {
-    push_row(
+    write_row(
         writer,
         &[
             b"target".as_slice(),
@@ -63,10 +71,10 @@ fn push_rows<W: Write + Drop>(
     alloc: Global,
     writer: &mut Writer<W>,
     rows: &[TargetDifference],
+    form: RowForm,
 ) -> Result<(), AllocError>
-    ensures { OnOk result (Writes W.contents writer.old writer.new
-        (rows_text (map (spec.row_of (spec.are_short rows.now) (medians.median_of rows.now))
-        rows.now))) }
+    ensures { OnOk result (Writes form W.contents writer.old writer.new
+        (rows_text form (spec.rows_of form rows.now))) }
 {
     let short = are_short(rows);
     let median = median_of(rows);
@@ -77,13 +85,17 @@ fn push_rows<W: Write + Drop>(
     for row in rows {
         stated.clear();
         push_stated(&mut stated, short, row.stated)?;
+        set_point(&mut stated, form);
         least.clear();
         push_gon(&mut least, row.least)?;
+        set_point(&mut least, form);
         difference.clear();
         push_mgon(&mut difference, row.difference)?;
+        set_point(&mut difference, form);
         from_median.clear();
         push_from_median(&mut from_median, row.difference, median)?;
-        push_row(
+        set_point(&mut from_median, form);
+        write_row(
             writer,
             &[
                 row.target.bytes(),
@@ -122,15 +134,6 @@ fn push_sign(text: &mut Vec<u8>, difference: i32, median: i32) -> Result<(), All
         text.push(b'-')?;
     }
     Ok(())
-}
-
-/// Writes one row after those that were written. An error of `csv` is out of memory: the text is
-/// made there.
-fn push_row<W: Write + Drop>(writer: &mut Writer<W>, fields: &[&[u8]]) -> Result<(), AllocError>
-    ensures { OnOk result (Writes W.contents writer.old writer.new
-        (row_text default_writer (map (λ f. f.now) fields.now))) }
-{
-    writer.write_fields(fields).map_err(|_| AllocError)
 }
 
 /// Whether six decimals of a gon write each stated direction exactly.

@@ -3,11 +3,12 @@
 
 use adjust_kernel::{LARGEST_RESIDUAL_LIMIT, PARTS, ResidualLimit, Station};
 use byte_ends::{Held, Script};
-use direction_table::{AngleUnit, RowKind, TableFault};
+use direction_table::{AngleUnit, RowKind, TableFault, TableForm};
 use exact_adjustment::{AdjustError, AdjustFault};
+use row_forms::RowForm;
 use station_book::{Limits, ResultLimits};
 use station_check::Fault;
-use station_compare::CompareFault;
+use station_compare::{CompareFault, Refusal};
 use station_differences::{target_differences, text_of};
 use std::alloc::Global;
 use std::process::Abort;
@@ -20,13 +21,22 @@ const STATED: &[u8] = b"B;150,0001\nA;100,0001\n";
 
 /// What is asked of a table in gon.
 const IN_GON: Differences = Differences {
-    unit: AngleUnit::Gon,
+    form: TableForm {
+        unit: AngleUnit::Gon,
+        columns: None,
+    },
+    rows: RowForm::Commas,
 };
 
 /// What is printed of it.
 const DIFFERENCES: &[u8] = b"target,stated,least squares,difference,from the median\n\
 A,100.000100,0.000000,0.015,0.030\n\
 B,150.000100,50.000030,-0.015,0.000\n";
+
+/// The same for a spreadsheet that wants decimal commas.
+const WITH_COMMAS: &[u8] = b"target;stated;least squares;difference;from the median\n\
+A;100,000100;0,000000;0,015;0,030\n\
+B;150,000100;50,000030;-0,015;0,000\n";
 
 fn limits(rt: &impl Abort) -> ResultLimits {
     ResultLimits::of_faces(Limits::new(100, 100).expect(rt, "limits"))
@@ -51,7 +61,7 @@ fn text(
     assert_eq!(rt; parts.len(), station.targets().len());
     let largest = residual(rt, LARGEST_RESIDUAL_LIMIT);
     let rows = target_differences(alloc, station, &parts, largest).map_err(|_| "no adjustment")?;
-    Ok(text_of(alloc, &rows)?)
+    Ok(text_of(alloc, &rows, RowForm::Commas)?)
 }
 
 /// Two targets in two sets, whose angles differ by 2 half units: that of the adjustment is
@@ -264,6 +274,13 @@ fn a_residual_above_the_limit_is_refused(rt: HostRuntime) -> Result<(), Fail> {
     Ok(())
 }
 
+/// The refusal of S1 where no residual may be above 0.
+const ABOVE_THE_LIMIT: &[u8] = b"refused: adjust: Residual 1\n\
+    set 1, A: the greatest residual, above the limit of 0.000 mgon\n";
+
+/// The refusal of a table that has no row of B.
+const WITHOUT_B: &[u8] = b"refused: table: Missing 2\nthe table lacks B\n";
+
 /// The table is read before: its fault comes first.
 #[test]
 fn a_table_beside_a_residual_above_the_limit_has_no_differences(
@@ -272,9 +289,9 @@ fn a_table_beside_a_residual_above_the_limit_has_no_differences(
     // Each residual of S1 is 1 half unit in size: of two that are as great the first is named.
     let cases: [(u32, &[u8], u8, &[u8], &[u8]); 4] = [
         (1, STATED, 0, DIFFERENCES, b""),
-        (0, STATED, 1, b"", b"refused: adjust: Residual 1\n"),
-        (0, b"A,0\n", 1, b"", b"refused: table: Missing 2\n"),
-        (0, b"A,0\nB,50\n", 1, b"", b"refused: adjust: Residual 1\n"),
+        (0, STATED, 1, b"", ABOVE_THE_LIMIT),
+        (0, b"A,0\n", 1, b"", WITHOUT_B),
+        (0, b"A,0\nB,50\n", 1, b"", ABOVE_THE_LIMIT),
     ];
     for (half_units, table, status, printed, refused) in cases {
         let gsi = Script::new(S1, usize::MAX, false);
@@ -298,6 +315,31 @@ fn a_table_beside_a_residual_above_the_limit_has_no_differences(
         assert_eq!(rt; answer, status);
         assert_eq!(rt; out.bytes(), printed);
         assert_eq!(rt; err.bytes(), refused);
+    }
+    Ok(())
+}
+
+#[test]
+fn differences_are_printed_in_each_form(rt: HostRuntime) -> Result<(), Fail> {
+    for (rows, want) in [
+        (RowForm::Commas, DIFFERENCES),
+        (RowForm::Semicolons, WITH_COMMAS),
+    ] {
+        let gsi = Script::new(S1, usize::MAX, false);
+        let mut table = Script::new(STATED, usize::MAX, false);
+        let asked = Differences { rows, ..IN_GON };
+        let (answer, _gsi) = table_answer_of(
+            rt.alloc(),
+            gsi,
+            &mut table,
+            b"S1",
+            limits(&rt),
+            &asked,
+        );
+        match answer {
+            Ok(noted) => assert_eq!(rt; noted.answer.as_slice(), want),
+            Err(Refusal { fault, .. }) => assert!(rt; false, "{fault:?}"),
+        }
     }
     Ok(())
 }
@@ -344,8 +386,8 @@ fn a_table_has_differences_or_the_first_fault(rt: HostRuntime) -> Result<(), Fai
             &IN_GON,
         );
         match (answer, want) {
-            (Ok(text), Ok(want)) => assert_eq!(rt; text.as_slice(), want),
-            (Err(fault), Err(want)) => assert_eq!(rt; fault, want),
+            (Ok(noted), Ok(want)) => assert_eq!(rt; noted.answer.as_slice(), want),
+            (Err(refusal), Err(want)) => assert_eq!(rt; refusal.fault, want),
             _ => assert!(rt; false),
         }
     }
@@ -381,7 +423,11 @@ B,50.000030000,50.000030,0.000,0.000\n",
         let gsi = Script::new(S1, usize::MAX, false);
         let mut table = Script::new(table, usize::MAX, false);
         let asked = Differences {
-            unit: AngleUnit::Degrees,
+            form: TableForm {
+                unit: AngleUnit::Degrees,
+                columns: None,
+            },
+            rows: RowForm::Commas,
         };
         let (answer, _gsi) = table_answer_of(
             rt.alloc(),
@@ -392,8 +438,8 @@ B,50.000030000,50.000030,0.000,0.000\n",
             &asked,
         );
         match answer {
-            Ok(text) => assert_eq!(rt; text.as_slice(), want),
-            Err(fault) => assert!(rt; false, "{fault:?}"),
+            Ok(noted) => assert_eq!(rt; noted.answer.as_slice(), want),
+            Err(Refusal { fault, .. }) => assert!(rt; false, "{fault:?}"),
         }
     }
     Ok(())
@@ -403,7 +449,14 @@ B,50.000030000,50.000030,0.000,0.000\n",
 fn a_run_prints_its_text_and_answers_its_status(rt: HostRuntime) -> Result<(), Fail> {
     let cases: [(&[u8], bool, bool, u8, &[u8], &[u8]); 4] = [
         (b"S1", false, false, 0, DIFFERENCES, b""),
-        (b"S2", false, true, 1, b"", b"refused: no station\n"),
+        (
+            b"S2",
+            false,
+            true,
+            1,
+            b"",
+            b"refused: no station\nthe file has S1\n",
+        ),
         (b"S1", false, true, 1, b"", b"refused: table: Read\n"),
         (b"S1", true, true, 1, b"", b"refused: block 13: Read\n"),
     ];
@@ -436,7 +489,7 @@ fn a_writer_without_room_or_whose_flush_fails_is_told(rt: HostRuntime) -> Result
         let gsi = Script::new(S1, usize::MAX, false);
         let mut table = Script::new(STATED, usize::MAX, false);
         let mut out = Held::new(rt.alloc(), room, 7, flush_fails).map_err(|_| "no memory")?;
-        let answer = write_table_answer(
+        let (answer, _note) = write_table_answer(
             rt.alloc(),
             gsi,
             &mut table,
@@ -445,7 +498,10 @@ fn a_writer_without_room_or_whose_flush_fails_is_told(rt: HostRuntime) -> Result
             &IN_GON,
             &mut out,
         );
-        assert_eq!(rt; answer, Err(CompareFault::Write));
+        assert_eq!(rt;
+            answer.map_err(|refusal| refusal.fault),
+            Err(CompareFault::Write)
+        );
         let written = room.min(DIFFERENCES.len());
         assert_eq!(rt; out.bytes(), &DIFFERENCES[..written]);
     }

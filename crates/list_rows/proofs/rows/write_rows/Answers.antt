@@ -2,6 +2,7 @@ use Rattle.std.proofs.Common.{◌≡◌, Err, Ok, refl, rules}
 use Rattle.byte_ends.proofs.Coming.{came_so}
 use Rattle.gsi_file.specs.FileAnswers.{file_answers, FileAnswers}
 use Rattle.list_rows.specs.Listing.{TellsRows}
+use Rattle.row_forms.specs.declared.form.RowForm.{RowForm}
 use Rattle.station_book.specs.Limits.{FaceLimits}
 use Rattle.station_check.specs.NotedSurveys.{NotesSurvey}
 use Rattle.station_check.specs.declared.fault.Fault.{Fault}
@@ -11,17 +12,17 @@ use Rattle.station_check.specs.declared.fault.Fault.TheVariants.{Memory}
 use Rattle.list_rows.proofs.rows.write_rows.Goals as goal
 
 -- A fault of the file is told as it stands.
-fault-told : (limits : FaceLimits) (file : FileAnswers) (fault : Fault)
-    → NotesSurvey limits file (Err fault) → TellsRows limits file (Err fault)
-fault-told limits file (Gsi fault) h = h
-fault-told limits file (Book fault) h = h
-fault-told limits file SheetRead h = h
-fault-told limits file (Sheet fault) h = h
-fault-told limits file NoStation h = h
-fault-told limits file (Means fault) h = h
-fault-told limits file (Kernel fault) h = h
-fault-told limits file Write h = h
-fault-told limits file Memory h = tt
+fault-told : (form : RowForm) (limits : FaceLimits) (file : FileAnswers) (fault : Fault)
+    → NotesSurvey limits file (Err fault) → TellsRows form limits file (Err fault)
+fault-told form limits file (Gsi fault) h = h
+fault-told form limits file (Book fault) h = h
+fault-told form limits file SheetRead h = h
+fault-told form limits file (Sheet fault) h = h
+fault-told form limits file NoStation h = h
+fault-told form limits file (Means fault) h = h
+fault-told form limits file (Kernel fault) h = h
+fault-told form limits file Write h = h
+fault-told form limits file Memory h = tt
 
 pub returns-in_err-stations : goal.returns-in_err-stations
 returns-in_err-stations g c =
@@ -35,7 +36,7 @@ returns-in_err-stations g c =
         answer = Err fault;
         tells = record {
           came = came_so _ _ _ read.came
-              (λ gsi s. fault-told c.args.limits (file_answers gsi) fault s);
+              (λ gsi s. fault-told c.args.form c.args.limits (file_answers gsi) fault s);
           left = read.left;
         };
         of_file = of_file;

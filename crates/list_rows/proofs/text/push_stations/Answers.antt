@@ -3,7 +3,7 @@ use Rattle.std.proofs.Common.{sym}
 use Rattle.std.proofs.lemmas.List.{take_all}
 use Rattle.list_rows.specs.RowTexts.{rows_of}
 use Rattle.list_rows.proofs.RowLaws.{entries-joined}
-use Rattle.sheet_format.specs.Texts.{rows_text}
+use Rattle.row_forms.specs.Forms.{rows_text}
 use Rattle.station_check.proofs.ListLaws.{some_inside}
 use Rattle.list_rows.proofs.text.push_stations.Goals as goal
 use Rattle.list_rows.proofs.text.push_stations.Goals.{in-Some+in_ok-push_surveyed, in_default}
@@ -17,8 +17,8 @@ stations-preserved c =
           let surveyed = w.in-Some.surveyed.now in
           rw w.text-is
           (w.in_ok-push_surveyed.ensures
-          ∙ ap (λ t. t ++ rows_text (rows_of surveyed)) c.stations.invariant
-          ∙ entries-joined rows_of c.args.text.now.items stations place surveyed
+          ∙ ap (λ t. t ++ rows_text c.args.form (rows_of c.args.form surveyed)) c.stations.invariant
+          ∙ entries-joined c.args.form (rows_of c.args.form) c.args.text.now.items stations place surveyed
           (sym c.at.ensures ∙ ap option_copied w.in-Some.is))
       | in_default w ↦
           let inside : place < length stations = search rules in

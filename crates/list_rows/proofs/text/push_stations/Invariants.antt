@@ -1,8 +1,8 @@
 use Rattle.std.proofs.Common.{◌≡◌, ◌++◌, flat_map, take}
 use Rattle.list_rows.specs.RowTexts.{rows_of}
-use Rattle.sheet_format.specs.Texts.{rows_text}
+use Rattle.row_forms.specs.Forms.{rows_text}
 use Rattle.list_rows.proofs.text.push_stations.Given as goal
 
 abbrev pub invariant-stations : goal.invariant-stations
-invariant-stations l =
-    l.text.items ≡ l.fn.text.items ++ rows_text (flat_map rows_of (take l.place l.stations))
+invariant-stations l = l.text.items
+    ≡ l.fn.text.items ++ rows_text l.form (flat_map (rows_of l.form) (take l.place l.stations))

@@ -2,7 +2,8 @@ use Rattle.std.proofs.Common.{◌≡◌, ◌∙◌, ◌≤◌, ◌++◌, List, �
 use Rattle.std.proofs.Common.{sym}
 use Rattle.adjust_kernel.specs.Matching.{key_of_obs}
 use Rattle.adjust_kernel.specs.Stations.{StationValue}
-use Rattle.csv.specs.Writing.{default_writer, row_text}
+use Rattle.csv.specs.Writing.{row_text}
+use Rattle.row_forms.specs.Forms.{writer_of}
 use Rattle.list_rows.specs.RowTexts.{row_of}
 use Rattle.list_rows.proofs.RowLaws.{all-pairs, pair-joined}
 use Rattle.list_rows.proofs.text.push_surveyed.Goals as goal
@@ -21,10 +22,12 @@ observations-preserved c =
     ap (λ (xs : _). slice_get xs place) (sym c.faces-faces.ensures.value)
     ∙ c.differences_at-differences.ensures in
     let key = key_of_obs s.station.sets s.station.targets in
-    let line = row_text default_writer (row_of s.station.name (key observation, differences)) in
+    let form = c.args.form in
+    let line = row_text (writer_of form)
+    (row_of form s.station.name (key observation, differences)) in
     let written = rw station_is at c.in_ok-push_observation.ensures in
     written ∙ ap (λ (t : List ℕ). t ++ line) c.observations.invariant
-    ∙ pair-joined key (row_of s.station.name) c.args.text.now.items s.station.obs s.faces place
+    ∙ pair-joined form key (row_of form s.station.name) c.args.text.now.items s.station.obs s.faces place
     observation differences o f
 
 pub returns : goal.returns

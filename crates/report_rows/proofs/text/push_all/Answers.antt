@@ -1,19 +1,21 @@
 use Rattle.std.proofs.Common.{List, ℕ, ◌++◌, append_assoc, subst}
-use Rattle.csv.specs.Writing.{default_writer, row_text}
+use Rattle.csv.specs.Writing.{row_text}
 use Rattle.report_rows.specs.RowTexts.{rows_of, titles}
-use Rattle.sheet_format.specs.Texts.{HasWritten, rows_text}
+use Rattle.row_forms.specs.Forms.{rows_text, writer_of}
+use Rattle.row_forms.specs.Writing.{HasWritten}
 use Rattle.sheet_format.proofs.TextRows.{on_ok}
 use Rattle.report_rows.proofs.text.push_all.Goals as goal
 
 pub returns : goal.returns
 returns g c =
-    let first = row_text default_writer titles in
-    let rest = rows_text (rows_of c.args.surveyed.now c.args.rows.now) in
+    let form = c.args.form in
+    let first = row_text (writer_of form) titles in
+    let rest = rows_text form (rows_of form c.args.surveyed.now c.args.rows.now) in
     on_ok c.push_rows.result
-    (λ (rows : (text : List ℕ) → HasWritten {W = g.row.W.Denot} g.W.Write.contents
-    c.push_titles.new.writer text → HasWritten {W = g.row.W.Denot} g.W.Write.contents
+    (λ (rows : (text : List ℕ) → HasWritten {W = g.row.W.Denot} form g.W.Write.contents
+    c.push_titles.new.writer text → HasWritten {W = g.row.W.Denot} form g.W.Write.contents
     c.push_rows.new.writer (text ++ rest)) (text : List ℕ) h.
-    subst (λ (t : List ℕ). HasWritten {W = g.row.W.Denot} g.W.Write.contents
+    subst (λ (t : List ℕ). HasWritten {W = g.row.W.Denot} form g.W.Write.contents
     c.push_rows.new.writer t) (append_assoc text first rest)
-    (rows (text ++ first) (c.in_ok-push_titles.ensures text h)))
+    (rows (text ++ first) (c.in_ok-push_titles.ensures form text h)))
     c.push_rows.ensures

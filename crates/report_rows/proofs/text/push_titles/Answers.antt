@@ -1,7 +1,7 @@
 use Rattle.report_rows.proofs.text.push_titles.Goals as goal
 
 pub returns : goal.returns
-returns g c =
+returns g c form =
     rw (
       c.as_slice.ensures,
       c.as_slice-2.ensures,
@@ -13,4 +13,7 @@ returns g c =
       c.as_slice-8.ensures,
       c.as_slice-9.ensures,
       c.as_slice-10.ensures,
-    ) at c.push_row.ensures
+      c.as_slice-11.ensures,
+      c.as_slice-12.ensures,
+      c.as_slice-13.ensures,
+    ) at (c.write_row.ensures form)
