@@ -4,17 +4,19 @@ use Rattle.adjust_kernel.specs.Stations.{StationValue}
 use Rattle.least_directions.proofs.LeastLaws as directions
 use Rattle.station_book.specs.Stations.{SurveyedStation}
 use Rattle.station_book.specs.declared.result_limits.ResultLimits.{ResultLimits}
-use Rattle.station_report.proofs.DeviationLaws.{one_deviation}
+use Rattle.station_report.proofs.DeviationLaws.{one_accuracy}
+use Rattle.station_report.specs.NoteTexts.{ReportHead}
 use Rattle.station_report.specs.ReportTexts.{report_text}
 use Rattle.station_report.specs.Stating.{IsComputed, IsReportText}
+use Rattle.station_report.specs.declared.accuracy.Accuracy.{Accuracy}
 use Rattle.station_results.proofs.GreatestLaws.{one_greatest}
 use Rattle.station_results.proofs.LeastLaws as results
 use Rattle.station_results.specs.Greatest.{IsGreatest}
 use Rattle.station_results.specs.declared.adjusted.AdjustedObs.{AdjustedObs}
 
--- The directions, the rows, the place of the greatest residual and the standard deviation.
+-- The directions, the rows, the place of the greatest residual and the accuracy.
 pub one_computed : (station : StationValue) (ds es : List ℕ) (rs ss : List AdjustedObs) (m n : ℕ)
-    (d e : Option ℕ) → IsComputed station ds rs m d → IsComputed station es ss n e
+    (d e : Option Accuracy) → IsComputed station ds rs m d → IsComputed station es ss n e
     → (ds ≡ es) × (rs ≡ ss) × (m ≡ n) × (d ≡ e)
 one_computed station ds es rs ss m n d e p q =
     let rows = results.one_list station rs ss p.adjusted q.adjusted in
@@ -23,16 +25,16 @@ one_computed station ds es rs ss m n d e p q =
       directions.one_list station 1_000 ds es (omega arith) refl p.rounded q.rounded,
       rows,
       one_greatest ss (length ss) m n greatest q.is_greatest,
-      one_deviation station d e p.adjusted.adjustable p.is_deviation q.is_deviation,
+      one_accuracy station d e p.adjusted.adjustable p.is_accuracy q.is_accuracy,
     )
 
 -- A station has one text, with one section.
-pub one_text : (path : List ℕ) (limits : ResultLimits) (its : SurveyedStation)
-    (section a b : List ℕ) → IsReportText path limits its section a
-    → IsReportText path limits its section b → a ≡ b
-one_text path limits its section a b p q =
+pub one_text : (head : ReportHead) (limits : ResultLimits) (its : SurveyedStation)
+    (section a b : List ℕ) → IsReportText head limits its section a
+    → IsReportText head limits its section b → a ≡ b
+one_text head limits its section a b p q =
     let one = one_computed its.station p.directions q.directions p.rows q.rows p.greatest q.greatest
-    p.deviation q.deviation p.computed q.computed in
+    p.accuracy q.accuracy p.computed q.computed in
     p.text_is
-    ∙ (λ i. report_text path limits its (one.0 i) section (one.1 i) (one.2 i) (one.3 i))
+    ∙ (λ i. report_text head limits its (one.0 i) section (one.1 i) (one.2 i) (one.3 i))
     ∙ sym q.text_is

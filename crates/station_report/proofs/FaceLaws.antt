@@ -15,7 +15,8 @@ use Rattle.station_book.specs.Places.{History}
 use Rattle.station_book.specs.Recorded.{IsRecordedWith}
 use Rattle.station_book.specs.declared.faces.Faces.{Faces}
 use Rattle.station_book.specs.TwoFaces.{Angles, AreOnCircle, IsTwoC, IsTwoFace}
-use Rattle.station_report.specs.Readings.{reading_one, reading_two}
+use Rattle.station_report.specs.Readings.{reading_one, reading_two, zenith_mean}
+use Rattle.station_report.specs.Readings.{zenith_one, zenith_two}
 
 -- What is on a circle is what remains after whole circles.
 on_circle : (n h : ℕ) (z k : ℤ) → 0 < n → h < n → z ≡ pos h +ℤ pos n *ℤ k → neg_ℤ (pos n) ≤ℤ z
@@ -95,3 +96,34 @@ as_read limits h name k f small r =
       one_is limits small first second one_on two_on k.value f.two_c r.recorded.direction r.two_c,
       two_is limits small first second one_on two_on k.value f.two_c r.recorded.direction r.two_c,
     )
+
+-- The zenith angles that are printed as read are those that were read.
+pub zeniths_as_read : (limits : FaceLimits) (h : History) (name : List ℕ) (k : Key) (f : Faces)
+    → (r : IsRecordedWith limits h name k f)
+    → (zenith_one f.zenith ≡ (angles_at r.recorded.first).zenith)
+    × (zenith_two f.zenith f.two_i ≡ (angles_at r.recorded.second).zenith)
+zeniths_as_read limits h name k f r =
+    let one = (angles_at r.recorded.first).zenith in
+    let two = (angles_at r.recorded.second).zenith in
+    let one_below = (place_on_circle r.recorded.first).zenith in
+    let two_below = (place_on_circle r.recorded.second).zenith in
+    let zenith = r.zenith in
+    let equal = r.two_i.equal in (
+      ap unsigned_abs (on_circle 40_000_000 one f.zenith (pos 0) (omega arith) one_below
+          (omega (arith, ints, zenith)) (omega (arith, ints, zenith))),
+      ap unsigned_abs (on_circle 40_000_000 two (f.two_i -ℤ f.zenith) (negsuc 0) (omega arith)
+          two_below (omega (arith, ints, zenith, equal)) (omega (arith, ints, zenith, equal))),
+    )
+
+-- Their mean in half units is twice that of face I, less 2i.
+pub mean_of_zeniths : (limits : FaceLimits) (h : History) (name : List ℕ) (k : Key) (f : Faces)
+    → IsRecordedWith limits h name k f
+    → (pos (zenith_mean f.zenith f.two_i) +ℤ f.two_i) ≡ f.zenith +ℤ f.zenith
+mean_of_zeniths limits h name k f r =
+    let read = zeniths_as_read limits h name k f r in
+    let one = read.0 in
+    let two = read.1 in
+    let two_below = (place_on_circle r.recorded.second).zenith in
+    let zenith = r.zenith in
+    let equal = r.two_i.equal in
+    omega (arith, ints, one, two, two_below, zenith, equal)

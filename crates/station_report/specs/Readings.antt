@@ -1,6 +1,6 @@
 -- What was read at each place of a station's observations.
 use Rattle.std.specs.Prelude.{ℕ, ◌+◌, ◌-◌, ◌/◌, ◌%◌, List, [], map, slice_index_or, Option}
-use Rattle.std.specs.Prelude.{ℤ, pos, ◌+ℤ◌, ◌-ℤ◌, unsigned_abs, ◌==◌, position}
+use Rattle.std.specs.Prelude.{ℤ, pos, ◌+ℤ◌, ◌-ℤ◌, unsigned_abs, ◌==◌, ◌&&◌, position}
 use Rattle.std.specs.Int.{int_rem_euclid}
 use Rattle.std.specs.Option.{option_map_or}
 use Rattle.adjust_kernel.specs.Stations.{StationValue}
@@ -38,6 +38,10 @@ two_c_at its place = slice_index_or (map (λ (f : Faces). f.two_c) its.faces) pl
 abbrev pub two_i_at : SurveyedStation → ℕ → ℤ
 two_i_at its place = slice_index_or (map (λ (f : Faces). f.two_i) its.faces) place (pos 0)
 
+-- the zenith angle of face I of an observation, by its place
+abbrev pub zenith_at : SurveyedStation → ℕ → ℤ
+zenith_at its place = slice_index_or (map (λ (f : Faces). f.zenith) its.faces) place (pos 0)
+
 -- The direction that was read in face I, in units of 0.00001 gon: half of the two-face direction
 -- less 2c, which go round the circle of two-face directions.
 abbrev pub reading_one : ℕ → ℤ → ℕ
@@ -49,6 +53,19 @@ reading_two value two_c =
     unsigned_abs (int_rem_euclid (pos (reading_one value two_c + HALF_CIRCLE) +ℤ two_c)
     (pos CIRCLE))
 
+-- The zenith angle that was read in face I, in units of 0.00001 gon, on the circle.
+abbrev pub zenith_one : ℤ → ℕ
+zenith_one zenith = unsigned_abs (int_rem_euclid zenith (pos CIRCLE))
+
+-- The zenith angle that was read in face II: 2i less that of face I, whole circles aside.
+abbrev pub zenith_two : ℤ → ℤ → ℕ
+zenith_two zenith two_i = unsigned_abs (int_rem_euclid (two_i -ℤ zenith) (pos CIRCLE))
+
+-- The zenith angle of both faces in half units: half of that of face I and of what that of face II
+-- lacks to a circle (textbook). It is that of face I less half of 2i.
+abbrev pub zenith_mean : ℤ → ℤ → ℕ
+zenith_mean zenith two_i = zenith_one zenith + (CIRCLE - zenith_two zenith two_i)
+
 -- The place of the first observation of a set.
 abbrev pub first_of : StationValue → ℕ → Option ℕ
 first_of station set = position (λ (o : Obs). o.set == set) station.obs
@@ -59,3 +76,8 @@ abbrev pub reduced : StationValue → ℕ → ℕ
 reduced station place =
     (value_at station place
     + (TURN - option_map_or (value_at station) (first_of station (set_at station place)) 0)) % TURN
+
+-- The place of the observation of a set and a target, if there is one.
+abbrev pub place_of : StationValue → ℕ → ℕ → Option ℕ
+place_of station set target =
+    position (λ (o : Obs). (o.set == set) && (o.target == target)) station.obs

@@ -7,7 +7,7 @@ use itoa::Buffer;
 use std::alloc::AllocError;
 
 /// Adds blanks to a text.
-fn push_blanks(text: &mut Vec<u8>, count: usize) -> Result<(), AllocError>
+pub(crate) fn push_blanks(text: &mut Vec<u8>, count: usize) -> Result<(), AllocError>
     ensures added { OnOk result (text.new.items ≡ text.old.items ++ replicate count spec.blank) }
     ensures kept { OnErr result (text.new.items ≡ text.old.items) }
 {

@@ -1,7 +1,8 @@
 //! What a report computes of a station.
 ghost use Rattle.std.specs.Option.{ForSome};
-ghost use Rattle.std.specs.Prelude.{◌<◌, ◌^◌};
+ghost use Rattle.station_report.specs.Small.{AreSmall};
 
+use crate::accuracy::Accuracy;
 use station_results::AdjustedObs;
 
 /// What was computed of a station.
@@ -14,8 +15,7 @@ pub struct Computed {
     pub rows: Vec<AdjustedObs>,
     /// The place of the greatest residual.
     pub greatest: usize,
-    /// The standard deviation of one two-face direction, in units of 0.001 mgon; none where there
-    /// are no degrees of freedom.
-    pub deviation: Option<u32>,
-    ghost small: { ForSome deviation (λ units. units < 2 ^ 31) },
+    /// The accuracy of its directions; none where there are no degrees of freedom.
+    pub accuracy: Option<Accuracy>,
+    ghost small: { ForSome accuracy AreSmall },
 }

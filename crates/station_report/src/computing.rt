@@ -10,16 +10,16 @@ ghost use Rattle.exact_adjustment.specs.LeastOf.{AreTied, HasResidualsWithin};
 ghost use Rattle.station_report.specs.Computing.{IsComputedOf};
 
 use crate::computed::Computed;
-use crate::deviation::deviation_by;
+use crate::deviation::accuracy_by;
 use adjust_kernel::{ResidualLimit, Station, UNIT};
 use directions_apart::rounded;
 use exact_adjustment::{AdjustError, Adjustment, adjust};
 use station_results::{adjusted_by, greatest_of};
 use std::alloc::{AllocError, Global};
 
-/// The adjusted directions of a station, its residuals, the greatest of them, and the standard
-/// deviation of one two-face direction: least over all directions, orientations and full turns. No
-/// residual is above the limit. Memory is linear in the observations.
+/// The adjusted directions of a station, its residuals, the greatest of them, and the accuracy of
+/// its directions: least over all directions, orientations and full turns. No residual is above the
+/// limit. Memory is linear in the observations.
 ///
 /// # Errors
 ///
@@ -51,14 +51,14 @@ pub fn computed_by(
     ensures { IfOk result (IsComputedOf station.now) }
 {
     let directions = directions_by(alloc, adjustment)?;
-    let deviation = deviation_by(alloc, station, adjustment)?;
+    let accuracy = accuracy_by(alloc, station, adjustment)?;
     let rows = adjusted_by(alloc, station, adjustment)?;
     let greatest = greatest_of(&rows);
     Ok(Computed {
         directions,
         rows,
         greatest,
-        deviation,
+        accuracy,
     })
 }
 

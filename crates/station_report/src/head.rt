@@ -3,15 +3,28 @@ ghost use Rattle.std.specs.Prelude.{◌≡◌, ◌≤◌, ◌++◌, OnOk, OnErr,
 ghost use Rattle.angle_texts.specs.MgonTexts.{short_mgon_text};
 ghost use Rattle.direction_table.specs.Beginnings.{IsBegun};
 ghost use Rattle.station_book.specs.declared.limits.TheConstants.{LARGEST_LIMIT};
+ghost use Rattle.station_report.specs.NoteTexts.{head_of};
 ghost use Rattle.station_report.specs.ReportTexts as spec;
 
 use crate::columns::{push_count, push_left};
+use crate::gaps::push_gaps;
+use crate::notes::push_notes;
 use adjust_kernel::{HALF_UNIT, ResidualLimit, Station, UNIT};
 use angle_texts::{push_short_mgon, push_thousandths};
 use byte_digests::push_name;
+use report_notes::Notes;
 use station_book::{LARGEST_LIMIT, ResultLimits};
 use station_check::VERSION;
-use std::alloc::AllocError;
+use std::alloc::{AllocError, Global};
+
+/// What stands in the head of a report that is not of the station, and how the report ends.
+#[derive(Clone, Copy, Debug, Drop)]
+pub struct Head<'a, 'n> {
+    /// The path of the field file, as the head names it.
+    pub path: &'a [u8],
+    /// What the report was told to note, where it was told to note something.
+    pub notes: Option<&'a Notes<'n>>,
+}
 
 /// The width of the column of names, in lines that say what something is.
 pub const ENTRY_NAMES: usize = 22;
@@ -122,16 +135,19 @@ fn push_limits(text: &mut Vec<u8>, limits: ResultLimits) -> Result<(), AllocErro
 
 /// Adds the head of a report.
 pub(crate) fn push_head(
+    alloc: Global,
     text: &mut Vec<u8>,
-    path: &[u8],
+    head: Head<'_, '_>,
     limits: ResultLimits,
     station: &Station,
 ) -> Result<(), AllocError>
     ensures { OnOk result
-        (text.new.items ≡ text.old.items ++ spec.head_text path.now limits station.now) }
+        (text.new.items ≡ text.old.items ++ spec.head_text (head_of head.entry) limits station.now) }
 {
-    push_named(text, path, station)?;
+    push_named(text, head.path, station)?;
+    push_notes(alloc, text, head.notes)?;
     push_counts(text, station)?;
+    push_gaps(alloc, text, station)?;
     push_limits(text, limits)?;
     Ok(())
 }

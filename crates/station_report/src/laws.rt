@@ -1,5 +1,5 @@
 //! Laws of the definitions that contracts cite. The functions do nothing.
-ghost use Rattle.std.specs.Prelude.{◌≡◌, ℕ, ℤ, List, Option};
+ghost use Rattle.std.specs.Prelude.{◌≡◌, ℕ, ℤ, pos, ◌+ℤ◌, List, Option};
 ghost use Rattle.adjust_kernel.specs.Matching.{Key};
 ghost use Rattle.adjust_kernel.specs.Stations.{StationValue};
 ghost use Rattle.station_book.specs.Faults.{angles_at};
@@ -7,8 +7,10 @@ ghost use Rattle.station_book.specs.Limits.{AreLimits, FaceLimits};
 ghost use Rattle.station_book.specs.Places.{History};
 ghost use Rattle.station_book.specs.Recorded.{IsRecordedWith};
 ghost use Rattle.station_book.specs.declared.faces.Faces.{Faces};
-ghost use Rattle.station_report.specs.Readings.{reading_one, reading_two};
+ghost use Rattle.station_report.specs.Readings.{reading_one, reading_two, zenith_mean};
+ghost use Rattle.station_report.specs.Readings.{zenith_one, zenith_two};
 ghost use Rattle.station_report.specs.Stating.{IsComputed};
+ghost use Rattle.station_report.specs.declared.accuracy.Accuracy.{Accuracy};
 ghost use Rattle.station_results.specs.declared.adjusted.AdjustedObs.{AdjustedObs};
 
 /// What is printed as read in face I and in face II is what was read there: of whichever readings a
@@ -20,10 +22,22 @@ pub fn readings()
         × (reading_two k.value f.two_c ≡ (angles_at r.recorded.second).hz) }
 {}
 
+/// What is printed as the zenith angles of face I and of face II is what was read there, and their
+/// mean is that of face I less half of 2i: twice it, and 2i, are twice what was read in face I.
+pub fn zenith_angles()
+    ensures read { (limits : FaceLimits) (h : History) (name : List ℕ) (k : Key) (f : Faces)
+        → (r : IsRecordedWith limits h name k f)
+        → (zenith_one f.zenith ≡ (angles_at r.recorded.first).zenith)
+        × (zenith_two f.zenith f.two_i ≡ (angles_at r.recorded.second).zenith) }
+    ensures mean { (limits : FaceLimits) (h : History) (name : List ℕ) (k : Key) (f : Faces)
+        → IsRecordedWith limits h name k f
+        → (pos (zenith_mean f.zenith f.two_i) +ℤ f.two_i) ≡ f.zenith +ℤ f.zenith }
+{}
+
 /// What a report computes of a station is one, each number of it.
 pub fn one_computed()
     ensures { (station : StationValue) (ds es : List ℕ) (rs ss : List AdjustedObs)
-        (m n : ℕ) (d e : Option ℕ)
+        (m n : ℕ) (d e : Option Accuracy)
         → IsComputed station ds rs m d → IsComputed station es ss n e
         → (ds ≡ es) × (rs ≡ ss) × (m ≡ n) × (d ≡ e) }
 {}

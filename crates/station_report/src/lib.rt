@@ -2,18 +2,21 @@
 //!
 //! `computed_of` answers what is computed of a station, and `text_by` by that a text of fixed
 //! columns: by set and target the readings of both faces, their mean, 2c and 2i; the adjusted
-//! directions; the residuals; the greatest of them; and the standard deviation of one two-face
-//! direction.
+//! directions; the residuals; the greatest of them; and how accurate directions are.
 #![tactic(auto)]
 
+mod accuracy;
 mod columns;
 mod computed;
 mod computing;
 mod deviation;
 mod directions;
 mod ending;
+mod face_means;
+mod gaps;
 mod head;
 pub mod laws;
+mod notes;
 mod place_of;
 mod places;
 mod readings;
@@ -22,11 +25,13 @@ mod residual_columns;
 mod root;
 mod squares;
 mod text;
+mod together;
 
+pub use accuracy::Accuracy;
 pub use columns::{push_count, push_left, push_right};
 pub use computed::Computed;
 pub use computing::{computed_by, computed_of};
-pub use deviation::{degrees_of, deviation_by};
-pub use head::{ENTRY_NAMES, push_file};
-pub use readings::{READ_UNIT, reading_one, reading_two};
+pub use deviation::{accuracy_by, degrees_of};
+pub use head::{ENTRY_NAMES, Head, push_file};
+pub use readings::{READ_UNIT, reading_one, reading_two, zenith_mean, zenith_one, zenith_two};
 pub use report::text_by;

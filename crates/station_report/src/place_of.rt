@@ -4,7 +4,7 @@
 ghost use Rattle.std.specs.Prelude.{◌≡◌, AllPairs, true, false};
 ghost use Rattle.adjust_kernel.specs.Stations.{IsBefore};
 ghost use Rattle.station_report.specs.Fronts.{IsFront, StandsBefore};
-ghost use Rattle.station_report.specs.ReportTexts as spec;
+ghost use Rattle.station_report.specs.Readings as spec;
 
 use adjust_kernel::{Obs, Station};
 

@@ -2,12 +2,14 @@
 ghost use Rattle.std.specs.Prelude.{◌≡◌, ◌≤◌, ◌<◌, ◌+◌, ◌++◌, IfSome, OnOk, length};
 ghost use Rattle.std.specs.Option.{option_map_or};
 ghost use Rattle.adjust_kernel.specs.declared.bounds.TheConstants.{TURN};
+ghost use Rattle.station_book.specs.declared.bounds.TheConstants.{CIRCLE};
 ghost use Rattle.station_report.specs.Columns.{each_place, right_text};
 ghost use Rattle.station_report.specs.Readings as reading;
 ghost use Rattle.station_report.specs.ReportTexts as spec;
 ghost use Rattle.angle_texts.specs.MgonTexts.{short_mgon_text};
 
 use crate::columns::{push_left, push_right, push_right_number};
+use crate::face_means::{DIFFERENCES, push_foot};
 use crate::places::{faces_at, name_of, number_of, observation_at};
 use adjust_kernel::{HALF_UNIT, LONGEST_NAME, Station, TURN};
 use angle_texts::{push_gon, push_short_gon, push_short_mgon};
@@ -35,6 +37,30 @@ pub fn reading_two(value: u32, two_c: i32) -> u32
     (opposite + i64::from(two_c)).rem_euclid(i64::from(CIRCLE)) as u32
 }
 
+/// The zenith angle that was read in face I, in units of 0.00001 gon.
+pub fn zenith_one(zenith: i32) -> u32
+    ensures value { result ≡ reading.zenith_one zenith }
+    ensures bound { result < CIRCLE }
+{
+    i64::from(zenith).rem_euclid(i64::from(CIRCLE)) as u32
+}
+
+/// The zenith angle that was read in face II, in units of 0.00001 gon.
+pub fn zenith_two(zenith: i32, two_i: i32) -> u32
+    ensures value { result ≡ reading.zenith_two zenith two_i }
+    ensures bound { result < CIRCLE }
+{
+    (i64::from(two_i) - i64::from(zenith)).rem_euclid(i64::from(CIRCLE)) as u32
+}
+
+/// The zenith angle of both faces, in half units (0.000005 gon each).
+pub fn zenith_mean(zenith: i32, two_i: i32) -> u32
+    ensures value { result ≡ reading.zenith_mean zenith two_i }
+    ensures bound { result < TURN }
+{
+    zenith_one(zenith) + (CIRCLE - zenith_two(zenith, two_i))
+}
+
 /// The place of the first observation of a set.
 fn first_of(station: &Station, set: u32) -> Option<usize>
     ensures place { result ≡ reading.first_of station.now set }
@@ -58,11 +84,11 @@ fn first_value(station: &Station, set: u32) -> u32
 /// Adds a field that was read, in units of 0.00001 gon.
 fn push_read(text: &mut Vec<u8>, field: &mut Vec<u8>, units: u32) -> Result<(), AllocError>
     ensures { OnOk result
-        (text.new.items ≡ text.old.items ++ right_text 12 (spec.read_text units)) }
+        (text.new.items ≡ text.old.items ++ right_text 11 (spec.read_text units)) }
 {
     field.clear();
     push_short_gon(field, READ_UNIT * u64::from(units))?;
-    push_right(text, 12, field)?;
+    push_right(text, 11, field)?;
     Ok(())
 }
 
@@ -80,11 +106,11 @@ fn push_mean(text: &mut Vec<u8>, field: &mut Vec<u8>, half_units: u32) -> Result
 /// Adds a field of a face difference, in units of 0.01 mgon.
 fn push_difference(text: &mut Vec<u8>, field: &mut Vec<u8>, units: i32) -> Result<(), AllocError>
     ensures { OnOk result
-        (text.new.items ≡ text.old.items ++ right_text 11 (short_mgon_text units)) }
+        (text.new.items ≡ text.old.items ++ right_text 10 (short_mgon_text units)) }
 {
     field.clear();
     push_short_mgon(field, units)?;
-    push_right(text, 11, field)?;
+    push_right(text, DIFFERENCES, field)?;
     Ok(())
 }
 
@@ -238,22 +264,24 @@ fn push_sets(text: &mut Vec<u8>, field: &mut Vec<u8>, surveyed: &Surveyed) -> Re
     Ok(())
 }
 
-/// Adds the readings, set by set.
+/// Adds the readings, set by set, and what their face differences have together.
 pub(crate) fn push_readings(
     alloc: Global,
     text: &mut Vec<u8>,
     surveyed: &Surveyed,
 ) -> Result<(), AllocError>
+    requires { 0 < length surveyed.now.station.obs }
     ensures { OnOk result (text.new.items ≡ text.old.items ++ spec.readings_text surveyed.now) }
 {
     let mut field = Vec::new(alloc);
     text.extend_from_slice(
-        b"\nReadings in gon, mean of both faces counted from the first row of the set, \
-          2c and 2i in mgon\n\n",
+        b"\nReadings in gon, mean of both faces counted from the first row of the set,\n",
     )?;
+    text.extend_from_slice(b"2c and 2i in mgon\n\n")?;
     text.extend_from_slice(
-        b"  Set  Target                Face I     Face II         Mean         2c         2i\n",
+        b"  Set  Target               Face I    Face II         Mean        2c        2i\n",
     )?;
     push_sets(text, &mut field, surveyed)?;
+    push_foot(text, &mut field, surveyed)?;
     Ok(())
 }

@@ -1,9 +1,11 @@
 //! The report of a station.
 ghost use Rattle.std.specs.Prelude.{IfOk};
 ghost use Rattle.station_report.specs.Computing.{IsComputedOf};
+ghost use Rattle.station_report.specs.NoteTexts.{head_of};
 ghost use Rattle.station_report.specs.Stating.{IsReportText};
 
 use crate::computed::Computed;
+use crate::head::Head;
 use crate::text::text_of;
 use station_book::{ResultLimits, Surveyed};
 use std::alloc::{AllocError, Global};
@@ -14,7 +16,7 @@ use std::alloc::{AllocError, Global};
 /// The only error is that memory was refused.
 pub fn text_by(
     alloc: Global,
-    path: &[u8],
+    head: Head<'_, '_>,
     limits: ResultLimits,
     surveyed: &Surveyed,
     computed: &Computed,
@@ -22,7 +24,7 @@ pub fn text_by(
 ) -> Result<Vec<u8>, AllocError>
     requires { IsComputedOf surveyed.now.station computed.now }
     ensures { IfOk result (λ text.
-        IsReportText path.now limits surveyed.now section.now text.items) }
+        IsReportText (head_of head.entry) limits surveyed.now section.now text.items) }
 {
-    text_of(alloc, path, limits, surveyed, section, computed)
+    text_of(alloc, head, limits, surveyed, section, computed)
 }

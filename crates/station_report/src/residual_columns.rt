@@ -13,7 +13,7 @@ use station_results::AdjustedObs;
 use std::alloc::{AllocError, Global};
 
 /// So many sets stand beside each other.
-const GROUP: usize = 10;
+const GROUP: usize = 7;
 
 /// The width of a set's column.
 const WIDTH: usize = 8;
@@ -39,7 +39,7 @@ fn push_residual(
     }
 }
 
-/// Adds the column of a set, if it is one of ten from one on: the residual of a target.
+/// Adds the column of a set, if it is one of seven from one on: the residual of a target.
 fn push_cell(
     text: &mut Vec<u8>,
     field: &mut Vec<u8>,
@@ -61,7 +61,7 @@ fn push_cell(
     Ok(())
 }
 
-/// Adds the column of a set, if it is one of ten from one on: its number.
+/// Adds the column of a set, if it is one of seven from one on: its number.
 fn push_number(
     text: &mut Vec<u8>,
     station: &Station,
@@ -78,7 +78,7 @@ fn push_number(
     Ok(())
 }
 
-/// Adds the numbers of ten sets from one on, in their columns.
+/// Adds the numbers of seven sets from one on, in their columns.
 fn push_number_columns(
     text: &mut Vec<u8>,
     station: &Station,
@@ -93,7 +93,7 @@ fn push_number_columns(
     Ok(())
 }
 
-/// Adds the line of the numbers of ten sets from one on.
+/// Adds the line of the numbers of seven sets from one on.
 fn push_numbers(text: &mut Vec<u8>, station: &Station, start: usize) -> Result<(), AllocError>
     ensures { OnOk result
         (text.new.items ≡ text.old.items ++ spec.numbers_line station.now start) }
@@ -104,7 +104,7 @@ fn push_numbers(text: &mut Vec<u8>, station: &Station, start: usize) -> Result<(
     Ok(())
 }
 
-/// Adds the residuals of a target in ten sets from one on, in their columns.
+/// Adds the residuals of a target in seven sets from one on, in their columns.
 fn push_cells(
     text: &mut Vec<u8>,
     field: &mut Vec<u8>,
@@ -123,7 +123,7 @@ fn push_cells(
     Ok(())
 }
 
-/// Adds the line of a target: its residuals in ten sets from one on.
+/// Adds the line of a target: its residuals in seven sets from one on.
 fn push_line(
     text: &mut Vec<u8>,
     field: &mut Vec<u8>,
@@ -163,7 +163,7 @@ fn push_lines(
     Ok(())
 }
 
-/// Adds the residuals of ten sets from one on.
+/// Adds the residuals of seven sets from one on.
 fn push_group(
     text: &mut Vec<u8>,
     field: &mut Vec<u8>,
@@ -180,7 +180,7 @@ fn push_group(
     Ok(())
 }
 
-/// Adds the residuals of ten sets from one on, if that is a tenth.
+/// Adds the residuals of seven sets from one on, if that is a seventh.
 fn push_group_at(
     text: &mut Vec<u8>,
     field: &mut Vec<u8>,
@@ -198,7 +198,7 @@ fn push_group_at(
     Ok(())
 }
 
-/// Adds the residuals of all sets, ten after the other.
+/// Adds the residuals of all sets, seven after the other.
 fn push_groups(
     text: &mut Vec<u8>,
     field: &mut Vec<u8>,

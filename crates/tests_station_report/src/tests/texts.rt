@@ -1,20 +1,20 @@
 //! Stations worked in exact fractions: what a report computes of them, and its text.
 
 use super::worked::{
-    AMPLE, PATH, STEPS, given, held, limits, limits_with, refused, report_of, room_for, s1, s4,
-    with_line,
+    AMPLE, HEAD, NOTHING_TO_COMPARE, ONE_SET, STEPS, given, held, limits, limits_with, refused,
+    report_of, room_for, s1, s4, with_line,
 };
 use adjust_kernel::ResidualLimit;
 use exact_adjustment::{AdjustError, AdjustFault};
 use station_answers::{Report, answer_of, run_answer, write_answer};
 use station_check::Fault;
-use station_compare::CompareFault;
-use station_report::{computed_of, degrees_of};
+use station_compare::{CompareFault, Refusal};
+use station_report::{Accuracy, Head, computed_of, degrees_of};
 use std::test::Fail;
 use test_support::{Observed, TIE, TWO_PARTS, station_of};
 
 /// The report of a file of this path.
-const REPORT: Report<'static> = Report { path: PATH };
+const REPORT: Report<'static, 'static> = Report { head: HEAD };
 
 /// The last reading is 30 mgon off: two residuals are 10 mgon, no more than there may be.
 const LARGEST: [Observed; 6] = [
@@ -38,35 +38,52 @@ const GAPS: [Observed; 7] = [
 ];
 
 /// One set, which nothing stands against.
-const ONE_SET: [Observed; 3] = [(0, 0, 0), (0, 1, 10_000_000), (0, 2, 79_999_999)];
+const ALONE: [Observed; 3] = [(0, 0, 0), (0, 1, 10_000_000), (0, 2, 79_999_999)];
 
 /// The angles differ by a half unit: residuals are quarters of it, and the root of the sum of their
 /// squares is half of it, which is 2.5 units.
 const MIDDLE: [Observed; 4] = [(0, 0, 0), (0, 1, 0), (1, 0, 0), (1, 1, 1)];
 
-/// Variances are 25 / 4, 150,000,000 and 5,035 / 3, in squares of 0.001 mgon.
+/// The accuracy of these numbers.
+fn accuracy(squares: u64, of_one: u32, of_adjusted: Option<u32>) -> Option<Accuracy> {
+    Some(Accuracy {
+        squares,
+        of_one,
+        of_adjusted,
+    })
+}
+
+/// Sums of squares are 25 / 4, 300,000,000 and 10,070 / 3, in squares of 0.001 mgon; variances these
+/// over the degrees of freedom, and of adjusted directions over the sets too.
 #[test]
-fn the_standard_deviation_is_rounded_once(rt: HostRuntime) -> Result<(), Fail> {
-    let cases: [(u16, &[u8], &[Observed], u64, Option<u32>, usize); 5] = [
-        (2, b"AB", &MIDDLE, 1, Some(3), 0),
-        (3, b"AB", &LARGEST, 2, Some(12_247), 4),
-        (3, b"ABC", &GAPS, 2, Some(41), 1),
-        (1, b"ABC", &ONE_SET, 0, None, 0),
+fn sums_and_standard_deviations_are_rounded_once(rt: HostRuntime) -> Result<(), Fail> {
+    let cases: [(u16, &[u8], &[Observed], u64, Option<Accuracy>, usize); 5] = [
+        (2, b"AB", &MIDDLE, 1, accuracy(6, 3, Some(2)), 0),
+        (
+            3,
+            b"AB",
+            &LARGEST,
+            2,
+            accuracy(300_000_000, 12_247, Some(7_071)),
+            4,
+        ),
+        (3, b"ABC", &GAPS, 2, accuracy(3_357, 41, None), 1),
+        (1, b"ABC", &ALONE, 0, None, 0),
         (2, b"A", &[(0, 0, 7), (1, 0, 79_999_999)], 0, None, 0),
     ];
-    for (sets, letters, observed, degrees, deviation, greatest) in cases {
+    for (sets, letters, observed, degrees, accuracy, greatest) in cases {
         let station = station_of(rt.alloc(), sets, letters, observed)?;
         let limit = ResidualLimit::new(2_000).expect(&rt, "a limit");
         let computed = computed_of(rt.alloc(), &station, limit).map_err(|_| "no adjustment")?;
         assert_eq!(rt; degrees_of(&station), degrees);
-        assert_eq!(rt; computed.deviation, deviation);
+        assert_eq!(rt; computed.accuracy, accuracy);
         assert_eq!(rt; computed.greatest, greatest);
     }
     Ok(())
 }
 
-/// 40 sets of 2 targets, of which the second goes through the squares modulo 7: the variance is
-/// 405 / 16.
+/// 40 sets of 2 targets, of which the second goes through the squares modulo 7: the sum of squares is
+/// 15,795 / 16.
 #[test]
 fn the_most_sets_have_a_standard_deviation(rt: HostRuntime) -> Result<(), Fail> {
     let mut observed = Vec::new(rt.alloc());
@@ -78,7 +95,7 @@ fn the_most_sets_have_a_standard_deviation(rt: HostRuntime) -> Result<(), Fail> 
     let limit = ResidualLimit::new(2).expect(&rt, "a limit");
     let computed = computed_of(rt.alloc(), &station, limit).map_err(|_| "no adjustment")?;
     assert_eq!(rt; degrees_of(&station), 39);
-    assert_eq!(rt; computed.deviation, Some(5));
+    assert_eq!(rt; computed.accuracy, accuracy(987, 5, Some(1)));
     Ok(())
 }
 
@@ -142,14 +159,15 @@ fn a_path_with_control_bytes_is_shown_by_codes(rt: HostRuntime) -> Result<(), Fa
     let report = report_of(rt.alloc(), s1())?;
     for (path, line) in paths {
         let gsi = given(s1().gsi, usize::MAX, false);
-        let asked = Report { path };
+        let head = Head { path, notes: None };
+        let asked = Report { head };
         let (answer, _gsi) = answer_of(rt.alloc(), gsi, s1().name, limits(&rt), &asked);
         match answer {
             Ok(text) => {
                 let want = with_line(rt.alloc(), &report, b"Field file", line)?;
                 assert_eq!(rt; text.as_slice(), want.as_slice());
             }
-            Err(fault) => assert!(rt; false, "{fault:?}"),
+            Err(Refusal { fault, .. }) => assert!(rt; false, "{fault:?}"),
         }
     }
     Ok(())
@@ -175,6 +193,22 @@ fn a_report_is_printed_of_a_file_in_pieces(rt: HostRuntime) -> Result<(), Fail> 
 }
 
 #[test]
+fn where_no_angle_was_measured_twice_there_is_nothing_to_compare(
+    rt: HostRuntime,
+) -> Result<(), Fail> {
+    let gsi = given(ONE_SET, usize::MAX, false);
+    let (answer, _gsi) = answer_of(rt.alloc(), gsi, b"S1", limits(&rt), &REPORT);
+    match answer {
+        Ok(text) => {
+            let end = text.len().saturating_sub(NOTHING_TO_COMPARE.len());
+            assert_eq!(rt; &text.as_slice()[end..], NOTHING_TO_COMPARE);
+        }
+        Err(Refusal { fault, .. }) => assert!(rt; false, "{fault:?}"),
+    }
+    Ok(())
+}
+
+#[test]
 fn a_field_file_without_a_report_has_its_first_fault(rt: HostRuntime) -> Result<(), Fail> {
     let faults: [(&[u8], &[u8], CompareFault); 3] = [
         (s1().gsi, b"S2", CompareFault::File(Fault::NoStation)),
@@ -188,7 +222,7 @@ fn a_field_file_without_a_report_has_its_first_fault(rt: HostRuntime) -> Result<
     for (gsi, name, fault) in faults {
         let gsi = given(gsi, usize::MAX, false);
         let (answer, _gsi) = answer_of(rt.alloc(), gsi, name, limits(&rt), &REPORT);
-        assert_eq!(rt; answer.err(), Some(fault));
+        assert_eq!(rt; answer.err().map(|refusal| refusal.fault), Some(fault));
     }
     for (gsi, fails, name, line) in refused() {
         let gsi = given(gsi, 7, fails);
@@ -212,7 +246,10 @@ fn a_writer_without_room_or_whose_flush_fails_is_told(rt: HostRuntime) -> Result
         let mut out = room_for(rt.alloc(), room, room == report.len())?;
         let (name, limits) = (worked.name, limits(&rt));
         let answer = write_answer(rt.alloc(), gsi, name, limits, &REPORT, &mut out);
-        assert_eq!(rt; answer, Err(CompareFault::Write));
+        assert_eq!(rt;
+            answer.map_err(|refusal| refusal.fault),
+            Err(CompareFault::Write)
+        );
         assert_eq!(rt; out.bytes(), &report[..room]);
     }
     Ok(())

@@ -1,12 +1,12 @@
 //! Reports of stations worked by hand, with tables beside their directions.
 
 use super::worked::{
-    AMPLE, PATH, STEPS, Worked, given, joined, limits, limits_with, refused, room_for, s1, s4,
+    AMPLE, HEAD, STEPS, Worked, given, joined, limits, limits_with, refused, room_for, s1, s4,
     with_line,
 };
 use byte_ends::{OfRead, OfWrite};
-use direction_table::AngleUnit;
-use station_compare::{CompareFault, HowFar};
+use direction_table::{AngleUnit, TableForm};
+use station_compare::{CompareFault, HowFar, Refusal};
 use std::alloc::Global;
 use std::test::Fail;
 use table_answers::{run_table_answer, table_answer_of, verdict, write_table_answer};
@@ -38,6 +38,14 @@ struct Beside {
     refused: &'static [u8],
 }
 
+/// How a table in this unit is read, no columns of which are stated.
+fn in_unit(unit: AngleUnit) -> TableForm {
+    TableForm {
+        unit,
+        columns: None,
+    }
+}
+
 /// A table whose row B is first, and that is turned by 100 gon.
 const TURNED: Beside = Beside {
     of: Of::S1,
@@ -47,8 +55,7 @@ const TURNED: Beside = Beside {
     lines: b"  A                       100.000100         0.015              0.030\n\
 \x20 B                       150.000100        -0.015              0.000\n",
     limit: b"0.055",
-    verdict: b"agrees S1: 2 sets, 2 targets, within 0.015 mgon, limit 0.055 mgon, \
-greatest residual 0.005 mgon",
+    verdict: b"agrees: 2 targets, within 0.015 mgon",
     beyond: None,
     refused: b"",
 };
@@ -57,7 +64,7 @@ greatest residual 0.005 mgon",
 const APART: Beside = Beside {
     within: Some(14),
     limit: b"0.014",
-    verdict: b"apart S1: 2 targets, by 0.015 mgon, limit 0.014 mgon",
+    verdict: b"apart: 2 targets, by 0.015 mgon",
     beyond: Some(HowFar {
         apart: 15,
         limit: 14,
@@ -73,8 +80,7 @@ fn tables() -> [Beside; 10] {
         Beside {
             within: Some(15),
             limit: b"0.015",
-            verdict: b"agrees S1: 2 sets, 2 targets, within 0.015 mgon, limit 0.015 mgon, \
-greatest residual 0.005 mgon",
+            verdict: b"agrees: 2 targets, within 0.015 mgon",
             ..TURNED
         },
         APART,
@@ -85,7 +91,7 @@ greatest residual 0.005 mgon",
             lines: b"  A                         0.000000         0.000              0.000\n\
 \x20 B                        50.000031         0.001              0.001\n",
             limit: b"0.000",
-            verdict: b"apart S1: 2 targets, by 0.001 mgon, limit 0.000 mgon",
+            verdict: b"apart: 2 targets, by 0.001 mgon",
             beyond: Some(HowFar { apart: 1, limit: 0 }),
             refused: b"refused: compare: Apart 0.001 mgon, limit 0.000 mgon\n",
             ..TURNED
@@ -97,7 +103,7 @@ greatest residual 0.005 mgon",
             lines: b"  A                         0.000000   -100000.000              0.000\n\
 \x20 B                       250.000030    100000.000         200000.000\n",
             limit: b"1000.000",
-            verdict: b"apart S1: 2 targets, by 100000.000 mgon, limit 1000.000 mgon",
+            verdict: b"apart: 2 targets, by 100000.000 mgon",
             beyond: Some(HowFar {
                 apart: 100_000_000,
                 limit: 1_000_000,
@@ -112,8 +118,7 @@ greatest residual 0.005 mgon",
             lines: b"  A                         0.000000         0.000              0.000\n\
 \x20 B                        50.000030         0.000              0.000\n",
             limit: b"0.010",
-            verdict: b"agrees S1: 2 sets, 2 targets, within 0.000 mgon, limit 0.010 mgon, \
-greatest residual 0.005 mgon",
+            verdict: b"agrees: 2 targets, within 0.000 mgon",
             ..TURNED
         },
         // 0.2 seconds are 0.00006172839.. gon.
@@ -123,7 +128,7 @@ greatest residual 0.005 mgon",
             lines: b"  A                      0.000000000        -0.016              0.000\n\
 \x20 B                     50.000061728         0.016              0.032\n",
             limit: b"0.010",
-            verdict: b"apart S1: 2 targets, by 0.016 mgon, limit 0.010 mgon",
+            verdict: b"apart: 2 targets, by 0.016 mgon",
             beyond: Some(HowFar {
                 apart: 16,
                 limit: 10,
@@ -138,8 +143,7 @@ greatest residual 0.005 mgon",
             lines: b"  A                       100.000000         0.015              0.030\n\
 \x20 B                       150.000000        -0.015              0.000\n",
             limit: b"0.061",
-            verdict: b"agrees S1: 2 sets, 2 targets, within 0.015 mgon, limit 0.061 mgon, \
-greatest residual 0.005 mgon",
+            verdict: b"agrees: 2 targets, within 0.015 mgon",
             ..TURNED
         },
         // Differences of 0, -62/3 and -61/3 units: half of the spread is 31/3, and rounded up 11.
@@ -150,7 +154,7 @@ greatest residual 0.005 mgon",
 \x20 B,\"1                     50.000026        -0.010              0.000\n\
 \x20 C                       150.000029        -0.010              0.000\n",
             limit: b"0.010",
-            verdict: b"apart S4: 3 targets, by 0.011 mgon, limit 0.010 mgon",
+            verdict: b"apart: 3 targets, by 0.011 mgon",
             beyond: Some(HowFar {
                 apart: 11,
                 limit: 10,
@@ -166,8 +170,7 @@ greatest residual 0.005 mgon",
 \x20 B,\"1                     50.000026        -0.010              0.000\n\
 \x20 C                       150.000029        -0.010              0.000\n",
             limit: b"0.011",
-            verdict: b"agrees S4: 3 sets, 3 targets, within 0.011 mgon, limit 0.011 mgon, \
-greatest residual 0.026 mgon",
+            verdict: b"agrees: 3 targets, within 0.011 mgon",
             ..TURNED
         },
     ]
@@ -183,15 +186,26 @@ fn beside_held() -> [(Beside, u32, &'static [u8], &'static [u8]); 4] {
 \x20 B,\"1                     50.000047         0.000              0.000\n\
 \x20 C                       150.000049         0.000              0.000\n",
         limit: b"0.010",
-        verdict: b"agrees S4: 3 sets, 3 targets, within 0.001 mgon, limit 0.010 mgon, \
-greatest residual 0.026 mgon",
+        verdict: b"agrees: 3 targets, within 0.001 mgon",
         ..TURNED
     };
     [
         (TURNED, 1, b"Limit of residuals    0.005 mgon\n", b""),
-        (TURNED, 0, b"", b"refused: adjust: Residual 1\n"),
+        (
+            TURNED,
+            0,
+            b"",
+            b"refused: adjust: Residual 1\n\
+set 1, A: the greatest residual, above the limit of 0.000 mgon\n",
+        ),
         (level, 6, b"Limit of residuals    0.030 mgon\n", b""),
-        (level, 5, b"", b"refused: adjust: Residual 2\n"),
+        (
+            level,
+            5,
+            b"",
+            b"refused: adjust: Residual 2\n\
+set 1, B,\"1: the greatest residual, above the limit of 0.025 mgon\n",
+        ),
     ]
 }
 
@@ -205,11 +219,11 @@ impl Beside {
     }
 
     /// What is asked, of a table of this path.
-    fn asked(self, table_path: &[u8]) -> Asked<'_> {
+    fn asked(self, table_path: &[u8]) -> Asked<'_, 'static> {
         Asked {
-            path: PATH,
+            head: HEAD,
             table_path,
-            unit: self.unit,
+            form: in_unit(self.unit),
             within: self.within,
         }
     }
@@ -221,7 +235,7 @@ impl Beside {
             alloc,
             &[
                 worked.before,
-                b"\nStated directions in gon, differences in mgon: stated less adjusted, \
+                b"\nStated directions in gon, differences in mgon: stated less adjusted,\n\
 after the best rotation\n\n\
 \x20 Target                      Stated    Difference    From the median\n\n",
                 self.lines,
@@ -254,13 +268,14 @@ fn a_table_stands_beside_the_adjusted_directions(rt: HostRuntime) -> Result<(), 
             let (name, limits) = (beside.worked().name, limits(&rt));
             let (answer, _gsi) = table_answer_of(rt.alloc(), gsi, &mut table, name, limits, &asked);
             match answer {
-                Ok(report) => {
+                Ok(noted) => {
+                    let report = noted.answer;
                     assert_eq!(rt; report.text.as_slice(), want.as_slice());
                     assert_eq!(rt; report.beyond, beside.beyond);
                     let apart = beside.beyond.map(CompareFault::Apart);
                     assert_eq!(rt; verdict(report.beyond).err(), apart);
                 }
-                Err(fault) => assert!(rt; false, "{fault:?}"),
+                Err(Refusal { fault, .. }) => assert!(rt; false, "{fault:?}"),
             }
         }
     }
@@ -365,13 +380,13 @@ fn a_table_without_a_report_has_the_first_fault(rt: HostRuntime) -> Result<(), F
             b"B,50\n",
             AngleUnit::Gon,
             false,
-            b"refused: table: Missing 1\n",
+            b"refused: table: Missing 1\nthe table lacks A\n",
         ),
         (
             b"",
             AngleUnit::Degrees,
             false,
-            b"refused: table: Missing 1\n",
+            b"refused: table: Missing 1\nthe table lacks A\n",
         ),
         (
             b"A,0-00-00\nB,45-00-00\n",
@@ -399,7 +414,7 @@ fn a_table_without_a_report_has_the_first_fault(rt: HostRuntime) -> Result<(), F
     }
     for (gsi, gsi_fails, name, table, unit, fails, line) in cases {
         let asked = Asked {
-            unit,
+            form: in_unit(unit),
             ..TURNED.asked(b"table.csv")
         };
         let gsi = given(gsi, 7, gsi_fails);
@@ -435,7 +450,7 @@ fn a_writer_without_room_for_a_table_or_whose_flush_fails_is_told(
             let gsi = given(beside.worked().gsi, usize::MAX, false);
             let mut table = given(beside.table, usize::MAX, false);
             let mut out = room_for(rt.alloc(), room, room == report.len())?;
-            let answer = write_table_answer(
+            let (answer, _note) = write_table_answer(
                 rt.alloc(),
                 gsi,
                 &mut table,
@@ -444,7 +459,10 @@ fn a_writer_without_room_for_a_table_or_whose_flush_fails_is_told(
                 &asked,
                 &mut out,
             );
-            assert_eq!(rt; answer, Err(CompareFault::Write));
+            assert_eq!(rt;
+                answer.map_err(|refusal| refusal.fault),
+                Err(CompareFault::Write)
+            );
             assert_eq!(rt; out.bytes(), &report[..room]);
         }
     }
@@ -477,7 +495,7 @@ fn ends_of_a_table_report_that_fail_once_are_not_asked_again(rt: HostRuntime) ->
         let mut table = given(APART.table, usize::MAX, false);
         let mut writer = Resumes::new(calls, 200);
         let mut out = OfWrite::new(&mut writer);
-        let answer = write_table_answer(
+        let (answer, _note) = write_table_answer(
             rt.alloc(),
             gsi,
             &mut table,
@@ -487,7 +505,10 @@ fn ends_of_a_table_report_that_fail_once_are_not_asked_again(rt: HostRuntime) ->
             &mut out,
         );
         drop(out);
-        assert_eq!(rt; answer, Err(CompareFault::Write));
+        assert_eq!(rt;
+            answer.map_err(|refusal| refusal.fault),
+            Err(CompareFault::Write)
+        );
         assert_eq!(rt; writer.bytes, report.len().min(calls.saturating_mul(200)));
         assert_eq!(rt; writer.asked_on, 0);
     }

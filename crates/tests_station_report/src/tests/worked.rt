@@ -3,6 +3,7 @@
 use adjust_kernel::ResidualLimit;
 use byte_ends::{Held, Script};
 use station_book::{Limits, ResultLimits};
+use station_report::Head;
 use std::alloc::Global;
 use std::process::Abort;
 use std::test::Fail;
@@ -14,8 +15,11 @@ pub const AMPLE: usize = 4_000;
 /// How many bytes the readers give at a time.
 pub const STEPS: [usize; 4] = [1, 7, 64, usize::MAX];
 
-/// The path of the field file.
-pub const PATH: &[u8] = b"field.gsi";
+/// The head of the report of a field file, which was told to note nothing.
+pub const HEAD: Head<'static, 'static> = Head {
+    path: b"field.gsi",
+    notes: None,
+};
 
 /// A station of a field file, and what is printed of it where both limits of face differences are 1
 /// mgon, and that of residuals is the largest.
@@ -28,6 +32,8 @@ pub struct Worked {
     /// Its report from there on.
     pub after: &'static [u8],
     pub rows: &'static [u8],
+    /// The same with semicolons between cells, and commas in numbers.
+    pub semicolon_rows: &'static [u8],
 }
 
 /// Two sets of targets A and B, each in both faces: B is 50.00003 gon from A.
@@ -42,19 +48,25 @@ Station               S1\n\
 Sets                  2\n\
 Targets               2\n\
 Two-face directions   4\n\
+Missing directions    0\n\
 Limit of 2c           1.00 mgon\n\
 Limit of 2i           1.00 mgon\n\
 Limit of residuals    10.000 mgon\n\
 \n\
-Readings in gon, mean of both faces counted from the first row of the set, 2c and 2i in mgon\n\
+Readings in gon, mean of both faces counted from the first row of the set,\n\
+2c and 2i in mgon\n\
 \n\
-\x20 Set  Target                Face I     Face II         Mean         2c         2i\n\
+\x20 Set  Target               Face I    Face II         Mean        2c        2i\n\
 \n\
-\x20   1  A                    0.00000   200.00006     0.000000       0.06      -0.02\n\
-\x20   1  B                   50.00000   250.00010    50.000020       0.10       0.00\n\
+\x20   1  A                   0.00000  200.00006     0.000000      0.06     -0.02\n\
+\x20   1  B                  50.00000  250.00010    50.000020      0.10      0.00\n\
 \n\
-\x20   2  A                  100.00000   300.00004     0.000000       0.04       0.00\n\
-\x20   2  B                  150.00004   350.00008    50.000040       0.04       0.00\n\
+\x20   2  A                 100.00000  300.00004     0.000000      0.04      0.00\n\
+\x20   2  B                 150.00004  350.00008    50.000040      0.04      0.00\n\
+\n\
+\x20 Mean                                                          0.06      0.00\n\
+\x20 Half of the mean: collimation and index error                 0.03      0.00\n\
+\x20 Spread: the greatest less the least                           0.06      0.02\n\
 \n\
 Adjusted directions in gon, by least squares, counted from the first target\n\
 \n\
@@ -72,12 +84,21 @@ Residuals in mgon: adjusted direction less two-face direction\n\
 \n\
 Greatest residual     -0.005 mgon, set 1, target A\n\
 Degrees of freedom    1\n\
-Standard deviation    0.010 mgon, of one two-face direction\n",
-        rows: b"station,set,target,face one,face two,direction,2c,2i,adjusted,residual\n\
-S1,1,A,0.000000,200.000060,0.000030,0.06,-0.02,0.000025,-0.005\n\
-S1,1,B,50.000000,250.000100,50.000050,0.10,0.00,50.000055,0.005\n\
-S1,2,A,100.000000,300.000040,100.000020,0.04,0.00,100.000025,0.005\n\
-S1,2,B,150.000040,350.000080,150.000060,0.04,0.00,150.000055,-0.005\n",
+Sum of squares [vv]   0.000100 mgon^2\n\
+Standard deviation    0.010 mgon, of one two-face direction\n\
+Standard deviation    0.007 mgon, of each adjusted direction\n",
+        rows: b"station,set,target,face one,face two,direction,2c,2i,adjusted,residual,\
+         zenith one,zenith two,zenith mean\n\
+S1,1,A,0.000000,200.000060,0.000030,0.06,-0.02,0.000025,-0.005,100.000000,299.999980,100.000010\n\
+S1,1,B,50.000000,250.000100,50.000050,0.10,0.00,50.000055,0.005,100.000000,300.000000,100.000000\n\
+S1,2,A,100.000000,300.000040,100.000020,0.04,0.00,100.000025,0.005,100.000000,300.000000,100.000000\n\
+S1,2,B,150.000040,350.000080,150.000060,0.04,0.00,150.000055,-0.005,100.000000,300.000000,100.000000\n",
+        semicolon_rows: b"station;set;target;face one;face two;direction;2c;2i;adjusted;residual;\
+         zenith one;zenith two;zenith mean\n\
+S1;1;A;0,000000;200,000060;0,000030;0,06;-0,02;0,000025;-0,005;100,000000;299,999980;100,000010\n\
+S1;1;B;50,000000;250,000100;50,000050;0,10;0,00;50,000055;0,005;100,000000;300,000000;100,000000\n\
+S1;2;A;100,000000;300,000040;100,000020;0,04;0,00;100,000025;0,005;100,000000;300,000000;100,000000\n\
+S1;2;B;150,000040;350,000080;150,000060;0,04;0,00;150,000055;-0,005;100,000000;300,000000;100,000000\n",
     }
 }
 
@@ -113,23 +134,31 @@ Station               S4\n\
 Sets                  3\n\
 Targets               3\n\
 Two-face directions   7\n\
+Missing directions    2\n\
+\x20 A                   in set 7\n\
+\x20 B,\"1                in set 12\n\
 Limit of 2c           1.00 mgon\n\
 Limit of 2i           1.00 mgon\n\
 Limit of residuals    10.000 mgon\n\
 \n\
-Readings in gon, mean of both faces counted from the first row of the set, 2c and 2i in mgon\n\
+Readings in gon, mean of both faces counted from the first row of the set,\n\
+2c and 2i in mgon\n\
 \n\
-\x20 Set  Target                Face I     Face II         Mean         2c         2i\n\
+\x20 Set  Target               Face I    Face II         Mean        2c        2i\n\
 \n\
-\x20   1  A                  399.99999   200.00001     0.000000       0.02       0.00\n\
-\x20   1  B,\"1                50.00003   249.99997    50.000000      -0.06       0.15\n\
-\x20   1  C                  150.00003   350.00004   150.000035       0.01       0.00\n\
+\x20   1  A                 399.99999  200.00001     0.000000      0.02      0.00\n\
+\x20   1  B,\"1               50.00003  249.99997    50.000000     -0.06      0.15\n\
+\x20   1  C                 150.00003  350.00004   150.000035      0.01      0.00\n\
 \n\
-\x20   7  B,\"1               250.00005    50.00005     0.000000       0.00      -0.04\n\
-\x20   7  C                  350.00010   149.99990    99.999950      -0.20       0.00\n\
+\x20   7  B,\"1              250.00005   50.00005     0.000000      0.00     -0.04\n\
+\x20   7  C                 350.00010  149.99990    99.999950     -0.20      0.00\n\
 \n\
-\x20  12  A                  100.00001   300.00001     0.000000       0.00      -0.01\n\
-\x20  12  C                  250.00005    50.00015   150.000090       0.10       0.00\n\
+\x20  12  A                 100.00001  300.00001     0.000000      0.00     -0.01\n\
+\x20  12  C                 250.00005   50.00015   150.000090      0.10      0.00\n\
+\n\
+\x20 Mean                                                         -0.02      0.01\n\
+\x20 Half of the mean: collimation and index error                -0.01      0.01\n\
+\x20 Spread: the greatest less the least                           0.30      0.19\n\
 \n\
 Adjusted directions in gon, by least squares, counted from the first target\n\
 \n\
@@ -149,26 +178,71 @@ Residuals in mgon: adjusted direction less two-face direction\n\
 \n\
 Greatest residual     0.026 mgon, set 1, target B,\"1\n\
 Degrees of freedom    2\n\
-Standard deviation    0.041 mgon, of one two-face direction\n",
-        rows: b"station,set,target,face one,face two,direction,2c,2i,adjusted,residual\n\
-S4,1,A,399.999990,200.000010,0.000000,0.02,0.00,399.999980,-0.020\n\
-S4,1,\"B,\"\"1\",50.000030,249.999970,50.000000,-0.06,0.15,50.000026,0.026\n\
-S4,1,C,150.000030,350.000040,150.000035,0.01,0.00,150.000029,-0.006\n\
-S4,7,\"B,\"\"1\",250.000050,50.000050,250.000050,0.00,-0.04,250.000024,-0.026\n\
-S4,7,C,350.000100,149.999900,350.000000,-0.20,0.00,350.000026,0.026\n\
-S4,12,A,100.000010,300.000010,100.000010,0.00,-0.01,100.000030,0.020\n\
-S4,12,C,250.000050,50.000150,250.000100,0.10,0.00,250.000080,-0.020\n",
+Sum of squares [vv]   0.003357 mgon^2\n\
+Standard deviation    0.041 mgon, of one two-face direction\n\
+Standard deviation    left out of adjusted directions: a set lacks a target\n",
+        rows: b"station,set,target,face one,face two,direction,2c,2i,adjusted,residual,\
+         zenith one,zenith two,zenith mean\n\
+S4,1,A,399.999990,200.000010,0.000000,0.02,0.00,399.999980,-0.020,100.000000,300.000000,100.000000\n\
+S4,1,\"B,\"\"1\",50.000030,249.999970,50.000000,-0.06,0.15,50.000026,0.026,90.000000,310.000150,89.999925\n\
+S4,1,C,150.000030,350.000040,150.000035,0.01,0.00,150.000029,-0.006,100.000000,300.000000,100.000000\n\
+S4,7,\"B,\"\"1\",250.000050,50.000050,250.000050,0.00,-0.04,250.000024,-0.026,90.000000,309.999960,90.000020\n\
+S4,7,C,350.000100,149.999900,350.000000,-0.20,0.00,350.000026,0.026,100.000000,300.000000,100.000000\n\
+S4,12,A,100.000010,300.000010,100.000010,0.00,-0.01,100.000030,0.020,100.000000,299.999990,100.000005\n\
+S4,12,C,250.000050,50.000150,250.000100,0.10,0.00,250.000080,-0.020,100.000000,300.000000,100.000000\n",
+        semicolon_rows: b"station;set;target;face one;face two;direction;2c;2i;adjusted;residual;\
+         zenith one;zenith two;zenith mean\n\
+S4;1;A;399,999990;200,000010;0,000000;0,02;0,00;399,999980;-0,020;100,000000;300,000000;100,000000\n\
+S4;1;\"B,\"\"1\";50,000030;249,999970;50,000000;-0,06;0,15;50,000026;0,026;90,000000;310,000150;89,999925\n\
+S4;1;C;150,000030;350,000040;150,000035;0,01;0,00;150,000029;-0,006;100,000000;300,000000;100,000000\n\
+S4;7;\"B,\"\"1\";250,000050;50,000050;250,000050;0,00;-0,04;250,000024;-0,026;90,000000;309,999960;90,000020\n\
+S4;7;C;350,000100;149,999900;350,000000;-0,20;0,00;350,000026;0,026;100,000000;300,000000;100,000000\n\
+S4;12;A;100,000010;300,000010;100,000010;0,00;-0,01;100,000030;0,020;100,000000;299,999990;100,000005\n\
+S4;12;C;250,000050;50,000150;250,000100;0,10;0,00;250,000080;-0,020;100,000000;300,000000;100,000000\n",
     }
 }
 
+/// A set of targets A and B, which is the first of S1: B is 50.00002 gon from A, and nothing says
+/// otherwise.
+pub const ONE_SET: &[u8] = b"410001+00000010 42....+000000S1\n\
+410002+00000020 42....+00000001\n\
+110003+0000000A 21.102+00000000 22.102+10000000\n\
+110004+0000000B 21.102+05000000 22.102+10000000\n\
+110005+0000000B 21.102+25000010 22.102+30000000\n\
+110006+0000000A 21.102+20000006 22.102+29999998\n\
+410007+00000030\n";
+
+/// How the report of that set ends.
+pub const NOTHING_TO_COMPARE: &[u8] = b"\n\
+\x20 A                    0.000000\n\
+\x20 B                   50.000020\n\
+\n\
+Degrees of freedom    0: no angle was measured twice, nothing to compare\n";
+
 /// Why a station has neither a report nor rows: its field file, whether a read fails after the last
-/// byte of that, the station's name, and the line of the refusal.
+/// byte of that, the station's name, and the text of the refusal.
 pub fn refused() -> [(&'static [u8], bool, &'static [u8], &'static [u8]); 4] {
     [
-        (s1().gsi, false, b"S2", b"refused: no station\n"),
+        (
+            s1().gsi,
+            false,
+            b"S2",
+            b"refused: no station\nthe file has S1\n",
+        ),
         (s1().gsi, true, b"S1", b"refused: block 13: Read\n"),
-        (TWO_PARTS, false, b"S2", b"refused: adjust: NotConnected\n"),
-        (TIE, false, b"S3", b"refused: adjust: Residual 1\n"),
+        (
+            TWO_PARTS,
+            false,
+            b"S2",
+            b"refused: adjust: NotConnected\nthe sets fall into parts without a common target: read a target of one part in a set of another\n",
+        ),
+        (
+            TIE,
+            false,
+            b"S3",
+            b"refused: adjust: Residual 1\n\
+set 1, A: the greatest residual, above the limit of 10.000 mgon\n",
+        ),
     ]
 }
 
@@ -190,9 +264,23 @@ pub fn limits_with(rt: &impl Abort, residual: u32) -> ResultLimits {
 pub fn held() -> [(Worked, u32, Result<&'static [u8], &'static [u8]>); 4] {
     [
         (s1(), 1, Ok(b"Limit of residuals    0.005 mgon\n")),
-        (s1(), 0, Err(b"refused: adjust: Residual 1\n")),
+        (
+            s1(),
+            0,
+            Err(
+                b"refused: adjust: Residual 1\n\
+set 1, A: the greatest residual, above the limit of 0.000 mgon\n",
+            ),
+        ),
         (s4(), 6, Ok(b"Limit of residuals    0.030 mgon\n")),
-        (s4(), 5, Err(b"refused: adjust: Residual 2\n")),
+        (
+            s4(),
+            5,
+            Err(
+                b"refused: adjust: Residual 2\n\
+set 1, B,\"1: the greatest residual, above the limit of 0.025 mgon\n",
+            ),
+        ),
     ]
 }
 

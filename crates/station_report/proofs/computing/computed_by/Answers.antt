@@ -28,5 +28,5 @@ returns c =
           (omega arith) (d.count ∙ e.each_target) d.each;
       adjusted = are_adjusted station r.valid a t e l c.in_ok-rows.rows.items r.observed r.each;
       is_greatest = rw c.deref.ensures.value at c.greatest_of-greatest.ensures;
-      is_deviation = c.in_ok-deviation.ensures.deviation;
+      is_accuracy = c.in_ok-accuracy.ensures.accuracy;
     }

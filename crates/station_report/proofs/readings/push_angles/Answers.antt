@@ -25,13 +25,13 @@ returns c =
     ∙ (λ i. reading_two (value i) (difference i)) in
     three c.args.text.now.items c.push_read.new.text.items c.push_read-2.new.text.items
     c.push_mean.new.text.items
-    (right_text 12 (read_text (reading_one (value_at its.station place) (two_c_at its place))))
-    (right_text 12 (read_text (reading_two (value_at its.station place) (two_c_at its place))))
+    (right_text 11 (read_text (reading_one (value_at its.station place) (two_c_at its place))))
+    (right_text 11 (read_text (reading_two (value_at its.station place) (two_c_at its place))))
     (right_text 13 (mean_text (reduced its.station place)))
     (c.in_ok-push_read.ensures
-    ∙ ap (λ n. c.args.text.now.items ++ right_text 12 (read_text n)) one)
+    ∙ ap (λ n. c.args.text.now.items ++ right_text 11 (read_text n)) one)
     (c.in_ok-push_read-2.ensures
-    ∙ ap (λ n. c.push_read.new.text.items ++ right_text 12 (read_text n)) two)
+    ∙ ap (λ n. c.push_read.new.text.items ++ right_text 11 (read_text n)) two)
     (c.in_ok-push_mean.ensures
     ∙ (λ i. c.push_read-2.new.text.items
     ++ right_text 13 (mean_text ((value i + (80_000_000 - c.requires.first i)) % 80_000_000))))

@@ -18,7 +18,7 @@ returns c =
     let two_i : to_z w32 (of_z w32 faces.two_i) ≡ two_i_at its c.args.place =
     to_z-of_z w32 faces.two_i two_i_fits ∙ c.faces_at-faces.ensures.two_i in
     three c.args.text.now.items c.push_difference.new.text.items c.push_difference-2.new.text.items
-    c.push.new.self.items (right_text 11 (short_mgon_text (two_c_at its c.args.place)))
-    (right_text 11 (short_mgon_text (two_i_at its c.args.place))) (codes "\n")
+    c.push.new.self.items (right_text 10 (short_mgon_text (two_c_at its c.args.place)))
+    (right_text 10 (short_mgon_text (two_i_at its c.args.place))) (codes "\n")
     (rw two_c at c.in_ok-push_difference.ensures) (rw two_i at c.in_ok-push_difference-2.ensures)
     c.in_ok-push.ensures.items

@@ -26,7 +26,7 @@ returns c =
       directions = v.directions.items;
       rows = v.rows.items;
       greatest = v.greatest;
-      deviation = v.deviation;
+      accuracy = v.accuracy;
       computed = c.requires;
       text_is = same;
     })

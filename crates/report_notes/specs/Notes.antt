@@ -1,0 +1,32 @@
+-- What a report is told to note, without where it lies in memory.
+use Rattle.std.specs.Prelude.{ℕ, Bool, false, List, [], map, Option, None, option_map}
+use Rattle.report_notes.specs.declared.notes.Note.{Note}
+use Rattle.report_notes.specs.declared.notes.Notes.{Notes}
+
+-- A note: what it is of, and what is said of it.
+pub record NoteValue : Type 0 where
+  pub key : List ℕ
+  pub text : List ℕ
+
+-- What a report notes: its date, where one is stated; its lines; and whether it ends with lines for
+-- a place, a date and a signature.
+pub record NotesValue : Type 0 where
+  pub date : Option (List ℕ)
+  pub lines : List NoteValue
+  pub signature : Bool
+
+-- a note
+abbrev pub note_value : Note → NoteValue
+note_value note = record { key = note.key.now; text = note.text.now }
+
+-- all of them
+abbrev pub notes_value : Notes → NotesValue
+notes_value notes = record {
+  date = option_map (λ date. date.now) notes.date;
+  lines = map note_value notes.lines.items;
+  signature = notes.signature;
+}
+
+-- What a report notes that is told to note nothing.
+abbrev pub none_noted : NotesValue
+none_noted = record { date = None; lines = []; signature = false }

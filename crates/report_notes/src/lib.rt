@@ -1,0 +1,12 @@
+//! What a report is told to note in its head: its date, and lines that say something of the job,
+//! as its project, its observer or its instrument.
+//!
+//! `notes_of` reads them of texts `KEY=TEXT`, as those of an option of a command line, and
+//! `station_report` prints them.
+#![tactic(auto)]
+
+mod notes;
+mod stated;
+
+pub use notes::{Note, Notes};
+pub use stated::{Unnoted, notes_of};
