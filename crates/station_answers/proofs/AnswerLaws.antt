@@ -13,21 +13,24 @@ use Rattle.station_book.specs.Limits.{AreLimits}
 use Rattle.station_book.specs.declared.result_limits.ResultLimits.{ResultLimits}
 use Rattle.station_book.specs.Stations.{SurveyedStation}
 use Rattle.station_check.specs.Answerable.{IsOfFile}
+use Rattle.station_check.specs.NotedSurveys.{NotesSurvey}
 use Rattle.station_check.specs.StationOfFile.{IsStationOfFile}
-use Rattle.station_check.specs.Surveys.{Surveys}
 use Rattle.station_check.specs.declared.fault.Fault.{Fault}
 use Rattle.station_check.specs.declared.fault.Fault.TheVariants as file
 use Rattle.station_compare.proofs.Comparisons.{no_adjust_fault}
+use Rattle.station_compare.proofs.Hinting.{IsOfNoFile, fault_of_hinted, hinted_by_station}
 use Rattle.station_compare.proofs.OneStation.{IsOf, of_fault, of_none, of_station, one_of_each}
 use Rattle.station_compare.specs.Answers.{field_file_left}
 use Rattle.station_compare.specs.Faults.{of_file}
+use Rattle.station_compare.specs.Hints.{IsHinted}
 use Rattle.station_compare.specs.OneAnswer.{IsSettled}
+use Rattle.station_compare.specs.Refusals.{by_fault, hinted}
 use Rattle.station_compare.specs.declared.fault.CompareFault.{CompareFault}
 use Rattle.station_compare.specs.declared.fault.CompareFault.TheVariants.{File, Adjust, Memory}
 
 -- What is answered of a fault of the field file.
 pub none_by_file : (limits : ResultLimits) (lines : FileAnswers) (name : List ℕ) (fault : Fault)
-    → IsOfFile fault → Surveys limits.faces lines (Err fault)
+    → IsOfFile fault → NotesSurvey limits.faces lines (Err fault)
     → HasNone limits lines name (of_file fault)
 none_by_file limits lines name file.NoStation o h = absurd o
 none_by_file limits lines name file.Memory o h = tt
@@ -42,6 +45,14 @@ left_by_station OfStation station residual (Ok t) gsi h out = out
 left_by_station OfStation station residual (Err (Adjust fault)) gsi h out = out
 left_by_station OfStation station residual (Err Memory) gsi h out = out.unfailed
 left_by_station OfStation station residual (Err fault) gsi h out = absurd h
+
+-- No fault of the field file comes of the text of a station.
+of_no_file : {T : Type 0} (OfStation : T → Type 0) (station : StationValue) (residual : ℕ)
+    (r : Result T CompareFault) → MatchResult r OfStation (HasNoText station residual)
+    → IsOfNoFile r
+of_no_file OfStation station residual (Ok t) h = tt
+of_no_file OfStation station residual (Err (File fault)) h = absurd h
+of_no_file OfStation station residual (Err fault) h = tt
 
 module _ (Says : SurveyedStation → List ℕ → Type 0) (limits : ResultLimits) (lines : FileAnswers)
     (name : List ℕ) where
@@ -58,6 +69,21 @@ module _ (Says : SurveyedStation → List ℕ → Type 0) (limits : ResultLimits
   tells_by_station items its (Err Memory) station h held = tt
   tells_by_station items its (Err fault) station h held =
       record { its = its; station = station; none = h }
+
+  -- The same with the hint of a refusal.
+  pub answers_by_station : {T : Type 0} (items : T → List ℕ) (its : SurveyedStation)
+      (r : Result T CompareFault) → IsStationOfFile limits.faces lines name its
+      → MatchResult r (λ t. Says its (items t)) (HasNoText its.station limits.residual)
+      → OnOk r (HasResidualsWithin its.station limits.residual)
+      → MatchResult (by_fault (hinted its.station limits.residual r))
+      (λ t. StatesOf Says limits lines name (items t)) (HasNone limits lines name)
+      × IsHinted limits lines name (hinted its.station limits.residual r)
+  answers_by_station items its r station h held = (
+    rw (fault_of_hinted its.station limits.residual r)
+        (tells_by_station items its r station h held),
+    hinted_by_station limits lines name its r station
+        (of_no_file (λ t. Says its (items t)) its.station limits.residual r h),
+  )
 
   module _ (small : AreLimits limits.faces)
       (adjusts : (its : SurveyedStation) (text : List ℕ) → Says its text

@@ -1,6 +1,6 @@
 -- A comparison of what was written as the station's own directions.
 use Rattle.std.proofs.Common.{◌≡◌, ℕ, ◌-◌, ◌^◌, ◌≤◌, ◌<◌, Bool, false, List}
-use Rattle.std.proofs.Common.{length, map, pos, Err, arith, ap, sym, subst, ◌∙◌}
+use Rattle.std.proofs.Common.{length, map, pos, Err, arith, ap, refl, sym, subst, ◌∙◌}
 use Rattle.std.proofs.Common.{if◌then◌else◌, Option, Some, None, ◌*◌}
 use Rattle.std.proofs.Math.Nat.{pow-le-pow_right}
 use Rattle.std.proofs.lemmas.Bool.{le-ltb}
@@ -9,7 +9,7 @@ use Rattle.adjust_kernel.specs.Stations.{StationValue}
 use Rattle.byte_ends.specs.Input.{Input, Ended, RanPast, input_within}
 use Rattle.byte_ends.specs.Source.{Told}
 use Rattle.direction_table.proofs.LawLemmas.{never_both, one_table}
-use Rattle.direction_table.specs.Separators.{rows_of}
+use Rattle.direction_table.specs.TableRows.{table_rows, unstated}
 use Rattle.direction_table.specs.UsualLimits.{most_off, usual_within}
 use Rattle.direction_table.specs.TableTexts.{directions_of}
 use Rattle.direction_table.specs.Texts.{step_of}
@@ -21,6 +21,7 @@ use Rattle.exact_adjustment.specs.LeastOf.{HasResidualsWithin}
 use Rattle.exact_adjustment.specs.declared.fault.AdjustFault.TheVariants.{NotFound}
 use Rattle.least_directions.proofs.LawLemmas.{rounded}
 use Rattle.least_directions.specs.LeastDirections.{AreApart}
+use Rattle.row_forms.specs.declared.form.RowForm.TheVariants.{Commas}
 use Rattle.station_answers.specs.Answers.{StatesOf}
 use Rattle.station_answers.specs.Directions.{IsDirectionsText, numbers_of}
 use Rattle.station_answers.specs.OwnDirections.{MayRefuse}
@@ -71,32 +72,33 @@ read_whole bytes short =
 
 module _ (count : ℕ) (text : List ℕ) (many : 6 ≤ count) where
   -- Own directions beside their station.
-  module _ (station : StationValue) (own : IsDirectionsText station count text) where
-    own_apart : (apart : ℕ) → IsComparedWith Gon station text apart → apart ≤ 1
+  module _ (station : StationValue) (own : IsDirectionsText Commas station count text) where
+    own_apart : (apart : ℕ) → IsComparedWith (unstated Gon) station text apart → apart ≤ 1
     own_apart apart h =
         let same : h.directions ≡ map (λ (n : ℕ). pos (81 * n)) (numbers_of own.stated) =
-        one_table Gon station.targets text h.directions (directions_of own.stated) h.states
-        own.reads ∙ read_as own.stated in
+        one_table (unstated Gon) station.targets text h.directions (directions_of own.stated)
+        h.states (own.reads refl) ∙ read_as own.stated in
         let small = small_step count many in
-        let off = off_in Gon station.targets text in
+        let off = off_in (unstated Gon) station.targets text in
         rounded station (step_of count) off 1 apart (numbers_of own.stated) own.rounded
-        (omega (arith, small, few_off (rows_of station.targets text)))
+        (omega (arith, small, few_off (table_rows (unstated Gon) station.targets text)))
         (subst (λ ds. AreApart station (stated_by ds) off apart) same h.are_apart)
 
     no_more : (within : Option ℕ) (apart : ℕ)
-        → limit_in_force Gon within station.targets text < apart
+        → limit_in_force (unstated Gon) within station.targets text < apart
         → apart ≤ 1 → (within ≡ Some 0) × (apart ≡ 1)
     no_more (Some within) apart more few =
         (ap Some (omega (arith, more, few)), omega (arith, more, few))
     no_more None apart more few =
-        let some = usual_some (rows_of station.targets text) in
+        let some = usual_some (table_rows (unstated Gon) station.targets text) in
         absurd (omega (arith, more, few, some))
 
     by_table : (residual : ℕ) → HasResidualsWithin station residual → (within : Option ℕ)
-        (fault : CompareFault) → ByTable Gon station residual within text (Err fault)
+        (fault : CompareFault) → ByTable (unstated Gon) station residual within text (Err fault)
         → MayRefuse within fault
     by_table residual held within (Table fault) h =
-        absurd (never_both Gon station.targets text (directions_of own.stated) fault own.reads h)
+        absurd (never_both (unstated Gon) station.targets text (directions_of own.stated) fault
+        (own.reads refl) h)
     by_table residual held within (Adjust NotFound) h = tt
     by_table residual held within (Adjust fault) h =
         absurd (no_adjust_fault station residual fault own.rounded.adjustable held tt h.fault_stands)
@@ -106,37 +108,38 @@ module _ (count : ℕ) (text : List ℕ) (many : 6 ≤ count) where
     by_table residual held within fault h = h
 
   module _ (limits : ResultLimits) (small : AreLimits limits.faces) (file : FileAnswers) (name : List ℕ)
-      (own : StatesOf (SaysDirections count) limits file name text) where
+      (own : StatesOf (SaysDirections Commas count) limits file name text) where
     abbrev whole : Told
     whole = record { bytes = text; fails = false }
 
     read : input_within LONGEST_TABLE whole ≡ Ended text
-    read = read_whole text own.said.reads.short
+    read = read_whole text (own.said.reads refl).short
 
     -- The station that a comparison finds is that of the directions.
     its : (other : SurveyedStation) → IsStationOfFile limits.faces file name other
         → HasResidualsWithin other.station limits.residual
-        × IsDirectionsText other.station count text
+        × IsDirectionsText Commas other.station count text
     its other s =
         subst (λ (o : SurveyedStation). HasResidualsWithin o.station limits.residual
-        × IsDirectionsText o.station count text)
+        × IsDirectionsText Commas o.station count text)
         (same_station limits.faces small file name own.its other own.station s)
         (own.held, own.said)
 
     -- Where own directions agree with their file, they are apart by 1 unit at most.
     pub agrees_by_1 : (within : Option ℕ) (a : Agreement)
-        → Agrees Gon limits file whole name within a
+        → Agrees (unstated Gon) limits file whole name within a
         → a.how_far.apart ≤ 1
     agrees_by_1 within a h =
         let ended : Ended text ≡ Ended h.bytes = sym read ∙ h.whole in
         let same : text ≡ h.bytes = cc in
         own_apart h.its.station (its h.its h.station).1 a.how_far.apart
-        (subst (λ bytes. IsComparedWith Gon h.its.station bytes a.how_far.apart) (sym same)
-        (compared_of Gon limits file whole name within a h))
+        (subst (λ bytes. IsComparedWith (unstated Gon) h.its.station bytes a.how_far.apart)
+        (sym same) (compared_of (unstated Gon) limits file whole name within a h))
 
     -- They are refused for being apart by 1, where 0 was asked for, for another sheet, or memory.
     pub may_refuse : (within : Option ℕ) (fault : CompareFault)
-        → Compares Gon limits file whole name within (Err fault) → MayRefuse within fault
+        → Compares (unstated Gon) limits file whole name within (Err fault)
+        → MayRefuse within fault
     may_refuse within (File NoStation) h =
         absurd (never_none limits.faces small file name own.its own.station h)
     may_refuse within (File fault) h =
@@ -146,4 +149,5 @@ module _ (count : ℕ) (text : List ℕ) (many : 6 ≤ count) where
         let own_too = its h.its h.station in
         by_table h.its.station own_too.1 limits.residual own_too.0 within fault
         (subst (λ (input : Input).
-        ByInput Gon h.its.station limits.residual within input (Err fault)) read h.by_input)
+        ByInput (unstated Gon) h.its.station limits.residual within input (Err fault)) read
+        h.by_input)

@@ -1,8 +1,10 @@
 //! The table of a station's least-squares directions, as an answer.
 ghost use Rattle.std.specs.Prelude.{◌≡◌, ◌≤◌, ◌%◌, length, map, MatchResult, IfOk, OnOk};
+ghost use Rattle.adjust_kernel.specs.declared.bounds.TheConstants.{LARGEST_RESIDUAL_LIMIT};
 ghost use Rattle.adjust_kernel.specs.declared.units.TheConstants.{CIRCLE};
 ghost use Rattle.direction_table.specs.Texts.{step_of};
-ghost use Rattle.exact_adjustment.specs.LeastOf.{HasResidualsWithin};
+ghost use Rattle.exact_adjustment.specs.Exact.{IsExact, KeepsLimit};
+ghost use Rattle.exact_adjustment.specs.LeastOf.{AreTied, HasResidualsWithin};
 ghost use Rattle.station_answers.specs.Answers.{HasNoText};
 ghost use Rattle.station_answers.specs.Directions.{IsDirectionsText, numbers_of};
 ghost use Rattle.station_answers.specs.OneTexts.{one_directions};
@@ -11,7 +13,9 @@ ghost use Rattle.station_answers.specs.Saying.{SaysDirections};
 use crate::answer::StationAnswer;
 use adjust_kernel::{Name, ResidualLimit, Station};
 use direction_table::{Decimals, TargetDirection, table_text};
-use least_directions::rounded_directions;
+use exact_adjustment::{Adjustment, adjust};
+use least_directions::rounded_by;
+use row_forms::RowForm;
 use station_book::{ResultLimits, Surveyed};
 use station_compare::CompareFault;
 use std::alloc::{AllocError, Global};
@@ -25,10 +29,12 @@ use std::alloc::{AllocError, Global};
 pub struct Directions {
     /// How many decimals are written.
     pub decimals: Decimals,
+    /// How its rows are written.
+    pub form: RowForm,
 }
 
 impl StationAnswer for Directions {
-    ghost says = { λ asked _. SaysDirections asked.decimals };
+    ghost says = { λ asked _. SaysDirections asked.form asked.decimals };
 
     fn text_of(
         &self,
@@ -36,10 +42,10 @@ impl StationAnswer for Directions {
         limits: ResultLimits,
         surveyed: &Surveyed,
     ) -> Result<Vec<u8>, CompareFault> {
-        text_of_station(alloc, surveyed.station(), limits.residual, self.decimals)
+        text_of_station(alloc, surveyed.station(), limits.residual, *self)
     }
 
-    ghost one = { λ asked _ its a b p q. one_directions its.station asked.decimals a b p q };
+    ghost one = { λ asked _ its a b p q. one_directions its.station asked.form asked.decimals a b p q };
 
     ghost adjusts = { λ _ _ its text p. p.rounded.adjustable };
 }
@@ -49,16 +55,34 @@ fn text_of_station(
     alloc: Global,
     station: &Station,
     residual: ResidualLimit,
-    decimals: Decimals,
+    asked: Directions,
 ) -> Result<Vec<u8>, CompareFault>
     ensures text { MatchResult result
-        (λ text. IsDirectionsText station.now decimals text.items)
+        (λ text. IsDirectionsText asked.form station.now asked.decimals text.items)
         (HasNoText station.now residual) }
     ensures held { OnOk result (HasResidualsWithin station.now residual) }
 {
-    let directions = rounded_directions(alloc, station, step_of(decimals), residual)?;
+    let adjustment = adjust(alloc, station, residual)?;
+    Ok(directions_by(alloc, station, &adjustment, asked)?)
+}
+
+/// The text of the table of a station, by an adjustment of it.
+pub(crate) fn directions_by(
+    alloc: Global,
+    station: &Station,
+    adjustment: &Adjustment,
+    asked: Directions,
+) -> Result<Vec<u8>, AllocError>
+    requires exact { IsExact station.now adjustment.now }
+    requires limited { KeepsLimit station.now adjustment.now LARGEST_RESIDUAL_LIMIT }
+    requires tied { AreTied station.now }
+    ensures { IfOk result (λ text.
+        IsDirectionsText asked.form station.now asked.decimals text.items) }
+{
+    let directions = rounded_by(alloc, station, adjustment, step_of(asked.decimals))?;
     let stated = rows_of(alloc, station.targets(), &directions)?;
-    Ok(table_text(alloc, &stated, decimals)?)
+    let text = table_text(alloc, &stated, asked.decimals, asked.form)?;
+    Ok(text)
 }
 
 /// The rows of these targets and directions.

@@ -1,10 +1,13 @@
 //! Laws of the definitions that contracts cite. The functions do nothing.
 ghost use Rattle.std.specs.Prelude.{◌≡◌, ◌≤◌, ◌⊎◌, ℕ, false, List, Option, Result, Err};
+ghost use Rattle.direction_table.specs.TableRows.{unstated};
 ghost use Rattle.direction_table.specs.declared.unit.AngleUnit.TheVariants.{Gon};
 ghost use Rattle.gsi_file.specs.FileAnswers.{FileAnswers};
 ghost use Rattle.station_answers.specs.Answers.{IsHeldTogether, StatesOf, TellsOf};
 ghost use Rattle.station_answers.specs.OwnDirections.{MayRefuse};
-ghost use Rattle.station_answers.specs.Saying.{SaysDirections};
+ghost use Rattle.station_answers.specs.PartAnswers.{HasPartsOf};
+ghost use Rattle.row_forms.specs.declared.form.RowForm.TheVariants.{Commas};
+ghost use Rattle.station_answers.specs.Saying.{SaysDirections, SaysWhole};
 ghost use Rattle.station_book.specs.Limits.{AreLimits};
 ghost use Rattle.station_book.specs.declared.result_limits.ResultLimits.{ResultLimits};
 ghost use Rattle.station_compare.specs.Agreeing.{Agrees};
@@ -38,6 +41,14 @@ pub fn some_answer<A: StationAnswer>()
         ⊎ IsHeldTogether limits file name }
 {}
 
+/// The parts of all that is answered of a station are the texts that are answered where each alone
+/// is asked for.
+pub fn parts_alone()
+    ensures { (limits : ResultLimits) (file : FileAnswers) (name path text : List ℕ) (count : ℕ)
+        → StatesOf (SaysWhole count path limits) limits file name text
+        → HasPartsOf count path limits file name text }
+{}
+
 /// What is written as a station's directions with 6 decimals or more, `compare_bytes`, in gon,
 /// finds apart by 1 unit at most, of the same lines and by the same limits, whatever is asked for.
 /// It refuses it for no fault of the lines or of the table, not as `NotConnected` or `Residual`,
@@ -46,12 +57,13 @@ pub fn some_answer<A: StationAnswer>()
 pub fn directions_agree()
     ensures agrees { (limits : ResultLimits) (file : FileAnswers) (name text : List ℕ)
         (count : ℕ) (within : Option ℕ) (a : Agreement) → AreLimits limits.faces
-        → 6 ≤ count → StatesOf (SaysDirections count) limits file name text
-        → Agrees Gon limits file (record { bytes = text; fails = false }) name within a
+        → 6 ≤ count → StatesOf (SaysDirections Commas count) limits file name text
+        → Agrees (unstated Gon) limits file (record { bytes = text; fails = false }) name within a
         → a.how_far.apart ≤ 1 }
     ensures refused { (limits : ResultLimits) (file : FileAnswers) (name text : List ℕ)
         (count : ℕ) (within : Option ℕ) (fault : CompareFault) → AreLimits limits.faces
-        → 6 ≤ count → StatesOf (SaysDirections count) limits file name text
-        → Compares Gon limits file (record { bytes = text; fails = false }) name within (Err fault)
+        → 6 ≤ count → StatesOf (SaysDirections Commas count) limits file name text
+        → Compares (unstated Gon) limits file (record { bytes = text; fails = false }) name within
+        (Err fault)
         → MayRefuse within fault }
 {}

@@ -4,21 +4,26 @@ ghost use Rattle.station_answers.specs.OneTexts.{one_rows};
 
 use crate::answer::StationAnswer;
 use report_rows::text_of;
+use row_forms::RowForm;
 use station_book::{ResultLimits, Surveyed};
 use station_compare::CompareFault;
 use station_results::adjusted_observations;
 use std::alloc::Global;
 
 /// The rows of the report of a station: titles, and a row for each of its two-face directions, with
-/// what was read in both faces, the face differences, the adjusted direction and the residual.
+/// what was read in both faces, the face differences, the adjusted direction, the residual, and the
+/// zenith angles of both faces with their mean.
 ///
-/// The last two are exactly rounded, the middle of two upwards, and those of the least-squares
-/// directions: least over all directions, orientations and full turns.
+/// Adjusted direction and residual are exactly rounded, the middle of two upwards, and those of the
+/// least-squares directions: least over all directions, orientations and full turns.
 #[derive(Clone, Copy, Debug, PartialEq, Eq, Drop)]
-pub struct ReportRows;
+pub struct ReportRows {
+    /// How they are written.
+    pub form: RowForm,
+}
 
 impl StationAnswer for ReportRows {
-    ghost says = { λ _ _. AreReportRows };
+    ghost says = { λ asked _. AreReportRows asked.form };
 
     fn text_of(
         &self,
@@ -27,10 +32,10 @@ impl StationAnswer for ReportRows {
         surveyed: &Surveyed,
     ) -> Result<Vec<u8>, CompareFault> {
         let rows = adjusted_observations(alloc, surveyed.station(), limits.residual)?;
-        Ok(text_of(alloc, surveyed, &rows)?)
+        Ok(text_of(alloc, surveyed, &rows, self.form)?)
     }
 
-    ghost one = { λ _ _ its a b p q. one_rows its a b p q };
+    ghost one = { λ asked _ its a b p q. one_rows asked.form its a b p q };
 
     ghost adjusts = { λ _ _ its text p. p.adjusted.adjustable };
 }

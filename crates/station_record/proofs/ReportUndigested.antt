@@ -11,21 +11,26 @@ use Rattle.sha2.specs.Hashers.{Holds256}
 use Rattle.sha2.specs.Sha256.{sha256}
 use Rattle.station_answers.specs.Answers.{HasNone, StatesOf}
 use Rattle.station_answers.specs.Saying.{SaysReport}
+use Rattle.direction_table.specs.declared.form.TableForm.{TableForm}
+use Rattle.station_book.specs.Stations.{SurveyedStation}
 use Rattle.station_book.specs.declared.result_limits.ResultLimits.{ResultLimits}
 use Rattle.station_check.specs.RunEndings.{PrintsAnswer}
 use Rattle.station_compare.specs.Answers.{field_file_left, table_left}
+use Rattle.station_compare.specs.Hints.{IsHinted}
+use Rattle.station_compare.specs.Refusals.{by_fault, unhinted}
 use Rattle.station_compare.specs.Runs.{ReadsFieldFile}
 use Rattle.station_compare.specs.declared.fault.CompareFault.{CompareFault}
 use Rattle.station_compare.specs.declared.fault.CompareFault.TheVariants.{Write}
+use Rattle.station_compare.specs.declared.refusal.Refusal.{Refusal}
 use Rattle.station_record.proofs.Alike.{leaves_too}
-use Rattle.station_record.specs.Recorded.{IsRecordedReport, IsRecordedTableReport}
-use Rattle.station_record.specs.Recorded.{recorded_both_text, recorded_report_text}
+use Rattle.station_record.specs.Parts.{ArePartsOf}
+use Rattle.station_record.specs.Recorded.{IsRecordedBoth, IsRecordedReport, recorded_report_text}
+use Rattle.station_report.specs.NoteTexts.{ReportHead}
 use Rattle.table_answers.specs.Answers.{ReadsBoth, StatesBeside}
-use Rattle.table_answers.specs.Printing.{PrintsVerdict}
+use Rattle.table_answers.specs.Noting.{Noting}
 use Rattle.table_answers.specs.Refusing.{HasNoAnswer}
 use Rattle.table_answers.specs.Runs.{PrintsBeside}
-use Rattle.table_answers.specs.Saying.{SaysTableReport}
-use Rattle.table_report.specs.Stating.{ReportAsked, ReportValue}
+use Rattle.table_answers.specs.declared.noted.Noted.{Noted}
 
 -- What is so of a digesting reader of a field file is so of the reader that it asks, of the same
 -- bytes.
@@ -83,73 +88,87 @@ both_of told failed gave told_q failed_q gave_q d d' e e' r So none none_q a = r
 
 -- What is printed of a text is so, however it lies in memory.
 printed_too : {T A : Type 0} (items : T → List ℕ) (print : List ℕ → List ℕ) (text : T)
-    (r : Result A CompareFault) (out : WriterChange)
-    → PrintsAnswer (λ text. print (items text)) Write (Ok text) r out
-    → PrintsAnswer print Write (Ok (items text)) r out
+    (r : Result A Refusal) (out : WriterChange)
+    → PrintsAnswer (λ text. print (items text)) (unhinted Write) (Ok text) r out
+    → PrintsAnswer print (unhinted Write) (Ok (items text)) r out
 printed_too items print text (Ok x) out p = p
 printed_too items print text (Err fault) out p = p
 
 -- What was printed with a digest, where it is that of the bytes that the promise speaks of.
-pub recorded_report : {T A : Type 0} (items : T → List ℕ) (path : List ℕ) (limits : ResultLimits)
-    (gsi : ReaderChange) (station : List ℕ) (answer : Result T CompareFault)
-    (a : ReadsFieldFile gsi answer (λ file. MatchResult answer
-    (λ text. StatesOf (SaysReport path limits) limits file station (items text))
-    (HasNone limits file station))) (d : List ℕ) → d ≡ sha256 a.came.given
-    → (r : Result A CompareFault) (out : WriterChange)
-    → PrintsAnswer (λ text. recorded_report_text (items text) d path) Write answer r out
-    → IsRecordedReport path limits gsi station r out
-recorded_report items path limits gsi station (Ok text) a d is_d r out p = record {
+pub recorded_report : {T A : Type 0} (items : T → List ℕ) (head : ReportHead) (limits : ResultLimits)
+    (gsi : ReaderChange) (station : List ℕ) (answer : Result T Refusal)
+    (a : ReadsFieldFile gsi (by_fault answer) (λ file. MatchResult (by_fault answer)
+    (λ text. StatesOf (SaysReport head limits) limits file station (items text))
+    (HasNone limits file station) × IsHinted limits file station answer)) (d : List ℕ)
+    → d ≡ sha256 a.came.given
+    → (r : Result A Refusal) (out : WriterChange)
+    → PrintsAnswer (λ text. recorded_report_text (items text) d head.path) (unhinted Write) answer r out
+    → IsRecordedReport head limits gsi station r out
+recorded_report items head limits gsi station (Ok text) a d is_d r out p = record {
   answer = Ok (items text);
   tells = record { came = a.came; left = a.left };
-  printed = subst (λ (t : List ℕ). PrintsAnswer (λ text. recorded_report_text text t path) Write
-      (Ok (items text)) r out) is_d
-      (printed_too items (λ text. recorded_report_text text d path) text r out p);
+  printed = subst (λ (t : List ℕ). PrintsAnswer (λ text. recorded_report_text text t head.path)
+      (unhinted Write) (Ok (items text)) r out) is_d
+      (printed_too items (λ text. recorded_report_text text d head.path) text r out p);
 }
-recorded_report items path limits gsi station (Err fault) a d is_d r out p = record {
-  answer = Err fault;
+recorded_report items head limits gsi station (Err refusal) a d is_d r out p = record {
+  answer = Err refusal;
   tells = record { came = a.came; left = a.left };
   printed = p;
 }
 
--- The same of two digests.
-pub recorded_both : {T A : Type 0} (value : T → ReportValue) (asked : ReportAsked)
-    (limits : ResultLimits) (gsi table : ReaderChange) (station : List ℕ)
-    (answer : Result T CompareFault)
-    (a : ReadsBoth gsi table answer (λ file stated. MatchResult answer
-    (λ report. StatesBeside (SaysTableReport asked limits) limits file stated station
-    (value report))
-    (HasNoAnswer asked.unit limits file stated station))) (d e : List ℕ)
+-- The same of an answer of both and its note, printed with two digests.
+pub recorded_both : {T V A : Type 0} (value : T → V)
+    (Says : SurveyedStation → List ℕ → V → Type 0)
+    (Prints : List ℕ → List ℕ → V → Result A CompareFault → WriterChange → Type 0)
+    (form : TableForm) (limits : ResultLimits) (gsi table : ReaderChange) (station : List ℕ)
+    (noted : Result (Noted T) Refusal) (answer : Result T Refusal) (note : List ℕ)
+    → ArePartsOf noted answer note
+    → (a : ReadsBoth gsi table (by_fault noted) (λ file stated. MatchResult (by_fault noted)
+    (λ noted. StatesBeside (Noting Says form) limits file stated station
+    (value noted.answer, noted.note.items))
+    (HasNoAnswer form limits file stated station)
+    × IsHinted limits file station noted)) (d e : List ℕ)
     → d ≡ sha256 a.gsi_bytes → e ≡ sha256 a.table_bytes
-    → (r : Result A CompareFault) (out : WriterChange)
-    → PrintsBeside (λ report. PrintsVerdict (recorded_both_text (value report).text d asked.path e
-    asked.table_path) (value report).beyond) answer r out
-    → IsRecordedTableReport asked limits gsi table station r out
-recorded_both value asked limits gsi table station (Ok report) a d e is_d is_e r out p = record {
-  answer = Ok (value report);
-  tells = record {
-    gsi_bytes = a.gsi_bytes;
-    gsi_reads = a.gsi_reads;
-    table_bytes = a.table_bytes;
-    table_reads = a.table_reads;
-    so = a.so;
-    gsi_reader = a.gsi_reader;
-    table_reader = a.table_reader;
-  };
-  printed = subst (λ (t : List ℕ). PrintsVerdict (recorded_both_text (value report).text
-      (sha256 a.gsi_bytes) asked.path t asked.table_path) (value report).beyond r out) is_e
-      (subst (λ (t : List ℕ). PrintsVerdict (recorded_both_text (value report).text t asked.path e
-      asked.table_path) (value report).beyond r out) is_d p);
-}
-recorded_both value asked limits gsi table station (Err fault) a d e is_d is_e r out p = record {
-  answer = Err fault;
-  tells = record {
-    gsi_bytes = a.gsi_bytes;
-    gsi_reads = a.gsi_reads;
-    table_bytes = a.table_bytes;
-    table_reads = a.table_reads;
-    so = a.so;
-    gsi_reader = a.gsi_reader;
-    table_reader = a.table_reader;
-  };
-  printed = p;
-}
+    → (r : Result A Refusal) (out : WriterChange)
+    → PrintsBeside (λ t. Prints d e (value t)) answer r out
+    → IsRecordedBoth Says Prints form limits gsi table station r note out
+recorded_both value Says Prints form limits gsi table station (Ok noted) answer note parts a d e
+    is_d is_e r out p =
+    let printed : PrintsBeside (λ t. Prints d e (value t)) (Ok noted.answer) r out =
+    rw parts.0 at p in
+    record {
+      answer = Ok (value noted.answer, noted.note.items);
+      tells = record {
+        gsi_bytes = a.gsi_bytes;
+        gsi_reads = a.gsi_reads;
+        table_bytes = a.table_bytes;
+        table_reads = a.table_reads;
+        so = a.so;
+        gsi_reader = a.gsi_reader;
+        table_reader = a.table_reader;
+      };
+      printed = (
+        subst (λ (t : List ℕ). Prints (sha256 a.gsi_bytes) t (value noted.answer) (by_fault r) out)
+            is_e
+            (subst (λ (t : List ℕ). Prints t e (value noted.answer) (by_fault r) out) is_d
+            printed.0),
+        printed.1,
+      );
+      noted = parts.1;
+    }
+recorded_both value Says Prints form limits gsi table station (Err refusal) answer note parts a d e
+    is_d is_e r out p = record {
+      answer = Err refusal;
+      tells = record {
+        gsi_bytes = a.gsi_bytes;
+        gsi_reads = a.gsi_reads;
+        table_bytes = a.table_bytes;
+        table_reads = a.table_reads;
+        so = a.so;
+        gsi_reader = a.gsi_reader;
+        table_reader = a.table_reader;
+      };
+      printed = rw parts.0 at p;
+      noted = parts.1;
+    }

@@ -1,2 +1,4 @@
 -- The public definitions, which public contracts cite.
 pub mod Recorded
+-- The inside.
+pub mod Parts

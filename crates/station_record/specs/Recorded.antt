@@ -1,14 +1,15 @@
 -- The runs that say which bytes they judged.
-use Rattle.std.specs.Prelude.{ℕ, List, ◌++◌, Option, Result, codes}
+use Rattle.std.specs.Prelude.{◌≡◌, ℕ, List, ◌++◌, Option, Result, codes}
 use Rattle.adjust_kernel.specs.declared.accepted.Accepted.{Accepted}
 use Rattle.byte_digests.specs.DigestLines.{digest_line}
 use Rattle.byte_ends.specs.Sink.{WriterChange}
 use Rattle.byte_ends.specs.Source.{ReaderChange}
-use Rattle.direction_table.specs.declared.unit.AngleUnit.{AngleUnit}
+use Rattle.direction_table.specs.declared.form.TableForm.{TableForm}
 use Rattle.sha2.specs.Sha256.{sha256}
 use Rattle.station_answers.specs.Answers.{TellsOf}
 use Rattle.station_answers.specs.Saying.{SaysReport}
 use Rattle.station_book.specs.Limits.{FaceLimits}
+use Rattle.station_book.specs.Stations.{SurveyedStation}
 use Rattle.station_book.specs.declared.result_limits.ResultLimits.{ResultLimits}
 use Rattle.station_check.specs.Promise.{IsAnswer}
 use Rattle.station_check.specs.RunEndings.{PrintsAnswer}
@@ -16,15 +17,21 @@ use Rattle.station_check.specs.VerdictLines.{accepted_line}
 use Rattle.station_check.specs.declared.fault.Fault.{Fault}
 use Rattle.station_check.specs.declared.fault.Fault.TheVariants as check
 use Rattle.station_compare.specs.AgreementTexts.{agreement_line}
+use Rattle.station_compare.specs.Hints.{IsHinted}
+use Rattle.station_compare.specs.Refusals.{by_fault, unhinted}
 use Rattle.station_compare.specs.Runs.{ReadsFieldFile}
-use Rattle.station_compare.specs.declared.agreement.Agreement.{Agreement}
 use Rattle.station_compare.specs.declared.fault.CompareFault.{CompareFault}
 use Rattle.station_compare.specs.declared.fault.CompareFault.TheVariants as compare
+use Rattle.station_compare.specs.declared.refusal.Refusal.{Refusal}
+use Rattle.station_report.specs.NoteTexts.{ReportHead}
 use Rattle.table_answers.specs.Answers.{ReadsBoth, TellsBeside}
-use Rattle.table_answers.specs.Comparisons.{IsComparison}
+use Rattle.table_answers.specs.Comparisons.{SaysComparison, verdict}
+use Rattle.table_answers.specs.Noting.{Noting}
 use Rattle.table_answers.specs.Printing.{PrintsVerdict}
 use Rattle.table_answers.specs.Runs.{PrintsBeside}
 use Rattle.table_answers.specs.Saying.{SaysTableReport}
+use Rattle.table_answers.specs.Telling.{note_of}
+use Rattle.table_answers.specs.declared.compared.Compared.{Compared}
 use Rattle.table_report.specs.Stating.{ReportAsked, ReportValue}
 
 -- The line of an answer, and then one for each of its two files: a digest and a name.
@@ -44,16 +51,35 @@ pub record IsRecordedCheck {A : Type 0} (limits : FaceLimits) (limit : Option �
       (sha256 answers.gsi_bytes) gsi_name (sha256 answers.sheet_bytes) sheet_name)
       check.Write verdict r out
 
--- The same of a run of the comparison.
-pub record IsRecordedCompare {A : Type 0} (unit : AngleUnit) (limits : ResultLimits)
-    (within : Option ℕ) (station : List ℕ) (gsi : ReaderChange) (gsi_name : List ℕ)
-    (table : ReaderChange) (table_name : List ℕ) (r : Result A CompareFault) (out : WriterChange)
-    : Type 0 where
-  pub verdict : Result Agreement CompareFault
-  pub compares : IsComparison unit limits within gsi table station verdict
-  pub printed : PrintsAnswer (λ a. recorded_text (agreement_line a)
-      (sha256 compares.gsi_bytes) gsi_name (sha256 compares.table_bytes) table_name)
-      compare.Write verdict r out
+-- A run of an answer of a station and a table that is recorded: all that is promised of the answer,
+-- with the hint of a refusal, how it was printed with the digests of the very bytes that the two
+-- readers gave and that the promise speaks of, and the note of the table.
+pub record IsRecordedBoth {V A : Type 0} (Says : SurveyedStation → List ℕ → V → Type 0)
+    (Prints : List ℕ → List ℕ → V → Result A CompareFault → WriterChange → Type 0)
+    (form : TableForm) (limits : ResultLimits) (gsi table : ReaderChange) (station : List ℕ)
+    (r : Result A Refusal) (note : List ℕ) (out : WriterChange) : Type 0 where
+  pub answer : Result (V × List ℕ) Refusal
+  pub tells : ReadsBoth gsi table (by_fault answer) (λ file stated.
+      TellsBeside (Noting Says form) form limits file stated station (by_fault answer)
+      × IsHinted limits file station answer)
+  pub printed : PrintsBeside (λ noted. Prints (sha256 tells.gsi_bytes) (sha256 tells.table_bytes)
+      noted.0) answer r out
+  pub noted : note ≡ note_of answer
+
+-- What is made of a comparison: where the table agrees, its line and the two of the files.
+abbrev pub PrintsRecorded : {A : Type 0} → List ℕ → List ℕ → List ℕ → List ℕ → Compared
+    → Result A CompareFault → WriterChange → Type 0
+PrintsRecorded gsi_name table_name gsi table compared r out =
+    PrintsAnswer (λ a. recorded_text (agreement_line a) gsi gsi_name table table_name)
+    compare.Write (verdict compared) r out
+
+-- A recorded run of the comparison.
+abbrev pub IsRecordedCompare : {A : Type 0} → TableForm → ResultLimits → Option ℕ → List ℕ
+    → ReaderChange → List ℕ → ReaderChange → List ℕ → Result A Refusal → List ℕ
+    → WriterChange → Type 0
+IsRecordedCompare form limits within station gsi gsi_name table table_name r note out =
+    IsRecordedBoth (SaysComparison form within limits) (PrintsRecorded gsi_name table_name) form
+    limits gsi table station r note out
 
 -- The line above the digests of a report.
 abbrev pub digests_title : List ℕ
@@ -68,25 +94,29 @@ abbrev pub recorded_both_text : List ℕ → List ℕ → List ℕ → List ℕ 
 recorded_both_text text gsi gsi_name table table_name =
     text ++ recorded_text digests_title gsi gsi_name table table_name
 
--- A run of the report that is recorded: all that the report promises of its text, and how that was
--- printed. The digest is that of the very bytes that the reader gave and that the promise speaks
--- of.
-pub record IsRecordedReport {A : Type 0} (path : List ℕ) (limits : ResultLimits)
-    (gsi : ReaderChange) (station : List ℕ) (r : Result A CompareFault) (out : WriterChange)
+-- A run of the report that is recorded: all that the report promises of its text, with the hint of a
+-- refusal, and how it was printed. The digest is that of the very bytes that the reader gave and
+-- that the promise speaks of.
+pub record IsRecordedReport {A : Type 0} (head : ReportHead) (limits : ResultLimits)
+    (gsi : ReaderChange) (station : List ℕ) (r : Result A Refusal) (out : WriterChange)
     : Type 0 where
-  pub answer : Result (List ℕ) CompareFault
-  pub tells : ReadsFieldFile gsi answer
-      (λ file. TellsOf (SaysReport path limits) limits file station answer)
-  pub printed : PrintsAnswer (λ text. recorded_report_text text (sha256 tells.came.given) path)
-      compare.Write answer r out
+  pub answer : Result (List ℕ) Refusal
+  pub tells : ReadsFieldFile gsi (by_fault answer)
+      (λ file. TellsOf (SaysReport head limits) limits file station (by_fault answer)
+      × IsHinted limits file station answer)
+  pub printed : PrintsAnswer (λ text. recorded_report_text text (sha256 tells.came.given) head.path)
+      (unhinted compare.Write) answer r out
 
--- The same of a run of the report with a table.
-pub record IsRecordedTableReport {A : Type 0} (asked : ReportAsked) (limits : ResultLimits)
-    (gsi table : ReaderChange) (station : List ℕ) (r : Result A CompareFault) (out : WriterChange)
-    : Type 0 where
-  pub answer : Result ReportValue CompareFault
-  pub tells : ReadsBoth gsi table answer (λ file stated.
-      TellsBeside (SaysTableReport asked limits) asked.unit limits file stated station answer)
-  pub printed : PrintsBeside (λ report. PrintsVerdict (recorded_both_text report.text
-      (sha256 tells.gsi_bytes) asked.path (sha256 tells.table_bytes) asked.table_path)
-      report.beyond) answer r out
+-- What is made of a report with a table: its text and the digests, and its verdict.
+abbrev pub PrintsRecordedReport : {A : Type 0} → ReportAsked → List ℕ → List ℕ → ReportValue
+    → Result A CompareFault → WriterChange → Type 0
+PrintsRecordedReport asked gsi table report r out =
+    PrintsVerdict (recorded_both_text report.text gsi asked.head.path table asked.table_path)
+    report.beyond r out
+
+-- A recorded run of the report with a table.
+abbrev pub IsRecordedTableReport : {A : Type 0} → ReportAsked → ResultLimits → ReaderChange
+    → ReaderChange → List ℕ → Result A Refusal → List ℕ → WriterChange → Type 0
+IsRecordedTableReport asked limits gsi table station r note out =
+    IsRecordedBoth (SaysTableReport asked limits) (PrintsRecordedReport asked) asked.form limits gsi
+    table station r note out

@@ -16,6 +16,6 @@ mod report_with_table;
 
 pub use check::run_check_recorded;
 pub use compare::run_compare_recorded;
-pub use named::NamedReader;
+pub use named::{HeadedReader, NamedReader};
 pub use report::run_report_recorded;
 pub use report_with_table::run_table_report_recorded;

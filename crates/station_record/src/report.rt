@@ -4,18 +4,19 @@ ghost use Rattle.std.specs.Prelude.{◌≡◌, ⊤};
 ghost use Rattle.byte_ends.specs.Writers.{writer_change};
 ghost use Rattle.byte_ends.specs.Source.{UntilDropped};
 ghost use Rattle.station_check.specs.RunEndings.{PrintsAnswer, Run};
-ghost use Rattle.station_compare.specs.FaultTexts.{refusal_line};
+ghost use Rattle.station_compare.specs.Refusals.{refusal_text, unhinted};
 ghost use Rattle.station_compare.specs.declared.fault.CompareFault.TheVariants.{Write};
+ghost use Rattle.station_report.specs.NoteTexts.{head_of};
 ghost use Rattle.station_record.specs.Recorded.{IsRecordedReport, recorded_report_text};
 
 use crate::compare::report;
 use crate::lines::write_recorded_report;
-use crate::named::NamedReader;
+use crate::named::HeadedReader;
 use byte_digests::Digesting;
 use byte_ends::{Sink, Source};
 use station_answers::{Report, answer_of};
 use station_book::ResultLimits;
-use station_compare::CompareFault;
+use station_compare::Refusal;
 use std::alloc::Global;
 
 /// Writes the report of a station as `run_answer` does, and answers its exit status. After the text
@@ -25,35 +26,35 @@ use std::alloc::Global;
 #[inline(never)]
 pub fn run_report_recorded<R: Source, W: Sink, E: Sink>(
     alloc: Global,
-    gsi: NamedReader<'_, R>,
+    gsi: HeadedReader<'_, '_, R>,
     station: &[u8],
     limits: ResultLimits,
     out: &mut W,
     err: &mut E,
 ) -> u8
     ensures { UntilDropped R.told R.failed R.gave gsi.entry.reader (λ gsi_change.
-        Run {A = ⊤} refusal_line
-        (IsRecordedReport gsi.entry.name.now limits gsi_change station.now)
+        Run {A = ⊤} refusal_text
+        (IsRecordedReport (head_of gsi.entry.head) limits gsi_change station.now)
         result (writer_change W.Sink out.old out.new)
         (writer_change E.Sink err.old err.new)) }
 {
     let digested = Digesting::new(gsi.reader);
-    let asked = Report { path: gsi.name };
+    let asked = Report { head: gsi.head };
     let (answer, digested) = answer_of(alloc, digested, station, limits, &asked);
     let digest = digested.digest();
-    let printed = print_report(answer, digest, gsi.name, out);
+    let printed = print_report(answer, digest, gsi.head.path, out);
     report(printed, err)
 }
 
 /// Prints a report and the digest of its field file, and passes on a refusal.
 fn print_report<W: Sink>(
-    answer: Result<Vec<u8>, CompareFault>,
+    answer: Result<Vec<u8>, Refusal>,
     gsi: [u8; 32],
     gsi_name: &[u8],
     out: &mut W,
-) -> Result<(), CompareFault>
-    ensures { PrintsAnswer (λ text. recorded_report_text text.items gsi gsi_name.now) Write answer
-        result (writer_change W.Sink out.old out.new) }
+) -> Result<(), Refusal>
+    ensures { PrintsAnswer (λ text. recorded_report_text text.items gsi gsi_name.now)
+        (unhinted Write) answer result (writer_change W.Sink out.old out.new) }
 {
     let text = answer?;
     write_recorded_report(&text, &gsi, gsi_name, out)?;

@@ -3,21 +3,20 @@
 ghost use Rattle.std.specs.Prelude.{⊤};
 ghost use Rattle.byte_ends.specs.Writers.{writer_change};
 ghost use Rattle.byte_ends.specs.Source.{UntilDropped};
-ghost use Rattle.station_check.specs.RunEndings.{Run};
-ghost use Rattle.station_compare.specs.FaultTexts.{refusal_line};
 ghost use Rattle.station_record.specs.Recorded.{IsRecordedTableReport, recorded_both_text};
 ghost use Rattle.table_answers.specs.Printing.{PrintsVerdict};
 ghost use Rattle.table_answers.specs.Runs.{PrintsBeside};
+ghost use Rattle.table_answers.specs.Telling.{RunTold};
 ghost use Rattle.table_report.specs.Values.{asked_of};
 
-use crate::compare::report;
+use crate::compare::parts_of;
 use crate::lines::write_recorded_both;
 use byte_digests::Digesting;
 use byte_ends::{Sink, Source};
 use station_book::ResultLimits;
-use station_compare::CompareFault;
+use station_compare::Refusal;
 use std::alloc::Global;
-use table_answers::{table_answer_of, verdict};
+use table_answers::{table_answer_of, tell, verdict};
 use table_report::{Asked, TableReport};
 
 /// Writes the report of a station with a table as `run_table_answer` does, and answers its exit
@@ -31,13 +30,13 @@ pub fn run_table_report_recorded<R: Source, Q: Source, W: Sink, E: Sink>(
     table: Q,
     station: &[u8],
     limits: ResultLimits,
-    asked: &Asked<'_>,
+    asked: &Asked<'_, '_>,
     out: &mut W,
     err: &mut E,
 ) -> u8
     ensures { UntilDropped R.told R.failed R.gave gsi (λ gsi_change.
         UntilDropped Q.told Q.failed Q.gave table (λ table_change.
-        Run {A = ⊤} refusal_line
+        RunTold {A = ⊤}
         (IsRecordedTableReport (asked_of asked.now) limits gsi_change table_change station.now)
         result (writer_change W.Sink out.old out.new)
         (writer_change E.Sink err.old err.new))) }
@@ -54,31 +53,32 @@ pub fn run_table_report_recorded<R: Source, Q: Source, W: Sink, E: Sink>(
     );
     let gsi_digest = digested_gsi.digest();
     let table_digest = digested_table.digest();
-    let printed = print_report(answer, gsi_digest, table_digest, asked, out);
-    report(printed, err)
+    let (report, note) = parts_of(alloc, answer);
+    let printed = print_report(report, gsi_digest, table_digest, asked, out);
+    tell(printed, &note, err)
 }
 
 /// Prints a report and the digests of its two files, and answers its verdict; or passes on a
 /// refusal.
 fn print_report<W: Sink>(
-    answer: Result<TableReport, CompareFault>,
+    answer: Result<TableReport, Refusal>,
     gsi: [u8; 32],
     table: [u8; 32],
-    asked: &Asked<'_>,
+    asked: &Asked<'_, '_>,
     out: &mut W,
-) -> Result<(), CompareFault>
+) -> Result<(), Refusal>
     ensures { PrintsBeside (λ report. PrintsVerdict
-        (recorded_both_text report.text.items gsi asked.now.path.now table asked.now.table_path.now)
+        (recorded_both_text report.text.items gsi asked.now.head.path.now table asked.now.table_path.now)
         report.beyond) answer result (writer_change W.Sink out.old out.new) }
 {
     let report = answer?;
     write_recorded_both(
         &report.text,
         &gsi,
-        asked.path,
+        asked.head.path,
         &table,
         asked.table_path,
         out,
     )?;
-    verdict(report.beyond)
+    Ok(verdict(report.beyond)?)
 }

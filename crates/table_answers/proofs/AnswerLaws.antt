@@ -6,7 +6,7 @@ use Rattle.byte_ends.specs.Input.{Input, Ended, input_within}
 use Rattle.byte_ends.specs.Source.{Told}
 use Rattle.direction_table.proofs.LawLemmas.{never_both}
 use Rattle.direction_table.specs.declared.reading.TheConstants.{LONGEST_TABLE}
-use Rattle.direction_table.specs.declared.unit.AngleUnit.{AngleUnit}
+use Rattle.direction_table.specs.declared.form.TableForm.{TableForm}
 use Rattle.exact_adjustment.specs.LeastOf.{HasResidualsWithin}
 use Rattle.gsi_file.specs.FileAnswers.{FileAnswers}
 use Rattle.station_book.specs.Limits.{AreLimits}
@@ -42,28 +42,28 @@ settled_too A B Memory set = absurd set
 
 -- Bytes that can be compared have no fault: a limit of differences that two comparisons share is
 -- not both of theirs.
-no_fault : (A : Type 0) (unit : AngleUnit) (station : StationValue) (residual : ℕ) (bytes : List ℕ)
+no_fault : (A : Type 0) (form : TableForm) (station : StationValue) (residual : ℕ) (bytes : List ℕ)
     (fault : CompareFault) → HasResidualsWithin station residual
-    → IsComparable unit station bytes → IsSettled {A = A} (Err fault)
-    → HasNoAnswerOf unit station residual bytes fault → ⊥
-no_fault A unit station residual bytes (File fault) held p set h = h None
-no_fault A unit station residual bytes TableRead held p set h = h None
-no_fault A unit station residual bytes (Table fault) held p set h =
-    never_both unit station.targets bytes p.directions fault p.states (h None)
-no_fault A unit station residual bytes (Adjust fault) held p set h =
+    → IsComparable form station bytes → IsSettled {A = A} (Err fault)
+    → HasNoAnswerOf form station residual bytes fault → ⊥
+no_fault A form station residual bytes (File fault) held p set h = h None
+no_fault A form station residual bytes TableRead held p set h = h None
+no_fault A form station residual bytes (Table fault) held p set h =
+    never_both form station.targets bytes p.directions fault p.states (h None)
+no_fault A form station residual bytes (Adjust fault) held p set h =
     no_adjust_fault station residual fault p.adjustable held set (h None).fault_stands
-no_fault A unit station residual bytes (Apart n) held p set h =
+no_fault A form station residual bytes (Apart n) held p set h =
     let none : n.limit ≡ 0 = (h (Some 0)).1.limit in
     let one : n.limit ≡ 1 = (h (Some 1)).1.limit in
     absurd (omega (arith, none, one))
-no_fault A unit station residual bytes Write held p set h = h None
-no_fault A unit station residual bytes Memory held p set h = set
+no_fault A form station residual bytes Write held p set h = h None
+no_fault A form station residual bytes Memory held p set h = set
 
-module _ {V : Type 0} (Says : SurveyedStation → List ℕ → V → Type 0) (unit : AngleUnit)
+module _ {V : Type 0} (Says : SurveyedStation → List ℕ → V → Type 0) (form : TableForm)
     (one : (its : SurveyedStation) (bytes : List ℕ) (a b : V) → Says its bytes a
     → Says its bytes b → a ≡ b)
     (compares : (its : SurveyedStation) (bytes : List ℕ) (a : V) → Says its bytes a
-    → IsComparable unit its.station bytes)
+    → IsComparable form its.station bytes)
     (limits : ResultLimits) (small : AreLimits limits.faces) (file : FileAnswers) (stated : Told)
     (name : List ℕ)
   where
@@ -82,14 +82,14 @@ module _ {V : Type 0} (Says : SurveyedStation → List ℕ → V → Type 0) (un
     abbrev So : SurveyedStation → Result V CompareFault → Type 0
     So its (Ok value) = HasValue its value
     So its (Err fault) = IsSettled {A = V} (Err fault)
-        × HasNoAnswerOfInput unit its.station limits.residual input fault
+        × HasNoAnswerOfInput form its.station limits.residual input fault
 
     never : (its : SurveyedStation) (value : V) (fault : CompareFault) → So its (Ok value)
         → So its (Err fault) → ⊥
     never its value fault p h =
-        no_fault V unit its.station limits.residual p.bytes fault p.held
+        no_fault V form its.station limits.residual p.bytes fault p.held
         (compares its p.bytes value p.said) h.0
-        (λ within. subst (λ (i : Input). ByInput unit its.station limits.residual within i
+        (λ within. subst (λ (i : Input). ByInput form its.station limits.residual within i
         (Err fault)) p.whole (h.1 within))
 
     one_of_station : (its : SurveyedStation) (r s : Result V CompareFault) → So its r
@@ -103,7 +103,7 @@ module _ {V : Type 0} (Says : SurveyedStation → List ℕ → V → Type 0) (un
     one_of_station its (Err fault) (Ok b) p h = absurd (never its b fault h p)
     one_of_station its (Err fault) (Err other) p h =
         let e : Err fault ≡ Err other =
-        one_by_input unit its.station limits.residual None input (Err fault) (Err other)
+        one_by_input form its.station limits.residual None input (Err fault) (Err other)
         (settled_too V Agreement fault p.0) (settled_too V Agreement other h.0)
         (p.1 None) (h.1 None) in
         let same : fault ≡ other = cc in
@@ -111,20 +111,20 @@ module _ {V : Type 0} (Says : SurveyedStation → List ℕ → V → Type 0) (un
 
     -- A fault that is of a station is so of the one that is found.
     by_station : (fault : CompareFault) → IsSettled {A = V} (Err fault)
-        → ((within : Option ℕ) → IsRefusedByTable unit limits file stated name within fault)
+        → ((within : Option ℕ) → IsRefusedByTable form limits file stated name within fault)
         → IsOf limits.faces small file name So (Err fault)
     by_station fault set h =
         let its = (h None).its in
         of_station limits.faces small file name So its (Err fault) (h None).station (
           set,
           λ within. subst (λ (o : SurveyedStation).
-              ByInput unit o.station limits.residual within input (Err fault))
+              ByInput form o.station limits.residual within input (Err fault))
               (same_station limits.faces small file name (h within).its its (h within).station
               (h None).station) (h within).by_input,
         )
 
     stands : (r : Result V CompareFault) → IsSettled r
-        → TellsBeside Says unit limits file stated name r
+        → TellsBeside Says form limits file stated name r
         → IsOf limits.faces small file name So r
     stands (Ok value) set h =
         of_station limits.faces small file name So h.its (Ok value) h.station
@@ -136,8 +136,8 @@ module _ {V : Type 0} (Says : SurveyedStation → List ℕ → V → Type 0) (un
 
     -- What came of two readers has one answer.
     pub one_answer : (r s : Result V CompareFault) → IsSettled r → IsSettled s
-        → TellsBeside Says unit limits file stated name r
-        → TellsBeside Says unit limits file stated name s → r ≡ s
+        → TellsBeside Says form limits file stated name r
+        → TellsBeside Says form limits file stated name s → r ≡ s
     one_answer r s set also p h =
         one_of_each limits.faces small file name So one_of_station r s (stands r set p)
         (stands s also h)

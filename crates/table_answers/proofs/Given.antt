@@ -9,16 +9,23 @@ use Rattle.byte_ends.specs.Input.{Input, Ended, BrokeOff, RanPast, input_within}
 use Rattle.byte_ends.specs.Source.{Told, ReaderChange, given_then}
 use Rattle.direction_table.specs.declared.fault.TableFault.TheVariants as table
 use Rattle.direction_table.specs.declared.reading.TheConstants.{LONGEST_TABLE}
-use Rattle.direction_table.specs.declared.unit.AngleUnit.{AngleUnit}
+use Rattle.direction_table.specs.declared.form.TableForm.{TableForm}
 use Rattle.exact_adjustment.specs.LeastOf.{HasResidualsWithin}
 use Rattle.gsi_file.specs.FileAnswers.{FileAnswers, file_answers}
+use Rattle.station_book.specs.Limits.{FaceLimits}
 use Rattle.station_book.specs.Stations.{SurveyedStation}
 use Rattle.station_book.specs.declared.result_limits.ResultLimits.{ResultLimits}
+use Rattle.station_check.specs.NotedSurveys.{NotesSurvey}
 use Rattle.station_check.specs.StationOfFile.{IsStationOfFile}
+use Rattle.station_check.specs.Surveys.{Surveys}
 use Rattle.station_check.specs.declared.fault.Fault.{Fault}
+use Rattle.station_check.specs.declared.fault.Fault.TheVariants as check
 use Rattle.station_compare.proofs.Comparisons.{compares_by_table}
+use Rattle.station_compare.proofs.Hinting.{IsOfNoFile, fault_of_hinted, hinted_by_station}
 use Rattle.station_compare.specs.Answers.{field_file_left, table_left}
 use Rattle.station_compare.specs.Comparing.{ByInput}
+use Rattle.station_compare.specs.Hints.{IsHinted}
+use Rattle.station_compare.specs.Refusals.{by_fault, hinted}
 use Rattle.station_compare.specs.declared.fault.CompareFault.{CompareFault}
 use Rattle.station_compare.specs.declared.fault.CompareFault.TheVariants.{File, TableRead, Table}
 use Rattle.station_compare.specs.declared.fault.CompareFault.TheVariants.{Adjust, Apart, Write}
@@ -37,17 +44,17 @@ module _ {V : Type 0} (Says : SurveyedStation → List ℕ → V → Type 0) whe
   ended_by its RanPast value h = absurd h
 
   -- What is answered, where the station was found.
-  pub tells_by_input : {T : Type 0} (value : T → V) (unit : AngleUnit) (limits : ResultLimits)
+  pub tells_by_input : {T : Type 0} (value : T → V) (form : TableForm) (limits : ResultLimits)
       (file : FileAnswers) (stated : Told) (name : List ℕ) (its : SurveyedStation)
       (r : Result T CompareFault)
       → IsStationOfFile limits.faces file name its
       → MatchResult r
       (λ t. SaysOfInput (Says its) (input_within LONGEST_TABLE stated) (value t))
-      (HasNoAnswerOfInput unit its.station limits.residual (input_within LONGEST_TABLE stated))
+      (HasNoAnswerOfInput form its.station limits.residual (input_within LONGEST_TABLE stated))
       → OnOk r (HasResidualsWithin its.station limits.residual)
       → MatchResult r (λ t. StatesBeside Says limits file stated name (value t))
-      (HasNoAnswer unit limits file stated name)
-  tells_by_input value unit limits file stated name its (Ok t) station h held =
+      (HasNoAnswer form limits file stated name)
+  tells_by_input value form limits file stated name its (Ok t) station h held =
       let ended = ended_by its (input_within LONGEST_TABLE stated) (value t) h in
       record {
         its = its;
@@ -57,51 +64,106 @@ module _ {V : Type 0} (Says : SurveyedStation → List ℕ → V → Type 0) whe
         held = held;
         said = ended.2;
       }
-  tells_by_input value unit limits file stated name its (Err fault) station h held =
-      λ within. compares_by_table unit limits file stated name within its (Err fault) station
+  tells_by_input value form limits file stated name its (Err fault) station h held =
+      λ within. compares_by_table form limits file stated name within its (Err fault) station
       (h within)
 
 -- No fault of the field file comes of the table.
-no_file_fault : (unit : AngleUnit) (station : StationValue) (residual : ℕ) (fault : Fault)
-    (input : Input) → ByInput unit station residual None input (Err (File fault)) → ⊥
-no_file_fault unit station residual fault (Ended bytes) h = h
-no_file_fault unit station residual fault (BrokeOff bytes) (inl h) = cc
-no_file_fault unit station residual fault (BrokeOff bytes) (inr h) = cc
-no_file_fault unit station residual fault RanPast (inl h) = cc
-no_file_fault unit station residual fault RanPast (inr h) = cc
+no_file_fault : (form : TableForm) (station : StationValue) (residual : ℕ) (fault : Fault)
+    (input : Input) → ByInput form station residual None input (Err (File fault)) → ⊥
+no_file_fault form station residual fault (Ended bytes) h = h
+no_file_fault form station residual fault (BrokeOff bytes) (inl h) = cc
+no_file_fault form station residual fault (BrokeOff bytes) (inr h) = cc
+no_file_fault form station residual fault RanPast (inl h) = cc
+no_file_fault form station residual fault RanPast (inr h) = cc
+
+-- So none is answered of it.
+of_no_file : (form : TableForm) {T : Type 0} (So : T → Type 0) (station : StationValue)
+    (residual : ℕ) (input : Input) (r : Result T CompareFault)
+    → MatchResult r So (HasNoAnswerOfInput form station residual input) → IsOfNoFile r
+of_no_file form So station residual input (Ok t) h = tt
+of_no_file form So station residual input (Err (File fault)) h =
+    no_file_fault form station residual fault input (h None)
+of_no_file form So station residual input (Err fault) h = tt
+
+-- What is answered, where the station was found, has the hint of a refusal.
+pub answers_by_input : {V T : Type 0} (Says : SurveyedStation → List ℕ → V → Type 0) (value : T → V)
+    (form : TableForm) (limits : ResultLimits) (file : FileAnswers) (stated : Told) (name : List ℕ)
+    (its : SurveyedStation) (r : Result T CompareFault)
+    → IsStationOfFile limits.faces file name its
+    → MatchResult r
+    (λ t. SaysOfInput (Says its) (input_within LONGEST_TABLE stated) (value t))
+    (HasNoAnswerOfInput form its.station limits.residual (input_within LONGEST_TABLE stated))
+    → OnOk r (HasResidualsWithin its.station limits.residual)
+    → MatchResult (by_fault (hinted its.station limits.residual r))
+    (λ t. StatesBeside Says limits file stated name (value t))
+    (HasNoAnswer form limits file stated name)
+    × IsHinted limits file name (hinted its.station limits.residual r)
+answers_by_input Says value form limits file stated name its r station h held = (
+  rw (fault_of_hinted its.station limits.residual r)
+      (tells_by_input Says value form limits file stated name its r station h held),
+  hinted_by_station limits file name its r station
+      (of_no_file form
+      (λ t. SaysOfInput (Says its) (input_within LONGEST_TABLE stated) (value t))
+      its.station limits.residual (input_within LONGEST_TABLE stated) r h),
+)
+
+-- A fault of the field file that is noted is one of its survey.
+pub fault_of_survey : (limits : FaceLimits) (file : FileAnswers) (fault : Fault)
+    → NotesSurvey limits file (Err fault) → Surveys limits file (Err fault)
+fault_of_survey limits file check.Memory h = tt
+fault_of_survey limits file fault h = h
 
 -- How what is answered of a table's input leaves the field file's reader, which has ended before.
-pub left_by_input : (unit : AngleUnit) {T : Type 0} (So : T → Type 0) (station : StationValue)
+pub left_by_input : (form : TableForm) {T : Type 0} (So : T → Type 0) (station : StationValue)
     (residual : ℕ) (input : Input) (r : Result T CompareFault) (gsi : ReaderChange)
-    → MatchResult r So (HasNoAnswerOfInput unit station residual input)
+    → MatchResult r So (HasNoAnswerOfInput form station residual input)
     → IsReadOut gsi → Leaves field_file_left r gsi
-left_by_input unit So station residual input (Ok text) gsi h out = out
-left_by_input unit So station residual input (Err (File fault)) gsi h out = absurd
-    (no_file_fault unit station residual fault input (h None))
-left_by_input unit So station residual input (Err TableRead) gsi h out = out
-left_by_input unit So station residual input (Err (Table fault)) gsi h out = out
-left_by_input unit So station residual input (Err (Adjust fault)) gsi h out = out
-left_by_input unit So station residual input (Err (Apart apart)) gsi h out = out
-left_by_input unit So station residual input (Err Write) gsi h out = out
-left_by_input unit So station residual input (Err Memory) gsi h out = out.unfailed
+left_by_input form So station residual input (Ok text) gsi h out = out
+left_by_input form So station residual input (Err (File fault)) gsi h out = absurd
+    (no_file_fault form station residual fault input (h None))
+left_by_input form So station residual input (Err TableRead) gsi h out = out
+left_by_input form So station residual input (Err (Table fault)) gsi h out = out
+left_by_input form So station residual input (Err (Adjust fault)) gsi h out = out
+left_by_input form So station residual input (Err (Apart apart)) gsi h out = out
+left_by_input form So station residual input (Err Write) gsi h out = out
+left_by_input form So station residual input (Err Memory) gsi h out = out.unfailed
 
 -- How what is answered of a table's bytes leaves its reader, which has ended.
-pub left_by_bytes : (unit : AngleUnit) {T : Type 0} (So : T → Type 0) (station : StationValue)
+pub left_by_bytes : (form : TableForm) {T : Type 0} (So : T → Type 0) (station : StationValue)
     (residual : ℕ) (bytes : List ℕ) (r : Result T CompareFault) (reader : ReaderChange)
-    → MatchResult r So (HasNoAnswerOf unit station residual bytes)
+    → MatchResult r So (HasNoAnswerOf form station residual bytes)
     → IsReadOut reader → Leaves table_left r reader
-left_by_bytes unit So station residual bytes (Ok text) reader h out = out
-left_by_bytes unit So station residual bytes (Err (File fault)) reader h out = absurd (h None)
-left_by_bytes unit So station residual bytes (Err TableRead) reader h out = absurd (h None)
-left_by_bytes unit So station residual bytes (Err (Table table.TooLong)) reader h out = out.unfailed
-left_by_bytes unit So station residual bytes (Err (Table (table.Row number kind))) reader h out =
+left_by_bytes form So station residual bytes (Ok text) reader h out = out
+left_by_bytes form So station residual bytes (Err (File fault)) reader h out = absurd (h None)
+left_by_bytes form So station residual bytes (Err TableRead) reader h out = absurd (h None)
+left_by_bytes form So station residual bytes (Err (Table table.TooLong)) reader h out = out.unfailed
+left_by_bytes form So station residual bytes (Err (Table (table.Columns first second))) reader h
+    out = out
+left_by_bytes form So station residual bytes (Err (Table (table.Row number kind))) reader h out =
     out
-left_by_bytes unit So station residual bytes (Err (Table (table.Missing target))) reader h out = out
-left_by_bytes unit So station residual bytes (Err (Table table.Memory)) reader h out = out.unfailed
-left_by_bytes unit So station residual bytes (Err (Adjust fault)) reader h out = out
-left_by_bytes unit So station residual bytes (Err (Apart apart)) reader h out = out
-left_by_bytes unit So station residual bytes (Err Write) reader h out = out.unfailed
-left_by_bytes unit So station residual bytes (Err Memory) reader h out = out.unfailed
+left_by_bytes form So station residual bytes (Err (Table (table.Missing target))) reader h out = out
+left_by_bytes form So station residual bytes (Err (Table table.Memory)) reader h out = out.unfailed
+left_by_bytes form So station residual bytes (Err (Adjust fault)) reader h out = out
+left_by_bytes form So station residual bytes (Err (Apart apart)) reader h out = out
+left_by_bytes form So station residual bytes (Err Write) reader h out = out.unfailed
+left_by_bytes form So station residual bytes (Err Memory) reader h out = out.unfailed
+
+-- What is so with another thing is so alone.
+pub so_alone : {A : Type 0} (gsi table : ReaderChange) (r : Result A CompareFault)
+    (So Also : FileAnswers → Told → Type 0)
+    → ReadsBoth gsi table r (λ file stated. So file stated × Also file stated)
+    → ReadsBoth gsi table r So
+so_alone gsi table r So Also a = record {
+  gsi_bytes = a.gsi_bytes;
+  gsi_reads = a.gsi_reads;
+  table_bytes = a.table_bytes;
+  table_reads = a.table_reads;
+  so = λ gsi_left table_left gsi_may table_may.
+      (a.so gsi_left table_left gsi_may table_may).0;
+  gsi_reader = a.gsi_reader;
+  table_reader = a.table_reader;
+}
 
 -- Of two readers that tell, what is so is so of what they tell.
 pub both_as_told : {A : Type 0} (gsi table : ReaderChange) (r : Result A CompareFault)

@@ -2,13 +2,15 @@
 ghost use Rattle.std.specs.Prelude.{◌≡◌, ℕ, List, MatchResult, OnOk, Result, ⊤};
 ghost use Rattle.byte_ends.specs.Sink.{WriterChange};
 ghost use Rattle.byte_ends.specs.Writers.{writer_change};
-ghost use Rattle.direction_table.specs.declared.unit.AngleUnit.{AngleUnit};
+ghost use Rattle.direction_table.specs.declared.form.TableForm.{TableForm};
 ghost use Rattle.exact_adjustment.specs.LeastOf.{HasResidualsWithin};
 ghost use Rattle.station_book.specs.Stations.{SurveyedStation};
 ghost use Rattle.station_book.specs.declared.result_limits.ResultLimits.{ResultLimits as Limits};
 ghost use Rattle.station_compare.specs.declared.fault.CompareFault.{CompareFault as WhyNot};
+ghost use Rattle.table_answers.specs.Noting.{Noting};
 ghost use Rattle.table_answers.specs.Refusing.{HasNoAnswerOf, IsComparable};
 
+use crate::noted::Noted;
 use byte_ends::Sink;
 use station_book::{ResultLimits, Surveyed};
 use station_compare::CompareFault;
@@ -25,8 +27,8 @@ pub trait TableAnswer: Drop {
 
     ghost value: { Self.Answer → Value };
 
-    // In which unit the table states its directions.
-    ghost unit_of: { Self → AngleUnit };
+    // How the table is to be read.
+    ghost form_of: { Self → TableForm };
 
     // What the answer says of a station and the bytes of a table, by these limits.
     ghost says: { Self → Limits → SurveyedStation → List ℕ → Value → Type 0 };
@@ -35,7 +37,7 @@ pub trait TableAnswer: Drop {
     ghost prints: { Value → Result ⊤ WhyNot → WriterChange → Type 0 };
 
     /// The answer for a station, no least-squares residual of which is above the limit of
-    /// residuals, and for the bytes of a table.
+    /// residuals, and for the bytes of a table; and the note of the table.
     ///
     /// # Errors
     ///
@@ -46,10 +48,11 @@ pub trait TableAnswer: Drop {
         limits: ResultLimits,
         surveyed: &Surveyed,
         bytes: &[u8],
-    ) -> Result<Self::Answer, CompareFault>
+    ) -> Result<Noted<Self::Answer>, CompareFault>
         ensures tells { MatchResult result
-            (λ answer. says self.now limits surveyed.now bytes.now (value answer))
-            (HasNoAnswerOf (unit_of self.now) surveyed.now.station limits.residual bytes.now) }
+            (λ noted. Noting (says self.now limits) (form_of self.now) surveyed.now bytes.now
+            (value noted.answer, noted.note.items))
+            (HasNoAnswerOf (form_of self.now) surveyed.now.station limits.residual bytes.now) }
         ensures held { OnOk result (HasResidualsWithin surveyed.now.station limits.residual) };
 
     /// Prints an answer, and passes on a refusal that comes of it.
@@ -63,5 +66,5 @@ pub trait TableAnswer: Drop {
     // and what have one can be compared.
     ghost compares: { (asked : Self) (limits : Limits) (its : SurveyedStation) (bytes : List ℕ)
         (a : Value) → says asked limits its bytes a
-        → IsComparable (unit_of asked) its.station bytes };
+        → IsComparable (form_of asked) its.station bytes };
 }

@@ -1,6 +1,7 @@
 //! A table beside its station: whether it agrees.
 ghost use Rattle.std.specs.Prelude.{◌≡◌};
 ghost use Rattle.table_answers.specs.Comparisons as spec;
+ghost use Rattle.table_answers.specs.Wholes.{beyond_in};
 
 use station_compare::{Agreement, CompareFault, HowFar};
 
@@ -21,6 +22,16 @@ impl Compared {
         match self {
             Compared::Agrees(agreement) => Ok(agreement),
             Compared::Apart(how_far) => Err(CompareFault::Apart(how_far)),
+        }
+    }
+
+    /// How far it is apart, where that is beyond the limit.
+    pub fn beyond(self) -> Option<HowFar>
+        ensures { result ≡ beyond_in self }
+    {
+        match self {
+            Compared::Agrees(_) => None,
+            Compared::Apart(how_far) => Some(how_far),
         }
     }
 }

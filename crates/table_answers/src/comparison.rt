@@ -1,26 +1,32 @@
 //! The comparison of a table with its station, as an answer, and by its own calls.
-ghost use Rattle.std.specs.Prelude.{◌≡◌, ⊤};
+ghost use Rattle.std.specs.Prelude.{◌≡◌, IfOk, ⊤};
+ghost use Rattle.adjust_kernel.specs.declared.bounds.TheConstants.{LARGEST_RESIDUAL_LIMIT};
 ghost use Rattle.byte_ends.specs.Writers.{writer_change};
 ghost use Rattle.byte_ends.specs.Source.{reader_change, UntilDropped};
-ghost use Rattle.station_check.specs.RunEndings.{Run};
-ghost use Rattle.station_compare.specs.FaultTexts.{refusal_line};
+ghost use Rattle.exact_adjustment.specs.Exact.{IsExact, KeepsLimit};
+ghost use Rattle.exact_adjustment.specs.LeastOf.{AreTied};
 ghost use Rattle.table_answers.specs.Comparisons.{IsCompareRun, IsComparison, PrintsComparison};
 ghost use Rattle.table_answers.specs.Comparisons.{SaysComparison};
 ghost use Rattle.table_answers.specs.Comparisons as spec;
+ghost use Rattle.table_answers.specs.Telling.{RunTold};
 ghost use Rattle.table_answers.specs.OneCompared.{comparable, one_compared};
+ghost use Rattle.table_answers.specs.Wholes.{beyond_in};
+ghost use Rattle.table_report.specs.Stating.{beyond_of};
 
 use crate::answer::TableAnswer;
 use crate::answering::{run_table_answer, table_answer_of};
 use crate::compared::Compared;
+use crate::noted::{Noted, note_text};
+use adjust_kernel::Station;
 use byte_ends::{Sink, Source};
-use direction_table::{AngleUnit, read_stated_table};
-use exact_adjustment::adjust;
+use direction_table::{TableForm, read_stated_table};
+use exact_adjustment::{Adjustment, adjust};
 use least_directions::apart_by;
 use station_book::{ResultLimits, Surveyed};
 use station_check::write_whole;
-use station_compare::{Agreement, CompareFault, HowFar, agreement_line};
+use station_compare::{Agreement, CompareFault, HowFar, Refusal, agreement_line};
 use station_results::greatest_size;
-use std::alloc::Global;
+use std::alloc::{AllocError, Global};
 
 /// How far a table is apart from a station, and whether it agrees: within so many units of 0.000001
 /// gon; where no number is stated, within what is usual for the steps to which the table's rows
@@ -31,8 +37,8 @@ use std::alloc::Global;
 /// past the decimals that count is within that too.
 #[derive(Clone, Copy, Debug, PartialEq, Eq, Drop)]
 pub struct Comparison {
-    /// The unit in which the table states its directions, gon or degrees.
-    pub unit: AngleUnit,
+    /// How the table is to be read.
+    pub form: TableForm,
     /// The limit that is stated.
     pub within: Option<u32>,
 }
@@ -46,9 +52,9 @@ impl TableAnswer for Comparison {
 
     ghost value = { λ compared. compared };
 
-    ghost unit_of = { λ asked. asked.unit };
+    ghost form_of = { λ asked. asked.form };
 
-    ghost says = { λ asked. SaysComparison asked.unit asked.within };
+    ghost says = { λ asked. SaysComparison asked.form asked.within };
 
     ghost prints = { PrintsComparison };
 
@@ -58,24 +64,16 @@ impl TableAnswer for Comparison {
         limits: ResultLimits,
         surveyed: &Surveyed,
         bytes: &[u8],
-    ) -> Result<Compared, CompareFault> {
+    ) -> Result<Noted<Compared>, CompareFault> {
         let station = surveyed.station();
-        let stated = read_stated_table(alloc, self.unit, station.targets(), bytes)?;
+        let stated = read_stated_table(alloc, self.form, station.targets(), bytes)?;
         let adjustment = adjust(alloc, station, limits.residual)?;
         let apart = apart_by(station, &adjustment, &stated.directions, stated.most_off);
         let limit = self.within.unwrap_or(stated.usual_within);
         let how_far = HowFar { apart, limit };
-        if apart > limit {
-            return Ok(Compared::Apart(how_far));
-        }
-        let greatest = greatest_size(alloc, station, &adjustment)?;
-        Ok(Compared::Agrees(Agreement {
-            name: station.name(),
-            sets: station.sets().len() as u32,
-            targets: station.targets().len() as u32,
-            how_far,
-            greatest,
-        }))
+        let note = note_text(alloc, stated.by_columns)?;
+        let answer = compared_by(alloc, station, &adjustment, how_far)?;
+        Ok(Noted { answer, note })
     }
 
     fn print<W: Sink>(answer: Compared, out: &mut W) -> Result<(), CompareFault>
@@ -87,14 +85,40 @@ impl TableAnswer for Comparison {
     }
 
     ghost one = { λ asked limits its bytes a b p q.
-        one_compared asked.unit its.station limits.residual bytes asked.within a b p q };
+        one_compared asked.form its.station limits.residual bytes asked.within a b p q };
 
     ghost compares = { λ asked limits its bytes a p.
-        comparable asked.unit its.station limits.residual bytes asked.within a p };
+        comparable asked.form its.station limits.residual bytes asked.within a p };
+}
+
+/// Whether a table agrees that is so far apart from a station, by an adjustment of it.
+pub(crate) fn compared_by(
+    alloc: Global,
+    station: &Station,
+    adjustment: &Adjustment,
+    how_far: HowFar,
+) -> Result<Compared, AllocError>
+    requires exact { IsExact station.now adjustment.now }
+    requires limited { KeepsLimit station.now adjustment.now LARGEST_RESIDUAL_LIMIT }
+    requires tied { AreTied station.now }
+    ensures compared { IfOk result (spec.IsComparedBy station.now how_far) }
+    ensures beyond { IfOk result (λ compared. beyond_in compared ≡ beyond_of how_far) }
+{
+    if how_far.apart > how_far.limit {
+        return Ok(Compared::Apart(how_far));
+    }
+    let greatest = greatest_size(alloc, station, adjustment)?;
+    Ok(Compared::Agrees(Agreement {
+        name: station.name(),
+        sets: station.sets().len() as u32,
+        targets: station.targets().len() as u32,
+        how_far,
+        greatest,
+    }))
 }
 
 /// Whether the directions that a table states agree with the least-squares directions of the
-/// station of this name, as a [`Comparison`] of this unit and limit says it.
+/// station of this name, as a [`Comparison`] of this form and limit says it.
 ///
 /// The field file is read to its end first, and the table's reader is not asked before.
 ///
@@ -106,64 +130,48 @@ pub fn compare_bytes<R: Source, Q: Source>(
     alloc: Global,
     gsi: R,
     table: &mut Q,
-    unit: AngleUnit,
+    form: TableForm,
     name: &[u8],
     limits: ResultLimits,
     within: Option<u32>,
 ) -> Result<Agreement, CompareFault>
     // All of it is said of the very bytes that the two readers gave, whatever they are.
-    ensures { UntilDropped R.told R.failed R.gave gsi (λ gsi. IsComparison unit limits within gsi
+    ensures { UntilDropped R.told R.failed R.gave gsi (λ gsi. IsComparison form limits within gsi
         (reader_change Q.told Q.failed Q.gave table.old table.new) name.now result) }
 {
-    let (answer, _gsi) = compare_sources(alloc, gsi, table, unit, name, limits, within);
-    answer
-}
-
-/// Compares as [`compare_bytes`] does, and gives the field file's reader back.
-pub fn compare_sources<R: Source, Q: Source>(
-    alloc: Global,
-    gsi: R,
-    table: &mut Q,
-    unit: AngleUnit,
-    name: &[u8],
-    limits: ResultLimits,
-    within: Option<u32>,
-) -> (Result<Agreement, CompareFault>, R)
-    ensures { IsComparison unit limits within (reader_change R.told R.failed R.gave gsi result.1)
-        (reader_change Q.told Q.failed Q.gave table.old table.new) name.now result.0 }
-{
-    let asked = Comparison { unit, within };
-    let (answer, gsi) = table_answer_of(alloc, gsi, table, name, limits, &asked);
-    (verdict_of(answer), gsi)
+    let asked = Comparison { form, within };
+    let (answer, _gsi) = table_answer_of(alloc, gsi, table, name, limits, &asked);
+    verdict_of(answer)
 }
 
 /// The verdict of an answer.
-fn verdict_of(answer: Result<Compared, CompareFault>) -> Result<Agreement, CompareFault>
-    ensures { result ≡ spec.verdict_of answer }
+fn verdict_of(noted: Result<Noted<Compared>, Refusal>) -> Result<Agreement, CompareFault>
+    ensures { result ≡ spec.verdict_of noted }
 {
-    answer?.verdict()
+    noted?.answer.verdict()
 }
 
 /// Compares the directions that a table states with those of the station of this name, and answers
-/// the exit status: 0 where they agree, and their line was written to `out`; else 1, with the line
-/// of a refusal on `err`. Where `err` fails, the line is lost and the status stays.
+/// the exit status: 0 where they agree, and their line was written to `out`; else 1. `err` gets the
+/// note of the table, and then the line of a refusal and its hint; where it fails, they are lost and
+/// the status stays.
 pub fn run_compare<R: Source, Q: Source, W: Sink, E: Sink>(
     alloc: Global,
     gsi: R,
     table: &mut Q,
-    unit: AngleUnit,
+    form: TableForm,
     name: &[u8],
     limits: ResultLimits,
     within: Option<u32>,
     out: &mut W,
     err: &mut E,
 ) -> u8
-    ensures { UntilDropped R.told R.failed R.gave gsi (λ gsi. Run {A = ⊤} refusal_line
-        (IsCompareRun unit limits within gsi
+    ensures { UntilDropped R.told R.failed R.gave gsi (λ gsi. RunTold {A = ⊤}
+        (IsCompareRun form limits within gsi
         (reader_change Q.told Q.failed Q.gave table.old table.new) name.now)
         result (writer_change W.Sink out.old out.new)
         (writer_change E.Sink err.old err.new)) }
 {
-    let asked = Comparison { unit, within };
+    let asked = Comparison { form, within };
     run_table_answer(alloc, gsi, table, name, limits, &asked, out, err)
 }

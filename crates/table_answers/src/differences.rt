@@ -6,8 +6,10 @@ ghost use Rattle.table_answers.specs.Printing.{PrintsText};
 ghost use Rattle.table_answers.specs.Saying.{SaysDifferences};
 
 use crate::answer::TableAnswer;
+use crate::noted::{Noted, note_text};
 use byte_ends::Sink;
-use direction_table::{AngleUnit, read_table};
+use direction_table::{TableForm, read_stated_table};
+use row_forms::RowForm;
 use station_book::{ResultLimits, Surveyed};
 use station_check::write_whole;
 use station_compare::CompareFault;
@@ -22,9 +24,10 @@ use std::alloc::Global;
 /// rotation is taken off the differences: the one that makes the largest smallest.
 #[derive(Clone, Copy, Debug, PartialEq, Eq, Drop)]
 pub struct Differences {
-    /// The unit in which the table states its directions, gon or degrees; what it states in degrees
-    /// is rounded to 0.000000001 gon.
-    pub unit: AngleUnit,
+    /// How the table is to be read; what it states in degrees is rounded to 0.000000001 gon.
+    pub form: TableForm,
+    /// How the rows are written.
+    pub rows: RowForm,
 }
 
 impl TableAnswer for Differences {
@@ -34,9 +37,9 @@ impl TableAnswer for Differences {
 
     ghost value = { λ text. text.items };
 
-    ghost unit_of = { λ asked. asked.unit };
+    ghost form_of = { λ asked. asked.form };
 
-    ghost says = { λ asked _. SaysDifferences asked.unit };
+    ghost says = { λ asked _. SaysDifferences asked.form asked.rows };
 
     ghost prints = { PrintsText };
 
@@ -46,11 +49,13 @@ impl TableAnswer for Differences {
         limits: ResultLimits,
         surveyed: &Surveyed,
         bytes: &[u8],
-    ) -> Result<Vec<u8>, CompareFault> {
+    ) -> Result<Noted<Vec<u8>>, CompareFault> {
         let station = surveyed.station();
-        let stated = read_table(alloc, self.unit, station.targets(), bytes)?;
-        let rows = target_differences(alloc, station, &stated, limits.residual)?;
-        Ok(text_of(alloc, &rows)?)
+        let stated = read_stated_table(alloc, self.form, station.targets(), bytes)?;
+        let note = note_text(alloc, stated.by_columns)?;
+        let rows = target_differences(alloc, station, &stated.directions, limits.residual)?;
+        let answer = text_of(alloc, &rows, self.rows)?;
+        Ok(Noted { answer, note })
     }
 
     fn print<W: Sink>(answer: Vec<u8>, out: &mut W) -> Result<(), CompareFault>
@@ -60,7 +65,8 @@ impl TableAnswer for Differences {
         Ok(())
     }
 
-    ghost one = { λ asked _ its bytes a b p q. one_text asked.unit its.station bytes a b p q };
+    ghost one = { λ asked _ its bytes a b p q. one_text asked.form asked.rows its.station bytes a
+        b p q };
 
     ghost compares = { λ asked _ its bytes text p. record {
       directions = p.directions;

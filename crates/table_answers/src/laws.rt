@@ -6,7 +6,10 @@ ghost use Rattle.station_book.specs.Limits.{AreLimits};
 ghost use Rattle.station_book.specs.declared.result_limits.ResultLimits.{ResultLimits};
 ghost use Rattle.station_compare.specs.OneAnswer.{IsSettled};
 ghost use Rattle.station_compare.specs.declared.fault.CompareFault.{CompareFault};
-ghost use Rattle.table_answers.specs.Answers.{TellsBeside};
+ghost use Rattle.table_answers.specs.Answers.{StatesBeside, TellsBeside};
+ghost use Rattle.table_answers.specs.WholeParts.{HasPartsBeside};
+ghost use Rattle.table_answers.specs.Wholes.{IsWhole, WholeValue};
+ghost use Rattle.table_report.specs.Stating.{ReportAsked};
 
 use crate::answer::TableAnswer;
 
@@ -18,6 +21,15 @@ pub fn one_answer<A: TableAnswer>()
     ensures { (asked : A) (limits : ResultLimits) (file : FileAnswers) (stated : Told)
         (name : List ℕ) (r s : Result A.Value CompareFault) → AreLimits limits.faces
         → IsSettled r → IsSettled s
-        → TellsBeside (A.says asked limits) (A.unit_of asked) limits file stated name r
-        → TellsBeside (A.says asked limits) (A.unit_of asked) limits file stated name s → r ≡ s }
+        → TellsBeside (A.says asked limits) (A.form_of asked) limits file stated name r
+        → TellsBeside (A.says asked limits) (A.form_of asked) limits file stated name s → r ≡ s }
+{}
+
+/// The parts of all that is answered of a station and a table are what is answered where each alone
+/// is asked for.
+pub fn parts_alone()
+    ensures { (asked : ReportAsked) (limits : ResultLimits) (file : FileAnswers) (stated : Told)
+        (name : List ℕ) (whole : WholeValue)
+        → StatesBeside (IsWhole asked limits) limits file stated name whole
+        → HasPartsBeside asked limits file stated name whole }
 {}

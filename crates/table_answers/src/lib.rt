@@ -2,9 +2,10 @@
 //! for.
 //!
 //! An answer of both is an `impl` of `TableAnswer`: their comparison, the differences of the table,
-//! target by target, and the report of the station with the table. `table_answer_of` reads the field
-//! file and then the table, and answers; `write_table_answer` writes it; `run_table_answer` does the
-//! same as a command: the text, the line of a refusal, and the exit status.
+//! target by target, the report of the station with the table, and all of these in one text.
+//! `table_answer_of` reads the field file and then the table, and answers, with the note of the
+//! table; `write_table_answer` writes the answer; `run_table_answer` does the same as a command: the
+//! text, the note, the line of a refusal, and the exit status.
 #![tactic(auto)]
 
 mod answer;
@@ -13,11 +14,19 @@ mod compared;
 mod comparison;
 mod differences;
 pub mod laws;
+mod noted;
 mod report;
+mod telling;
+mod verdict_row;
+mod whole;
 
 pub use answer::TableAnswer;
 pub use answering::{run_table_answer, table_answer_of, write_table_answer};
 pub use compared::Compared;
-pub use comparison::{Comparison, compare_bytes, compare_sources, run_compare};
+pub use comparison::{Comparison, compare_bytes, run_compare};
 pub use differences::Differences;
+pub use noted::Noted;
 pub use report::verdict;
+pub use telling::tell;
+pub use verdict_row::{verdict_line, verdict_rows};
+pub use whole::{LONGEST_REFUSAL_PARTS, RefusalParts, Whole, WholeTable, refusal_parts};

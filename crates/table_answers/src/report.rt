@@ -7,22 +7,23 @@ ghost use Rattle.table_report.specs.Stating.{ReportValue};
 ghost use Rattle.table_report.specs.Values.{asked_of, value_of};
 
 use crate::answer::TableAnswer;
+use crate::noted::{Noted, note_text};
 use byte_ends::Sink;
 use direction_table::read_stated_table;
 use station_book::{ResultLimits, Surveyed};
 use station_check::write_whole;
 use station_compare::{CompareFault, HowFar};
 use std::alloc::Global;
-use table_report::{Asked, TableReport, report_beside};
+use table_report::{Asked, StatedDirections, TableReport, report_beside};
 
-impl<'a> TableAnswer for Asked<'a> {
+impl<'a, 'n> TableAnswer for Asked<'a, 'n> {
     type Answer = TableReport;
 
     ghost Value = { ReportValue };
 
     ghost value = { λ report. value_of report };
 
-    ghost unit_of = { λ asked. asked.unit };
+    ghost form_of = { λ asked. asked.form };
 
     ghost says = { λ asked. SaysTableReport (asked_of asked) };
 
@@ -34,18 +35,17 @@ impl<'a> TableAnswer for Asked<'a> {
         limits: ResultLimits,
         surveyed: &Surveyed,
         bytes: &[u8],
-    ) -> Result<TableReport, CompareFault> {
-        let stated = read_stated_table(alloc, self.unit, surveyed.station().targets(), bytes)?;
-        let limit = self.within.unwrap_or(stated.usual_within);
-        Ok(report_beside(
-            alloc,
-            self,
-            limits,
-            surveyed,
-            &stated.directions,
-            stated.most_off,
+    ) -> Result<Noted<TableReport>, CompareFault> {
+        let table = read_stated_table(alloc, self.form, surveyed.station().targets(), bytes)?;
+        let limit = self.within.unwrap_or(table.usual_within);
+        let note = note_text(alloc, table.by_columns)?;
+        let stated = StatedDirections {
+            directions: &table.directions,
+            off: table.most_off,
             limit,
-        )?)
+        };
+        let answer = report_beside(alloc, self, limits, surveyed, &stated)?;
+        Ok(Noted { answer, note })
     }
 
     fn print<W: Sink>(answer: TableReport, out: &mut W) -> Result<(), CompareFault>

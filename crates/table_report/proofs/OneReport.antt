@@ -11,7 +11,6 @@ use Rattle.station_compare.specs.declared.how_far.HowFar.{HowFar}
 use Rattle.station_differences.proofs.LeastLaws.{one_list}
 use Rattle.station_report.proofs.ComputedLaws.{one_text}
 use Rattle.station_report.specs.Stating.{IsReportText}
-use Rattle.station_results.proofs.LeastLaws.{one_size}
 use Rattle.table_report.specs.Sections.{section_text}
 use Rattle.table_report.specs.Stating.{IsReportBeside, IsReportOfTable, IsSection, ReportAsked}
 use Rattle.table_report.specs.Stating.{ReportValue, beyond_of}
@@ -25,10 +24,8 @@ one_section station path directions off limit a b x y p q =
     let apart = one_distance station (stated_by directions) off p.how_far.apart
     q.how_far.apart p.are_apart q.are_apart in
     let limits = p.held_to ∙ sym q.held_to in
-    let how_far : p.how_far ≡ q.how_far = λ i. record { apart = apart i; limit = limits i } in
-    let greatest = one_size station p.greatest q.greatest p.is_greatest q.is_greatest in (
-      p.section_is ∙ (λ i. section_text path station (rows i) (how_far i) (greatest i))
-          ∙ sym q.section_is,
+    let how_far : p.how_far ≡ q.how_far = λ i. record { apart = apart i; limit = limits i } in (
+      p.section_is ∙ (λ i. section_text path station (rows i) (how_far i)) ∙ sym q.section_is,
       p.beyond_is ∙ ap beyond_of how_far ∙ sym q.beyond_is,
     )
 
@@ -40,8 +37,8 @@ one_beside : (asked : ReportAsked) (limits : ResultLimits) (its : SurveyedStatio
 one_beside asked limits its directions off limit a b p q =
     let (section, beyond) = one_section its.station asked.table_path directions off limit p.section
     q.section a.beyond b.beyond p.is_section q.is_section in
-    let text = one_text asked.path limits its q.section a.text b.text
-    (subst (λ (s : List ℕ). IsReportText asked.path limits its s a.text) section p.is_report)
+    let text = one_text asked.head limits its q.section a.text b.text
+    (subst (λ (s : List ℕ). IsReportText asked.head limits its s a.text) section p.is_report)
     q.is_report in
     (λ i. record { text = text i; beyond = beyond i })
 
@@ -51,10 +48,10 @@ pub one_of_table : (asked : ReportAsked) (limits : ResultLimits) (its : Surveyed
     → IsReportOfTable asked limits its bytes b → a ≡ b
 one_of_table asked limits its bytes a b p q =
     let targets = its.station.targets in
-    let directions = one_table asked.unit targets bytes p.directions q.directions p.states q.states
+    let directions = one_table asked.form targets bytes p.directions q.directions p.states q.states
     in
-    one_beside asked limits its q.directions (off_in asked.unit targets bytes)
-    (limit_in_force asked.unit asked.within targets bytes) a b
-    (subst (λ (ds : List ℤ). IsReportBeside asked limits its ds (off_in asked.unit targets bytes)
-    (limit_in_force asked.unit asked.within targets bytes)
+    one_beside asked limits its q.directions (off_in asked.form targets bytes)
+    (limit_in_force asked.form asked.within targets bytes) a b
+    (subst (λ (ds : List ℤ). IsReportBeside asked limits its ds (off_in asked.form targets bytes)
+    (limit_in_force asked.form asked.within targets bytes)
     a) directions p.beside) q.beside

@@ -1,10 +1,10 @@
 -- The section of a report that has a table beside the adjusted directions (profile). Its lines are
--- at most 100 bytes wide, but for those of a path and of an agreement.
+-- at most 78 bytes wide, but for that of a path.
 use Rattle.std.specs.Prelude.{ℕ, Bool, List, ◌++◌, length, codes, decimal, if◌then◌else◌, nat_le, ℤ}
 use Rattle.std.specs.List.{flat_map}
 use Rattle.adjust_kernel.specs.Stations.{StationValue}
 use Rattle.angle_texts.specs.MgonTexts.{mgon_text, thousandths_text}
-use Rattle.station_compare.specs.AgreementTexts.{agreement_line, how_far_text}
+use Rattle.station_compare.specs.AgreementTexts.{targets_word}
 use Rattle.station_compare.specs.declared.how_far.HowFar.{HowFar}
 use Rattle.station_differences.specs.DifferenceTexts.{are_short, from_median_text, stated_text}
 use Rattle.station_differences.specs.Medians.{median_of}
@@ -31,37 +31,29 @@ abbrev pub limit_text : ℕ → List ℕ
 limit_text limit =
     entry_text (codes "Limit of differences") (thousandths_text limit ++ codes " mgon")
 
--- The line of a table that does not agree: how far its directions are apart, and the limit.
-abbrev pub apart_line : StationValue → HowFar → List ℕ
-apart_line station h =
-    codes "apart " ++ (station.name ++ (codes ": "
-    ++ (decimal (length station.targets)
-    ++ (codes " targets, by " ++ (how_far_text h ++ codes "\n")))))
+-- a verdict: of how many targets, and how far they are apart, each after words of its own
+abbrev pub found_line : List ℕ → List ℕ → StationValue → ℕ → List ℕ
+found_line verdict words station apart =
+    verdict ++ (decimal (length station.targets) ++ (targets_word (length station.targets)
+    ++ (words ++ (thousandths_text apart ++ codes " mgon\n"))))
 
--- The line of the verdict, where the greatest residual has this size: the one of the comparison
--- where the table agrees.
-abbrev pub verdict_line : StationValue → HowFar → ℕ → List ℕ
-verdict_line station h greatest =
+-- The line of the verdict: the table agrees where its directions are no further apart than the limit.
+abbrev pub verdict_line : StationValue → HowFar → List ℕ
+verdict_line station h =
     if nat_le h.apart h.limit
-    then agreement_line (record {
-      name = station.name;
-      sets = length station.sets;
-      targets = length station.targets;
-      how_far = h;
-      greatest = greatest;
-    })
-    else apart_line station h
+    then found_line (codes "agrees: ") (codes ", within ") station h.apart
+    else found_line (codes "apart: ") (codes ", by ") station h.apart
 
 -- The end of the section: the table as it was named, the limit, and the verdict.
-abbrev pub verdict_text : List ℕ → StationValue → HowFar → ℕ → List ℕ
-verdict_text path station h greatest =
+abbrev pub verdict_text : List ℕ → StationValue → HowFar → List ℕ
+verdict_text path station h =
     codes "\n" ++ (file_text (codes "Table") path ++ (limit_text h.limit
-    ++ (left_text 22 (codes "Comparison") ++ verdict_line station h greatest)))
+    ++ (left_text 22 (codes "Comparison") ++ verdict_line station h)))
 
 -- The section.
-abbrev pub section_text : List ℕ → StationValue → List TargetDifference → HowFar → ℕ → List ℕ
-section_text path station rows h greatest =
-    codes "\nStated directions in gon, differences in mgon: "
-    ++ (codes "stated less adjusted, after the best rotation\n\n"
+abbrev pub section_text : List ℕ → StationValue → List TargetDifference → HowFar → List ℕ
+section_text path station rows h =
+    codes "\nStated directions in gon, differences in mgon: stated less adjusted,\n"
+    ++ (codes "after the best rotation\n\n"
     ++ (codes "  Target                      Stated    Difference    From the median\n\n"
-    ++ (target_lines rows ++ verdict_text path station h greatest)))
+    ++ (target_lines rows ++ verdict_text path station h)))

@@ -7,7 +7,7 @@
 use Rattle.std.specs.Prelude.{◌≡◌, ℕ, List, Option, Some, None, ℤ, if◌then◌else◌, nat_le}
 use Rattle.adjust_kernel.specs.Stations.{StationValue}
 use Rattle.direction_table.specs.Tables.{IsTableText}
-use Rattle.direction_table.specs.declared.unit.AngleUnit.{AngleUnit}
+use Rattle.direction_table.specs.declared.form.TableForm.{TableForm}
 use Rattle.directions_apart.specs.Apart.{stated_by}
 use Rattle.least_directions.specs.LeastDirections.{AreApart}
 use Rattle.station_book.specs.declared.result_limits.ResultLimits.{ResultLimits}
@@ -16,17 +16,17 @@ use Rattle.station_compare.specs.LimitInForce.{limit_in_force, off_in}
 use Rattle.station_compare.specs.declared.how_far.HowFar.{HowFar}
 use Rattle.station_differences.specs.Differences.{AreCompared}
 use Rattle.station_differences.specs.declared.compared.TargetDifference.{TargetDifference}
+use Rattle.station_report.specs.NoteTexts.{ReportHead}
 use Rattle.station_report.specs.Stating.{IsReportText}
-use Rattle.station_results.specs.Greatest.{IsGreatestSize}
 use Rattle.table_report.specs.Sections.{section_text}
 
--- What is asked of a report with a table: the paths of the field file and of the table, as they are
--- named in it; the unit in which the table states its directions; and the limit of the comparison,
--- in units of 0.000001 gon, where one is stated.
+-- What is asked of a report with a table: what stands in its head that is not of the station; the
+-- path of the table, as it is named in it; how the table is to be read; and the limit of the
+-- comparison, in units of 0.000001 gon, where one is stated.
 pub record ReportAsked : Type 0 where
-  pub path : List ℕ
+  pub head : ReportHead
   pub table_path : List ℕ
-  pub unit : AngleUnit
+  pub form : TableForm
   pub within : Option ℕ
 
 -- A report with a table: its text; and how far the directions are apart, where that is beyond the
@@ -52,10 +52,7 @@ pub record IsSection (station : StationValue) (path : List ℕ) (directions : Li
   pub how_far : HowFar
   pub are_apart : AreApart station (stated_by directions) off how_far.apart
   pub held_to : how_far.limit ≡ limit
-  -- The greatest residual of the station has this size, in units of 0.001 mgon.
-  pub greatest : ℕ
-  pub is_greatest : IsGreatestSize station greatest
-  pub section_is : section ≡ section_text path station rows how_far greatest
+  pub section_is : section ≡ section_text path station rows how_far
   pub beyond_is : beyond ≡ beyond_of how_far
 
 -- This is the report of a station with these stated directions, from which the numbers of the table
@@ -65,14 +62,14 @@ pub record IsReportBeside (asked : ReportAsked) (limits : ResultLimits) (its : S
   pub section : List ℕ
   pub is_section : IsSection its.station asked.table_path directions off limit section
       report.beyond
-  pub is_report : IsReportText asked.path limits its section report.text
+  pub is_report : IsReportText asked.head limits its section report.text
 
 -- This is the report of a station with the directions that a table's bytes state. The limit is the
 -- one in force: the stated one, or the usual one for the steps to which the table rounds.
 pub record IsReportOfTable (asked : ReportAsked) (limits : ResultLimits) (its : SurveyedStation)
     (bytes : List ℕ) (report : ReportValue) : Type 0 where
   pub directions : List ℤ
-  pub states : IsTableText asked.unit its.station.targets bytes directions
+  pub states : IsTableText asked.form its.station.targets bytes directions
   pub beside : IsReportBeside asked limits its directions
-      (off_in asked.unit its.station.targets bytes)
-      (limit_in_force asked.unit asked.within its.station.targets bytes) report
+      (off_in asked.form its.station.targets bytes)
+      (limit_in_force asked.form asked.within its.station.targets bytes) report

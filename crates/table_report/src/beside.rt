@@ -4,8 +4,11 @@ ghost use Rattle.adjust_kernel.specs.declared.bounds.TheConstants.{LARGEST_RESID
 ghost use Rattle.exact_adjustment.specs.Exact.{IsExact, KeepsLimit};
 ghost use Rattle.exact_adjustment.specs.Faults.{IsAdjustError};
 ghost use Rattle.exact_adjustment.specs.LeastOf.{AreTied, HasResidualsWithin};
+ghost use Rattle.directions_apart.specs.Apart.{stated_by};
+ghost use Rattle.least_directions.specs.LeastDirections.{AreApart};
+ghost use Rattle.station_differences.specs.Differences.{AreCompared};
 ghost use Rattle.table_report.specs.Stating.{IsReportBeside, beyond_of};
-ghost use Rattle.table_report.specs.Values.{asked_of, value_of};
+ghost use Rattle.table_report.specs.Values.{asked_of, report_of, value_of};
 
 use crate::asked::Asked;
 use crate::section::section_text;
@@ -13,10 +16,20 @@ use directions_apart::{MOST_OFF, apart_of};
 use exact_adjustment::{AdjustError, Adjustment, adjust};
 use station_book::{ResultLimits, Surveyed};
 use station_compare::HowFar;
-use station_differences::differences_by;
+use station_differences::{TargetDifference, differences_by};
 use station_report::{computed_by, text_by};
-use station_results::size_at;
 use std::alloc::{AllocError, Global};
+
+/// Directions that a table states, one for each target of a station, and what they are held to.
+#[derive(Clone, Copy, Debug, Drop)]
+pub struct StatedDirections<'a> {
+    /// The directions, in parts, 81 of which are 0.000000001 gon.
+    pub directions: &'a [i64],
+    /// By so many parts the numbers of the table may be off from them.
+    pub off: u64,
+    /// The limit of the differences, in units of 0.000001 gon.
+    pub limit: u32,
+}
 
 /// A report with a table.
 #[derive(Debug, Drop)]
@@ -28,11 +41,21 @@ pub struct TableReport {
     pub beyond: Option<HowFar>,
 }
 
-/// The report of a station with these directions, one for each of its targets, from which the numbers
-/// of the table may be off by so many parts, and this limit: the text of `station_report`, with a
-/// section after the adjusted directions. That has each stated direction, its difference from the
-/// adjusted one after the rotation that makes the largest difference smallest, as it is and less the
-/// lower median of all, the limit, and whether they agree.
+/// A station beside stated directions.
+#[derive(Debug, Drop)]
+pub struct Beside {
+    /// What is stated of each target beside its least-squares direction.
+    pub rows: Vec<TargetDifference>,
+    /// How far the stated directions are apart from the least-squares ones, and the limit.
+    pub how_far: HowFar,
+    /// The text of the report with both.
+    pub report: Vec<u8>,
+}
+
+/// The report of a station with these directions, and their limit: the text of `station_report`,
+/// with a section after the adjusted directions. That has each stated direction, its difference
+/// from the adjusted one after the rotation that makes the largest difference smallest, as it is
+/// and less the lower median of all, the limit, and whether they agree.
 ///
 /// All is exactly rounded, the middle of two upwards, but that differences from the median are of
 /// the printed ones; and it is of the least-squares directions: least over all directions,
@@ -43,67 +66,66 @@ pub struct TableReport {
 /// Those of `exact_adjustment::adjust`: its `AdjustFault`, and `Memory`.
 pub fn report_beside(
     alloc: Global,
-    asked: &Asked<'_>,
+    asked: &Asked<'_, '_>,
     limits: ResultLimits,
     surveyed: &Surveyed,
-    stated: &[i64],
-    off: u64,
-    limit: u32,
+    stated: &StatedDirections<'_>,
 ) -> Result<TableReport, AdjustError>
-    requires each { length stated.now ≡ length surveyed.now.station.targets }
-    requires off { off ≤ MOST_OFF }
+    requires each { length stated.now.directions.now ≡ length surveyed.now.station.targets }
+    requires off { stated.now.off ≤ MOST_OFF }
     ensures beside { IfOk result (λ report.
-        IsReportBeside (asked_of asked.now) limits surveyed.now stated.now off limit
-        (value_of report)) }
+        IsReportBeside (asked_of asked.now) limits surveyed.now stated.now.directions.now
+        stated.now.off stated.now.limit (value_of report)) }
     ensures held { OnOk result (HasResidualsWithin surveyed.now.station limits.residual) }
     ensures fault { IfErr result (IsAdjustError surveyed.now.station limits.residual) }
 {
     let adjustment = adjust(alloc, surveyed.station(), limits.residual)?;
-    Ok(report_by(
-        alloc,
-        asked,
-        limits,
-        surveyed,
-        &adjustment,
-        stated,
-        off,
-        limit,
-    )?)
+    let beside = beside_by(alloc, asked, limits, surveyed, &adjustment, stated)?;
+    Ok(TableReport {
+        text: beside.report,
+        beyond: beyond(beside.how_far),
+    })
 }
 
-/// The report of `report_beside`, by an adjustment of the station.
-fn report_by(
+/// A station beside these directions, by an adjustment of it: the report is that of
+/// [`report_beside`], and the rest is what it has of them.
+///
+/// The only error is that memory was refused.
+pub fn beside_by(
     alloc: Global,
-    asked: &Asked<'_>,
+    asked: &Asked<'_, '_>,
     limits: ResultLimits,
     surveyed: &Surveyed,
     adjustment: &Adjustment,
-    stated: &[i64],
-    off: u64,
-    limit: u32,
-) -> Result<TableReport, AllocError>
+    stated: &StatedDirections<'_>,
+) -> Result<Beside, AllocError>
     requires exact { IsExact surveyed.now.station adjustment.now }
     requires limited { KeepsLimit surveyed.now.station adjustment.now LARGEST_RESIDUAL_LIMIT }
     requires tied { AreTied surveyed.now.station }
-    requires each { length stated.now ≡ length surveyed.now.station.targets }
-    requires off { off ≤ MOST_OFF }
-    ensures { IfOk result (λ report.
-        IsReportBeside (asked_of asked.now) limits surveyed.now stated.now off limit
-        (value_of report)) }
+    requires each { length stated.now.directions.now ≡ length surveyed.now.station.targets }
+    requires off { stated.now.off ≤ MOST_OFF }
+    ensures rows { IfOk result (λ beside.
+        AreCompared surveyed.now.station stated.now.directions.now beside.rows.items) }
+    ensures apart { IfOk result (λ beside. AreApart surveyed.now.station
+        (stated_by stated.now.directions.now) stated.now.off beside.how_far.apart) }
+    ensures limit { IfOk result (λ beside. beside.how_far.limit ≡ stated.now.limit) }
+    ensures report { IfOk result (λ beside.
+        IsReportBeside (asked_of asked.now) limits surveyed.now stated.now.directions.now
+        stated.now.off stated.now.limit (report_of beside)) }
 {
     let station = surveyed.station();
-    let rows = differences_by(alloc, station.targets(), adjustment, stated)?;
+    let rows = differences_by(alloc, station.targets(), adjustment, stated.directions)?;
     let how_far = HowFar {
-        apart: apart_of(adjustment, stated, off),
-        limit,
+        apart: apart_of(adjustment, stated.directions, stated.off),
+        limit: stated.limit,
     };
     let computed = computed_by(alloc, station, adjustment)?;
-    let greatest = size_at(&computed.rows, computed.greatest);
-    let section = section_text(alloc, asked.table_path, station, &rows, how_far, greatest)?;
-    let text = text_by(alloc, asked.path, limits, surveyed, &computed, &section)?;
-    Ok(TableReport {
-        text,
-        beyond: beyond(how_far),
+    let section = section_text(alloc, asked.table_path, station, &rows, how_far)?;
+    let report = text_by(alloc, asked.head, limits, surveyed, &computed, &section)?;
+    Ok(Beside {
+        rows,
+        how_far,
+        report,
     })
 }
 

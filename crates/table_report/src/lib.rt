@@ -3,6 +3,7 @@
 //! `report_beside` answers the report of a station with a section more: each stated direction with
 //! its difference from the adjusted one, after the rotation that makes the largest difference
 //! smallest, and that less the median of all; the limit; and whether the directions agree.
+//! `beside_by` answers it by an adjustment that is at hand, with the rows of the section.
 //! `table_answers` reads the files and prints it.
 #![tactic(auto)]
 
@@ -12,4 +13,4 @@ pub mod laws;
 mod section;
 
 pub use asked::Asked;
-pub use beside::{TableReport, report_beside};
+pub use beside::{Beside, StatedDirections, TableReport, beside_by, report_beside};

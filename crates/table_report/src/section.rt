@@ -1,17 +1,15 @@
 //! The section of a table, made in memory.
 ghost use Rattle.std.specs.Prelude.{◌≡◌, ◌++◌, IfOk, OnOk};
-ghost use Rattle.station_compare.specs.AgreementTexts.{how_far_text};
 ghost use Rattle.table_report.specs.Sections as spec;
 
 use adjust_kernel::{LONGEST_NAME, Station};
 use angle_texts::{push_mgon, push_thousandths};
-use station_compare::{Agreement, HowFar, agreement_line};
+use station_compare::{HowFar, targets_word};
 use station_differences::{TargetDifference, are_short, median_of, push_from_median, push_stated};
 use station_report::{ENTRY_NAMES, push_count, push_file, push_left, push_right};
 use std::alloc::{AllocError, Global};
 
-/// The section of a table of this path, whose directions are so far apart from those of a station
-/// with this greatest residual.
+/// The section of a table of this path, whose directions are so far apart from those of a station.
 ///
 /// The only error is that memory was refused.
 pub(crate) fn section_text(
@@ -20,21 +18,20 @@ pub(crate) fn section_text(
     station: &Station,
     rows: &[TargetDifference],
     how_far: HowFar,
-    greatest: u32,
 ) -> Result<Vec<u8>, AllocError>
     ensures { IfOk result (λ text. text.items
-        ≡ spec.section_text path.now station.now rows.now how_far greatest) }
+        ≡ spec.section_text path.now station.now rows.now how_far) }
 {
     let mut text = Vec::new(alloc);
     text.extend_from_slice(
-        b"\nStated directions in gon, differences in mgon: \
-          stated less adjusted, after the best rotation\n\n",
+        b"\nStated directions in gon, differences in mgon: stated less adjusted,\n",
     )?;
+    text.extend_from_slice(b"after the best rotation\n\n")?;
     text.extend_from_slice(
         b"  Target                      Stated    Difference    From the median\n\n",
     )?;
     push_targets(alloc, &mut text, rows)?;
-    push_end(&mut text, path, station, how_far, greatest)?;
+    push_end(&mut text, path, station, how_far)?;
     Ok(text)
 }
 
@@ -87,16 +84,15 @@ fn push_end(
     path: &[u8],
     station: &Station,
     how_far: HowFar,
-    greatest: u32,
 ) -> Result<(), AllocError>
     ensures { OnOk result (text.new.items ≡ text.old.items
-        ++ spec.verdict_text path.now station.now how_far greatest) }
+        ++ spec.verdict_text path.now station.now how_far) }
 {
     text.push(b'\n')?;
     push_file(text, b"Table", path)?;
     push_limit(text, how_far.limit)?;
     push_left(text, ENTRY_NAMES, b"Comparison")?;
-    push_verdict(text, station, how_far, greatest)?;
+    push_verdict(text, station, how_far)?;
     Ok(())
 }
 
@@ -111,49 +107,33 @@ fn push_limit(text: &mut Vec<u8>, limit: u32) -> Result<(), AllocError>
 }
 
 /// Adds the line of the verdict.
-fn push_verdict(
-    text: &mut Vec<u8>,
-    station: &Station,
-    how_far: HowFar,
-    greatest: u32,
-) -> Result<(), AllocError>
-    ensures { OnOk result (text.new.items ≡ text.old.items
-        ++ spec.verdict_line station.now how_far greatest) }
+fn push_verdict(text: &mut Vec<u8>, station: &Station, how_far: HowFar) -> Result<(), AllocError>
+    ensures { OnOk result
+        (text.new.items ≡ text.old.items ++ spec.verdict_line station.now how_far) }
 {
     if how_far.apart <= how_far.limit {
-        let agreement = Agreement {
-            name: station.name(),
-            sets: station.sets().len() as u32,
-            targets: station.targets().len() as u32,
-            how_far,
-            greatest,
-        };
-        return text.extend_from_slice(agreement_line(agreement).as_slice());
+        return push_found(text, b"agrees: ", b", within ", station, how_far.apart);
     }
-    push_apart(text, station, how_far)
+    push_found(text, b"apart: ", b", by ", station, how_far.apart)
 }
 
-/// Adds the line of a table that does not agree.
-fn push_apart(text: &mut Vec<u8>, station: &Station, how_far: HowFar) -> Result<(), AllocError>
-    ensures { OnOk result (text.new.items ≡ text.old.items ++ spec.apart_line station.now how_far) }
+/// Adds a verdict: of how many targets, and how far they are apart, each after words of its own.
+fn push_found(
+    text: &mut Vec<u8>,
+    verdict: &[u8],
+    words: &[u8],
+    station: &Station,
+    apart: u32,
+) -> Result<(), AllocError>
+    ensures { OnOk result (text.new.items ≡ text.old.items
+        ++ spec.found_line verdict.now words.now station.now apart) }
 {
-    text.extend_from_slice(b"apart ")?;
-    text.extend_from_slice(station.name().bytes())?;
-    text.extend_from_slice(b": ")?;
-    push_count(text, station.targets().len())?;
-    text.extend_from_slice(b" targets, by ")?;
-    push_how_far(text, how_far)?;
-    text.push(b'\n')?;
-    Ok(())
-}
-
-/// Adds how far a table is apart and the limit, both in mgon.
-fn push_how_far(text: &mut Vec<u8>, how_far: HowFar) -> Result<(), AllocError>
-    ensures { OnOk result (text.new.items ≡ text.old.items ++ how_far_text how_far) }
-{
-    push_thousandths(text, how_far.apart)?;
-    text.extend_from_slice(b" mgon, limit ")?;
-    push_thousandths(text, how_far.limit)?;
-    text.extend_from_slice(b" mgon")?;
+    let count = station.targets().len();
+    text.extend_from_slice(verdict)?;
+    push_count(text, count)?;
+    text.extend_from_slice(targets_word(count))?;
+    text.extend_from_slice(words)?;
+    push_thousandths(text, apart)?;
+    text.extend_from_slice(b" mgon\n")?;
     Ok(())
 }

@@ -4,13 +4,14 @@
 
 use adjust_kernel::{LARGEST_RESIDUAL_LIMIT, ResidualLimit};
 use byte_ends::{Held, Script};
-use direction_table::AngleUnit;
+use direction_table::{AngleUnit, TableForm};
 use station_answers::run_answer;
 use station_book::{Limits, ResultLimits};
 use station_record::{
-    NamedReader, run_check_recorded, run_compare_recorded, run_report_recorded,
+    HeadedReader, NamedReader, run_check_recorded, run_compare_recorded, run_report_recorded,
     run_table_report_recorded,
 };
+use station_report::Head;
 use std::alloc::Global;
 use std::process::Abort;
 use std::test::Fail;
@@ -48,6 +49,14 @@ const AGREES: &[u8] = b"agrees S1: 2 sets, 2 targets, within 0.000 mgon, limit 0
 greatest residual 0.005 mgon\n\
 2f4ee076b5c212dab3274b4ac86ac3e8ed63b631b5c22f66f8f7e428f77bd167  job.gsi\n\
 f5da1d3d1ff629ae485cd880ec2cf3c8bf17d9e17aa2aff7b23099abe37dc41e  S1.csv\n";
+
+/// How a table in this unit is read, no columns of which are stated.
+fn in_unit(unit: AngleUnit) -> TableForm {
+    TableForm {
+        unit,
+        columns: None,
+    }
+}
 
 /// A report of S1, and what is printed of it.
 #[derive(Clone, Copy)]
@@ -123,6 +132,14 @@ impl<'a> File<'a> {
         Script::new(self.bytes, self.step.max(1), self.fails)
     }
 
+    /// The head of its report, which was told to note nothing.
+    fn head(self) -> Head<'a, 'static> {
+        Head {
+            path: self.name,
+            notes: None,
+        }
+    }
+
     fn reader(self) -> NamedReader<'a, Script<'a>> {
         NamedReader {
             name: self.name,
@@ -188,7 +205,7 @@ fn compared(
         alloc,
         gsi,
         table,
-        AngleUnit::Gon,
+        in_unit(AngleUnit::Gon),
         b"S1",
         limits,
         within,
@@ -200,12 +217,12 @@ fn compared(
 
 impl Report {
     /// What is asked of it, if it has a table.
-    fn asked<'a>(self, gsi: File<'a>, table: File<'a>) -> Option<Asked<'a>> {
+    fn asked<'a>(self, gsi: File<'a>, table: File<'a>) -> Option<Asked<'a, 'static>> {
         let (_, unit, within) = self.table?;
         Some(Asked {
-            path: gsi.name,
+            head: gsi.head(),
             table_path: table.name,
-            unit,
+            form: in_unit(unit),
             within: Some(within),
         })
     }
@@ -225,7 +242,10 @@ impl Report {
         let limits = held_to(rt, half_units);
         let status = match self.asked(gsi, table) {
             None => {
-                let gsi = gsi.reader();
+                let gsi = HeadedReader {
+                    head: gsi.head(),
+                    reader: gsi.bytes(),
+                };
                 run_report_recorded(alloc, gsi, station, limits, &mut out, &mut err)
             }
             Some(asked) => run_table_report_recorded(
@@ -255,8 +275,8 @@ impl Report {
         let limits = ResultLimits::of_faces(limits(rt));
         match self.asked(gsi, table) {
             None => {
-                let (path, gsi) = (gsi.name, gsi.bytes());
-                let asked = station_answers::Report { path };
+                let (head, gsi) = (gsi.head(), gsi.bytes());
+                let asked = station_answers::Report { head };
                 run_answer(alloc, gsi, b"S1", limits, &asked, &mut out, &mut err)
             }
             Some(asked) => {
@@ -398,7 +418,13 @@ fn a_refused_comparison_prints_no_digest(rt: HostRuntime) -> Result<(), Fail> {
                 1,
                 b"refused: compare: Apart 0.010 mgon, limit 0.009 mgon\n",
             ),
-            (gsi, table, 0, b"refused: adjust: Residual 1\n"),
+            (
+                gsi,
+                table,
+                0,
+                b"refused: adjust: Residual 1\n\
+set 1, A: the greatest residual, above the limit of 0.000 mgon\n",
+            ),
             (gsi.that_fails(), table, 1, b"refused: block 13: Read\n"),
             (gsi, table.that_fails(), 1, b"refused: table: Read\n"),
             (gsi, gsi, 0, b"refused: table row 2: Number\n"),
@@ -418,14 +444,20 @@ fn a_refused_report_prints_no_digest(rt: HostRuntime) -> Result<(), Fail> {
         let cut = gsi.that_fails();
         let (one, with_table) = (REPORTS[0], REPORTS[1]);
         let cases: [(Report, File<'_>, File<'_>, &[u8], &[u8]); 6] = [
-            (one, gsi, table, b"S2", b"refused: no station\n"),
+            (
+                one,
+                gsi,
+                table,
+                b"S2",
+                b"refused: no station\nthe file has S1\n",
+            ),
             (one, cut, table, b"S1", b"refused: block 13: Read\n"),
             (
                 with_table,
                 gsi,
                 table.that_fails(),
                 b"S2",
-                b"refused: no station\n",
+                b"refused: no station\nthe file has S1\n",
             ),
             (with_table, cut, table, b"S1", b"refused: block 13: Read\n"),
             (
@@ -450,7 +482,9 @@ fn a_refused_report_prints_no_digest(rt: HostRuntime) -> Result<(), Fail> {
         // Each residual of S1 is one half unit in size.
         for report in [one, with_table] {
             let printed = report.recorded(&rt, rt.alloc(), gsi, table, b"S1", 0, AMPLE)?;
-            expect_refusal(&rt, &printed, b"refused: adjust: Residual 1\n");
+            let text = b"refused: adjust: Residual 1\n\
+set 1, A: the greatest residual, above the limit of 0.000 mgon\n";
+            expect_refusal(&rt, &printed, text);
         }
     }
     Ok(())

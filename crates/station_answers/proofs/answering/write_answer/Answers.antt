@@ -1,4 +1,5 @@
 use Rattle.std.proofs.Common.{◌≡◌, refl, rules, Ok, Err}
+use Rattle.station_compare.specs.Refusals.{unhinted}
 use Rattle.station_compare.specs.declared.fault.CompareFault.TheVariants.{Write}
 use Rattle.station_answers.proofs.answering.write_answer.Goals as goal
 
@@ -27,7 +28,7 @@ returns g c =
 pub returns-in_err-write_whole : goal.returns-in_err-write_whole
 returns-in_err-write_whole g c =
     let told = rw c.in_ok-text.was at c.answer_of-answer.ensures in
-    let is_its : c.from_residual-in_err-write_whole.result ≡ Err Write = search rules in
+    let is_its : c.from_residual-in_err-write_whole.result ≡ Err (unhinted Write) = search rules in
     rw is_its (
       c.answer_of-answer.result.1,
       record {

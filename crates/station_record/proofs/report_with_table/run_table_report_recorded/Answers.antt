@@ -3,8 +3,10 @@ use Rattle.byte_digests.proofs.Histories.{digested}
 use Rattle.byte_digests.specs.Digesting.{reader_of}
 use Rattle.byte_ends.specs.Writers.{writer_change}
 use Rattle.byte_ends.specs.Source.{reader_change}
-use Rattle.station_record.specs.Recorded.{IsRecordedTableReport}
+use Rattle.station_compare.specs.Refusals.{by_fault}
+use Rattle.station_record.specs.Recorded.{IsRecordedTableReport, PrintsRecordedReport}
 use Rattle.station_record.proofs.ReportUndigested.{both_of, recorded_both}
+use Rattle.table_answers.specs.Saying.{SaysTableReport}
 use Rattle.table_report.specs.Values.{asked_of, value_of}
 use Rattle.station_record.proofs.report_with_table.run_table_report_recorded.Goals as goal
 
@@ -16,18 +18,21 @@ returns g c =
     let table' = c.table_answer_of-answer.new.table in
     let answer = c.table_answer_of-answer.result.0 in
     let a = c.table_answer_of-answer.ensures in
+    let parts = c.parts_of-report in
     let asked = asked_of c.args.asked.now in
     let out = writer_change g.W.Sink c.args.out.now
     c.print_report-printed.new.out in
     let printed = c.print_report-printed.result in
     let tells = both_of g.R.Source.told g.R.Source.failed g.R.Source.gave g.Q.Source.told
-    g.Q.Source.failed g.Q.Source.gave gsi gsi' table table' answer _
+    g.Q.Source.failed g.Q.Source.gave gsi gsi' table table' (by_fault answer) _
     c.new-digested_gsi.ensures.nothing c.new-digested_table.ensures.nothing a in
     let gsi_held = (digested g.R.Source.told g.R.Source.failed g.R.Source.gave gsi gsi'
     a.gsi_bytes c.new-digested_gsi.ensures.nothing a.gsi_reads).1 in
     let table_held = (digested g.Q.Source.told g.Q.Source.failed g.Q.Source.gave table table'
     a.table_bytes c.new-digested_table.ensures.nothing a.table_reads).1 in
-    let run = recorded_both value_of asked c.args.limits _ _ c.args.station.now answer tells
+    let run = recorded_both value_of (SaysTableReport asked c.args.limits)
+    (PrintsRecordedReport asked) asked.form c.args.limits _ _ c.args.station.now answer
+    parts.result.0 parts.result.1.items parts.ensures tells
     c.digest-gsi_digest.result c.digest-table_digest.result
     (c.digest-gsi_digest.ensures a.gsi_bytes gsi_held)
     (c.digest-table_digest.ensures a.table_bytes table_held) printed out
@@ -35,19 +40,22 @@ returns g c =
     let of_gsi = subst (λ (r : _). IsRecordedTableReport asked c.args.limits
     (reader_change g.R.Source.told g.R.Source.failed g.R.Source.gave r (reader_of gsi'))
     (reader_change g.Q.Source.told g.Q.Source.failed g.Q.Source.gave (reader_of table)
-    (reader_of table')) c.args.station.now printed out) c.new-digested_gsi.ensures.reader run in
+    (reader_of table')) c.args.station.now printed parts.result.1.items out)
+    c.new-digested_gsi.ensures.reader run in
     let of_both = subst (λ (q : _). IsRecordedTableReport asked c.args.limits
     (reader_change g.R.Source.told g.R.Source.failed g.R.Source.gave c.args.gsi (reader_of gsi'))
     (reader_change g.Q.Source.told g.Q.Source.failed g.Q.Source.gave q (reader_of table'))
-    c.args.station.now printed out) c.new-digested_table.ensures.reader of_gsi in (
+    c.args.station.now printed parts.result.1.items out) c.new-digested_table.ensures.reader
+    of_gsi in (
       reader_of gsi',
       (
         reader_of table',
         record {
           answer = printed;
+          note = parts.result.1.items;
           so = of_both;
-          exits = c.report.ensures.exits;
-          reports = c.report.ensures.reports;
+          exits = c.tell.ensures.exits;
+          told = rw c.deref.ensures.value at c.tell.ensures.told;
         },
       ),
     )

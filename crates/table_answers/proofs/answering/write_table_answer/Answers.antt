@@ -1,12 +1,12 @@
 use Rattle.std.proofs.Common.{refl, rules, Ok, Err}
 use Rattle.table_answers.proofs.answering.write_table_answer.Goals as goal
 
-pub returns-in_err-answer : goal.returns-in_err-answer
-returns-in_err-answer g c =
-    let told = rw c.in_err-answer.was at c.table_answer_of-answered.ensures in (
+pub returns : goal.returns
+returns g c =
+    let told = rw c.in-Err.is at c.table_answer_of-answered.ensures in (
       c.table_answer_of-answered.result.1,
       record {
-        answer = Err c.in_err-answer.field-0.0;
+        answer = Err c.in-Err.refusal;
         tells = record {
           gsi_bytes = told.gsi_bytes;
           gsi_reads = told.gsi_reads;
@@ -16,16 +16,17 @@ returns-in_err-answer g c =
           gsi_reader = told.gsi_reader;
           table_reader = told.table_reader;
         };
-        printed = (search rules, refl);
+        printed = (refl, refl);
+        noted = search rules;
       },
     )
 
-pub returns : goal.returns
-returns g c =
-    let told = rw c.in_ok-answer.was at c.table_answer_of-answered.ensures in (
+pub returns-in-Ok : goal.returns-in-Ok
+returns-in-Ok g c =
+    let told = rw c.in-Ok.is at c.table_answer_of-answered.ensures in (
       c.table_answer_of-answered.result.1,
       record {
-        answer = Ok (g.A.TableAnswer.value c.in_ok-answer.answer);
+        answer = Ok (g.A.TableAnswer.value c.in-Ok.noted.answer, c.in-Ok.noted.note.items);
         tells = record {
           gsi_bytes = told.gsi_bytes;
           gsi_reads = told.gsi_reads;
@@ -35,6 +36,7 @@ returns g c =
           gsi_reader = told.gsi_reader;
           table_reader = told.table_reader;
         };
-        printed = c.print.ensures;
+        printed = (rw c.unhinted.ensures.0 c.print.ensures, c.unhinted.ensures.1);
+        noted = refl;
       },
     )

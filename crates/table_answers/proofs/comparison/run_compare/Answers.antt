@@ -7,9 +7,10 @@ returns g c =
       dropped,
       record {
         answer = run.answer;
-        so = is_compare_run c.args.unit c.args.limits c.args.within _ _ c.args.name.now run.answer _
-            run.so;
+        note = run.note;
+        so = is_compare_run c.args.form c.args.limits c.args.within _ _ c.args.name.now run.answer
+            run.note _ run.so;
         exits = run.exits;
-        reports = run.reports;
+        told = run.told;
       },
     )

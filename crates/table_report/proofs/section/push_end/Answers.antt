@@ -10,7 +10,7 @@ returns c =
     let table = file_text (codes "Table") c.args.path.now in
     let limit = limit_text c.args.how_far.limit in
     let comparison = left_text 22 (codes "Comparison") in
-    let verdict = verdict_line c.args.station.now c.args.how_far c.args.greatest in
+    let verdict = verdict_line c.args.station.now c.args.how_far in
     let whole = c.push_verdict.new.text.items in
     let last = three c.push_file.new.text.items c.push_limit.new.text.items
     c.push_left.new.text.items whole limit comparison verdict c.in_ok-push_limit.ensures
