@@ -1,0 +1,4 @@
+pub mod TextLaws
+pub mod FrontLaws
+pub mod StationLaws
+pub mod FileLaws

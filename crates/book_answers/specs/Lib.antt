@@ -1,0 +1,7 @@
+-- The public definitions, which public contracts cite, in the order in which a reader needs them.
+pub mod Together
+pub mod Refusals
+pub mod Answers
+pub mod Runs
+-- The inside.
+pub mod OfStations

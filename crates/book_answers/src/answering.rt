@@ -1,0 +1,165 @@
+//! The one text of all stations of a field file: answered, written, and run as a command.
+ghost use Rattle.std.specs.Prelude.{◌≡◌, ⊤, MatchResult, OnOk};
+ghost use Rattle.book_answers.specs.Answers.{IsRefusedOfAll, StatesAll};
+ghost use Rattle.book_answers.specs.OfStations.{IsOneText, IsRefusedAt, IsWhyNoText};
+ghost use Rattle.book_answers.specs.Refusals as spec;
+ghost use Rattle.book_answers.specs.Refusals.{fault_of, named_refusal_text};
+ghost use Rattle.book_answers.specs.Runs.{IsRunOfAll};
+ghost use Rattle.byte_ends.specs.Writers.{writer_change};
+ghost use Rattle.byte_ends.specs.Source.{reader_change, UntilDropped};
+ghost use Rattle.exact_adjustment.specs.LeastOf.{HasResidualsWithin};
+ghost use Rattle.station_check.specs.RunEndings.{Run};
+ghost use Rattle.station_compare.specs.Runs.{ReadsFieldFile};
+
+use crate::arrangement::Arrangement;
+use crate::refusal::{StationRefusal, refusal_text};
+use byte_ends::{Sink, Source};
+use station_answers::StationAnswer;
+use station_book::{ResultLimits, Stations, Surveyed};
+use station_check::{ACCEPTED, Fault, noted_stations_of_file, refuse_by, write_whole};
+use station_compare::{CompareFault, Refusal, hinted, stations_hint};
+use std::alloc::Global;
+
+/// The one text of all stations of a field file, and its reader, which is given back. The file is
+/// read once, and each station is adjusted once.
+///
+/// # Errors
+///
+/// The first fault of the file; then `NoStation`, where it has none; then that of the first station
+/// whose own answer is refused, with its name. `Memory` may stand in the place of any answer.
+pub fn answer_of_all<R: Source, A: StationAnswer>(
+    alloc: Global,
+    gsi: R,
+    limits: ResultLimits,
+    asked: &A,
+    arrangement: Arrangement,
+) -> (Result<Vec<u8>, StationRefusal>, R)
+    ensures { ReadsFieldFile (reader_change R.told R.failed R.gave gsi result.1)
+        (fault_of result.0)
+        (λ file. MatchResult result.0
+        (λ text. StatesAll (A.says asked.now limits) limits arrangement file text.items)
+        (IsRefusedOfAll (A.says asked.now limits) limits file)) }
+{
+    // For the proof alone: limits keep their bounds.
+    limits.faces.recall();
+    let (noted, gsi) = noted_stations_of_file(alloc, gsi, limits.faces);
+    let (stations, unchecked) = match noted {
+        Ok(found) => found,
+        Err(fault) => return (Err(StationRefusal::from(CompareFault::from(fault))), gsi),
+    };
+    if stations.len() == 0 {
+        return (Err(no_station(&stations, unchecked)), gsi);
+    }
+    let answer = text_of_stations(alloc, &stations, limits, asked, arrangement);
+    (answer, gsi)
+}
+
+/// The refusal of a file without stations: that of each name.
+fn no_station(stations: &Stations, unchecked: u32) -> StationRefusal
+    ensures { result ≡ spec.no_station stations.now unchecked }
+{
+    StationRefusal {
+        refusal: Refusal {
+            fault: CompareFault::File(Fault::NoStation),
+            hint: stations_hint(stations, unchecked),
+        },
+        station: None,
+    }
+}
+
+/// The one text of stations.
+fn text_of_stations<A: StationAnswer>(
+    alloc: Global,
+    stations: &Stations,
+    limits: ResultLimits,
+    asked: &A,
+    arrangement: Arrangement,
+) -> Result<Vec<u8>, StationRefusal>
+    ensures { MatchResult result
+        (λ text. IsOneText (A.says asked.now limits) limits.residual arrangement stations.now
+        text.items)
+        (IsWhyNoText (A.says asked.now limits) limits.residual stations.now) }
+{
+    let mut text = Vec::new(alloc);
+    arrangement.push_head(&mut text)?;
+    let ResultLimits { faces, residual } = limits;
+    'stations: for place in 0..stations.len() {
+        if let Some(surveyed) = stations.at(place) {
+            let limits = ResultLimits { faces, residual };
+            let own = own_text(alloc, limits, asked, surveyed)?;
+            let name = surveyed.station().name();
+            arrangement.push_piece(alloc, &mut text, place == 0, name, &own)?;
+        }
+    }
+    Ok(text)
+}
+
+/// The text of a station, or why it has none, with its name.
+fn own_text<A: StationAnswer>(
+    alloc: Global,
+    limits: ResultLimits,
+    asked: &A,
+    surveyed: &Surveyed,
+) -> Result<Vec<u8>, StationRefusal>
+    ensures text { MatchResult result (λ text. A.says asked.now limits surveyed.now text.items)
+        (IsRefusedAt limits.residual surveyed.now) }
+    ensures held { OnOk result (HasResidualsWithin surveyed.now.station limits.residual) }
+{
+    let station = surveyed.station();
+    let residual = limits.residual;
+    let answer = asked.text_of(alloc, limits, surveyed);
+    match hinted(answer, station, residual) {
+        Ok(text) => Ok(text),
+        Err(refusal) => Err(StationRefusal {
+            refusal,
+            station: Some(station.name()),
+        }),
+    }
+}
+
+/// Writes that text, and flushes once.
+///
+/// # Errors
+///
+/// Those of the text; `Write` where a call of the writer failed. At any other nothing was asked of
+/// the writer.
+pub fn write_answer_of_all<R: Source, A: StationAnswer, W: Sink>(
+    alloc: Global,
+    gsi: R,
+    limits: ResultLimits,
+    asked: &A,
+    arrangement: Arrangement,
+    writer: &mut W,
+) -> Result<(), StationRefusal>
+    ensures { UntilDropped R.told R.failed R.gave gsi (λ gsi. IsRunOfAll
+        (A.says asked.now limits) limits arrangement gsi result
+        (writer_change W.Sink writer.old writer.new)) }
+{
+    let (answer, _gsi) = answer_of_all(alloc, gsi, limits, asked, arrangement);
+    let text = answer?;
+    write_whole(writer, &text)?;
+    Ok(())
+}
+
+/// Writes the text to `out`, and answers the exit status: 0 where all was written, else 1, with the
+/// line of a refusal, its hint and the name of its station on `err`. Where `err` fails, they are
+/// lost and the status stays.
+pub fn run_answer_of_all<R: Source, A: StationAnswer, W: Sink, E: Sink>(
+    alloc: Global,
+    gsi: R,
+    limits: ResultLimits,
+    asked: &A,
+    arrangement: Arrangement,
+    out: &mut W,
+    err: &mut E,
+) -> u8
+    ensures { UntilDropped R.told R.failed R.gave gsi (λ gsi. Run {A = ⊤} named_refusal_text
+        (IsRunOfAll (A.says asked.now limits) limits arrangement gsi)
+        result (writer_change W.Sink out.old out.new)
+        (writer_change E.Sink err.old err.new)) }
+{
+    match write_answer_of_all(alloc, gsi, limits, asked, arrangement, out) {
+        Ok(()) => ACCEPTED,
+        Err(refused) => refuse_by(refusal_text(&refused).as_slice(), err),
+    }
+}
