@@ -32,9 +32,10 @@ TOOL_FILES := $(sort $(notdir $(wildcard examples/*.py examples/*.html)))
 TOOL_FOLDER := share/station_check
 
 # What is installed of the library, where it was made: it, the name by which a linker finds it, its
-# header, and the module for Python.
+# header, what pkg-config says of both, and the module for Python.
 LIBRARY_LINK := lib/libstation_check.so
-LIBRARY_FILES := lib/$(notdir $(LIBRARY)) $(LIBRARY_LINK) include/station_check.h $(TOOL_FOLDER)/station_check.py
+LIBRARY_FILES := lib/$(notdir $(LIBRARY)) $(LIBRARY_LINK) include/station_check.h \
+  lib/pkgconfig/station_check.pc $(TOOL_FOLDER)/station_check.py
 
 # Where `make dist` puts what it makes.
 DIST ?= build/dist
@@ -155,7 +156,8 @@ bench: $(PROGRAM)
 # Copies the proved program to $(PREFIX)/bin, its manual pages and completions to $(PREFIX)/share, as they lie in
 # packaging/share, and documents and examples to $(PREFIX)/share/doc. The tools are links to scripts of their
 # own, so that they work where documents are left out. After a build it needs no toolchain. Where the library
-# was made, it goes to $(PREFIX)/lib, its header to $(PREFIX)/include, and its Python module beside the scripts.
+# was made, it goes to $(PREFIX)/lib with a file for pkg-config, its header to $(PREFIX)/include, and its Python
+# module beside the scripts.
 install: $(PROGRAM)
 	install -d '$(DESTDIR)$(PREFIX)/bin'
 	install -m 755 $(PROGRAM) '$(DESTDIR)$(PREFIX)/bin/station_check'
@@ -177,6 +179,7 @@ install: $(PROGRAM)
 	  put 644 '$(LIBRARY)' "$(DESTDIR)$(PREFIX)/lib/$(notdir $(LIBRARY))" && \
 	  ln -sf '$(notdir $(LIBRARY))' "$(DESTDIR)$(PREFIX)/$(LIBRARY_LINK)" && \
 	  put 644 capi/station_check.h "$(DESTDIR)$(PREFIX)/include/station_check.h" && \
+	  put 644 capi/station_check.pc "$(DESTDIR)$(PREFIX)/lib/pkgconfig/station_check.pc" && \
 	  put 644 capi/station_check.py "$(DESTDIR)$(PREFIX)/$(TOOL_FOLDER)/station_check.py"; \
 	fi
 

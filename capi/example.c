@@ -1,4 +1,5 @@
-/* Says whether a sheet is right: cc example.c -lstation_check -o check && ./check JOB.gsi SHEET.csv */
+/* Says whether a sheet is right: ./check JOB.gsi SHEET.csv. Compile it by
+ * cc example.c $(pkg-config --cflags --libs station_check) -o check */
 #include <station_check.h>
 #include <stdio.h>
 #include <stdlib.h>

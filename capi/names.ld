@@ -1,11 +1,14 @@
 /* What the shared library shows: the proved exports of station_page, by the names of station_check.h.
- * station_check_check, station_check_compare and station_check_mark stand in stated.c. */
+ * station_check_check, station_check_compare, station_check_table and station_check_mark stand in
+ * stated.c. */
 station_check_differences = station_page_differences;
 station_check_directions = station_page_directions;
 station_check_residuals = station_page_residuals;
 station_check_report = station_page_report;
+station_check_station = station_page_station;
 station_check_means = station_page_means;
 station_check_list = station_page_list;
+station_check_list_rows = station_page_list_rows;
 station_check_words = station_page_words;
 station_check_change = station_page_change;
 station_check_digest = station_page_digest;

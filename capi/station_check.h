@@ -1,7 +1,8 @@
 /* station_check: the proved calls of the program, for C.
  *
  * Whole files and numbers go in, a status and a text come out. docs/LIBRARY.md has an example, and
- * docs/FORMATS.md the files and texts, byte by byte. Link with -lstation_check.
+ * docs/FORMATS.md the files and texts, byte by byte. Compile and link with what
+ * `pkg-config --cflags --libs station_check` says.
  *
  * Buffers are the caller's: a call reads `length` bytes at a pointer, which is never null, and
  * keeps no pointer when it returns. No two buffers of a call overlap. The library takes memory by
@@ -12,15 +13,24 @@
  * zero at the end, and its length to `*length`. If there is too little room nothing is written but
  * the length 0, and the status is 3: call again with more.
  * STATION_CHECK_LINE bytes are enough for each line of station_check_check and
- * station_check_compare; any other text may have more bytes than the files.
+ * station_check_compare, and for the note of a table; any other text may have more bytes than the
+ * files.
  *
  * Limits: those of face differences, `two_c` and `two_i`, are in units of 0.01 mgon, at most
  * 1,000,000, and usually STATION_CHECK_FACES. Where `is_stated` is 0 there is no limit of
  * residuals, or the usual one of a comparison, whatever number stands after it; any other value
- * states that number. Calls that adjust a station (compare, differences, directions, residuals,
- * report) refuse it where a residual is above 10 mgon, the largest limit.
+ * states that number. Calls that adjust a station (compare, differences, table, directions,
+ * residuals, report, station) refuse it where a residual is above 10 mgon, the largest limit.
+ *
+ * Tables of directions: `unit` is one of those below. `names` and `directions` state the columns of
+ * the names and of their directions, counted from 1, at most 999,999; where both are 0 none are
+ * stated: the table has two, or the one pair of its columns that fits is found. What was read by a
+ * pair of columns is told in `note`, a line that says which they are, and how much was passed over;
+ * else `note` is empty, and so it is at a refusal before the table was compared.
  *
  * Names of stations have 1 to 16 bytes from 20 to 7E (hex), without a zero at the end.
+ *
+ * Rows have commas between their fields; a field that has a comma or a quote stands in quotes.
  */
 #ifndef STATION_CHECK_H
 #define STATION_CHECK_H
@@ -32,6 +42,9 @@
 extern "C" {
 #endif
 
+/* The version of the program whose calls these are. */
+#define STATION_CHECK_VERSION "1.0.0"
+
 /* What a call answers. */
 enum {
     STATION_CHECK_DONE = 0,            /* accepted, agrees, or written: the text says it */
@@ -40,11 +53,18 @@ enum {
     STATION_CHECK_TOO_LITTLE_ROOM = 3  /* the text has more bytes than there is room for: no text */
 };
 
-/* Room for any line of a check or a comparison, in bytes. */
+/* Room for any line of a check or a comparison, and for the note of a table, in bytes. */
 #define STATION_CHECK_LINE 192
 
 /* The limits of face differences that are usual, in units of 0.01 mgon: 20 mgon. */
 #define STATION_CHECK_FACES 2000
+
+/* The unit of a table's directions. */
+enum {
+    STATION_CHECK_GON = 0,
+    STATION_CHECK_DEGREES = 1,  /* decimal, or with minutes and seconds */
+    STATION_CHECK_DMMSS = 2     /* two digits of minutes after the point, then the seconds */
+};
 
 /* Checks a sheet against a field file. The text is the line of the acceptance or of the refusal.
  * `residual` limits the residuals, in half units of 0.005 mgon, at most 2,000. */
@@ -53,25 +73,55 @@ uint8_t station_check_check(const void *gsi, size_t gsi_length,
                             uint32_t two_c, uint32_t two_i, uint32_t is_stated, uint32_t residual,
                             char *text, size_t room, size_t *length);
 
-/* Compares a table of directions, in gon, with the least-squares ones of a station. The text is the
- * line of the agreement, with the greatest residual, or of the refusal. `within` is how far they
- * may be apart, in units of 0.001 mgon, at most 1,000,000; if none is stated, what is usual for the
- * decimals of the table. */
+/* Compares a table of directions with the least-squares ones of a station. The text is the line of
+ * the agreement, with the greatest residual, or of the refusal. `within` is how far they may be
+ * apart, in units of 0.001 mgon, at most 1,000,000; if none is stated, what is usual for the
+ * decimals of the table. The status is 3 if the text or the note has too little room. */
 uint8_t station_check_compare(const void *gsi, size_t gsi_length,
                               const void *table, size_t table_length,
                               const char *station, size_t station_length,
-                              uint32_t two_c, uint32_t two_i, uint32_t is_stated, uint32_t within,
-                              char *text, size_t room, size_t *length);
+                              uint32_t two_c, uint32_t two_i,
+                              uint32_t unit, uint32_t names, uint32_t directions,
+                              uint32_t is_stated, uint32_t within,
+                              char *text, size_t room, size_t *length,
+                              char *note, size_t note_room, size_t *note_length);
 
 /* The differences of a table of directions from the least-squares ones of a station: a row of
  * titles, and a row for each target, with what the table states and the least-squares direction in
  * gon, and their difference in mgon after the rotation that makes the largest smallest, exactly
- * rounded. */
+ * rounded. The status is 3 if the text or the note has too little room. */
 uint8_t station_check_differences(const void *gsi, size_t gsi_length,
                                   const void *table, size_t table_length,
                                   const char *station, size_t station_length,
                                   uint32_t two_c, uint32_t two_i,
-                                  char *text, size_t room, size_t *length);
+                                  uint32_t unit, uint32_t names, uint32_t directions,
+                                  char *text, size_t room, size_t *length,
+                                  char *note, size_t note_room, size_t *note_length);
+
+/* All of a table beside its station, of one reading of each file and one adjustment. Before each part
+ * stands a line of its title, a blank, and how many bytes it has: "line", what station_check_compare
+ * hands out; "verdict", the same as a row of data below its titles; and where the table was compared,
+ * "differences", what station_check_differences hands out, and "report", the report with the table.
+ * That names the field file by `path` and the table by `table_path`. `within` is that of
+ * station_check_compare. The row has these fields, of which those that are of no use are empty:
+ *   verdict               "agrees", or the name of the fault, which is Apart where the table is apart
+ *   sets, targets         how many the station has, where the table agrees
+ *   apart, limit          how far the table is apart, and the limit in force, in units of 0.001 mgon
+ *   greatest              the greatest residual in these units, where the table agrees
+ *   place, first, second  of which "row" or "columns" of the table, "target" or "observation" of the
+ *                         station, or "block" of the field file the fault speaks, from 1
+ * The status is 0 where the table agrees, else 1, and 3 if the text or the note has too little
+ * room. */
+uint8_t station_check_table(const void *gsi, size_t gsi_length,
+                            const char *path, size_t path_length,
+                            const void *table, size_t table_length,
+                            const char *table_path, size_t table_path_length,
+                            const char *station, size_t station_length,
+                            uint32_t two_c, uint32_t two_i,
+                            uint32_t unit, uint32_t names, uint32_t directions,
+                            uint32_t is_stated, uint32_t within,
+                            char *text, size_t room, size_t *length,
+                            char *note, size_t note_room, size_t *note_length);
 
 /* The table of a station's least-squares directions, in gon with 1 to 8 decimals, exactly
  * rounded. */
@@ -97,6 +147,18 @@ uint8_t station_check_report(const void *gsi, size_t gsi_length,
                              uint32_t two_c, uint32_t two_i,
                              char *text, size_t room, size_t *length);
 
+/* All of a station, of one reading of the file and one adjustment: what station_check_directions
+ * hands out, the rows that `report --csv` prints, how accurate it is, and what station_check_report
+ * hands out. Before each stands a line of its title, "directions", "rows", "accuracy" or "report", a
+ * blank, and how many bytes it has. How accurate it is are two lines: "degrees,deviation", and the
+ * degrees of freedom and the standard deviation of one two-face direction in mgon, which is left out
+ * where there are none. */
+uint8_t station_check_station(const void *gsi, size_t gsi_length,
+                              const char *path, size_t path_length,
+                              const char *station, size_t station_length,
+                              uint32_t two_c, uint32_t two_i, uint32_t decimals,
+                              char *text, size_t room, size_t *length);
+
 /* The sheet of a station whose sets are complete. */
 uint8_t station_check_means(const void *gsi, size_t gsi_length,
                             const char *station, size_t station_length,
@@ -107,6 +169,12 @@ uint8_t station_check_means(const void *gsi, size_t gsi_length,
 uint8_t station_check_list(const void *gsi, size_t gsi_length,
                            uint32_t two_c, uint32_t two_i,
                            char *text, size_t room, size_t *length);
+
+/* The rows that `list --csv` prints, and how many readings went unchecked since no station is listed.
+ * Before each stands a line of its title, "rows" or "unchecked", a blank, and how many bytes it has. */
+uint8_t station_check_list_rows(const void *gsi, size_t gsi_length,
+                                uint32_t two_c, uint32_t two_i,
+                                char *text, size_t room, size_t *length);
 
 /* The words of a field file, one a line. At a fault of the file `text` has the words before it, and
  * `refusal` the line of the refusal; else that is empty. The status is 3 if either has too little

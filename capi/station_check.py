@@ -5,13 +5,24 @@
     try:
         print(station_check.compare(gsi, "P7", table))
     except station_check.Refused as refused:
-        print(refused.line, station_check.explain(refused.line), sep="\\n")
+        print(refused.line, refused.explanation(), sep="\\n")
 
-Whole files are bytes, as read. A call answers what the command of its name prints, a single line
-without its line feed, and raises Refused where the command refuses; `residuals` has some columns of
-`report --csv`. Limits have the units of the command's options; one that is out of its range, or a
-name that no station can have where it must be one, is a ValueError. Only `check` takes a limit of
-residuals: for the others it is 10 mgon.
+Whole files are bytes, as read, or another buffer of them, as a bytearray or a memoryview. A call
+answers what the command of its name prints, a single line without its line feed, and raises Refused
+where the command refuses; `residuals` has some columns of `report --csv`. What `directions`,
+`residuals`, `differences` and `list` answer becomes exact numbers by `direction_rows`,
+`residual_rows`, `difference_rows` and `observation_rows`, and what `report --csv` prints by
+`reading_rows`; so the line of `compare` by `agreement_numbers`.
+
+Limits have the units of the command's options; one that is out of its range, or a name that no
+station can have where it must be one, is a ValueError. Only `check` takes a limit of residuals: for
+the others it is 10 mgon.
+
+A table of directions states gon, or by its `unit` "degrees", or "dmmss", which is two digits of
+minutes after the point and then the seconds. `columns` are those of names and of directions,
+counted from 1; where none are stated the table has two, or the one pair of its columns that fits is
+found. The `note` of the answer, or of a refusal, tells which columns were read, and how much was
+passed over; it is empty where there are two.
 
 The library is the one that STATION_CHECK_LIBRARY names, else that of the installation which this
 file belongs to, else the one that the system finds.
@@ -19,10 +30,16 @@ file belongs to, else the one that the system finds.
 
 from __future__ import annotations
 
+import csv
 import ctypes
+import operator
 import os
+import re
+from decimal import Decimal
 from pathlib import Path
-from typing import Mapping, NamedTuple, Sequence
+from typing import Iterator, Mapping, NamedTuple, Sequence
+
+__version__ = "1.0.0"
 
 LIBRARY = "libstation_check.so.1"
 
@@ -32,9 +49,53 @@ FACES = 2000
 # What a call answers.
 _DONE, _REFUSED, _OUT_OF_RANGE, _TOO_LITTLE_ROOM = range(4)
 
+# The units of a table's directions, by what they are called.
+_UNITS = {"gon": 0, "degrees": 1, "dmmss": 2}
+
+
+class _Range(NamedTuple):
+    """From which number to which a parameter goes, and what one of it is."""
+
+    least: int
+    most: int
+    unit: str = ""
+
+    def __str__(self) -> str:
+        return f"{self.least} to {self.most}{self.unit and f', in units of {self.unit}'}"
+
+
+# The numbers that are stated, by the names of their parameters: each of two columns is one, and
+# each number of sets or of targets.
+_RANGES = {
+    "two_c": _Range(0, 1_000_000, "0.01 mgon"),
+    "two_i": _Range(0, 1_000_000, "0.01 mgon"),
+    "residual": _Range(0, 2_000, "0.005 mgon"),
+    "within": _Range(0, 1_000_000, "0.001 mgon"),
+    "decimals": _Range(1, 8),
+    "columns": _Range(1, 999_999),
+    "sets": _Range(1, 40),
+    "targets": _Range(1, 100),
+}
+
+# What a name may be.
+_NAME = "1 to 16 letters, digits and signs of ASCII"
+
+# What can still be wrong of what a call is given, where all numbers and names are in their range.
+_BEYOND = {
+    "mark": "state a code that is none of 10, 20 and 30, and one number of each station",
+    "change": f"state numbers of lines from 1, and names of {_NAME}",
+}
+
+# The line of an agreement; and of `list` that of a station or of an observation.
+_AGREEMENT = re.compile(
+    r"agrees (.*): (\d+) sets?, (\d+) targets?, within ([\d.]+) mgon, limit ([\d.]+) mgon, "
+    r"greatest residual ([\d.]+) mgon"
+)
+_STATION = re.compile(r"station (.*): \d+ sets?, \d+ targets?, \d+ directions?")
+_OBSERVATION = re.compile(r"set (\d+), target (.*): p (\d+), 2c (-?\d+), 2i (-?\d+)")
+
 # A text is given so many bytes at least, and so many times more where that was too little.
 _ROOM, _MORE = 1 << 16, 8
-
 
 
 class _Reply(NamedTuple):
@@ -47,13 +108,36 @@ class _Reply(NamedTuple):
 
 class Refused(Exception):
     """The first fault that was found: `line` is the program's, and `text` what it wrote before,
-    which is empty but of `words`, and of `mark` what is told of each station."""
+    which is empty but of `words`, and of `mark` what is told of each station. `note` is that of a
+    table. `explanation()` says what the fault means, and what to do."""
 
-    def __init__(self, line: str, text: str = "") -> None:
+    def __init__(self, line: str, text: str = "", note: str = "") -> None:
         super().__init__(line)
         self.line = line
         self.text = text
+        self.note = note
 
+    def explanation(self) -> str:
+        """What `explain` says of the fault; nothing, where it knows none of that name."""
+        try:
+            return explain(self.line)
+        except Refused:
+            return ""
+
+
+class Noted(str):
+    """What is answered of a table of directions, and the table's note, without its line feed."""
+
+    note: str
+
+    def __new__(cls, text: str, note: str = "") -> Noted:
+        told = super().__new__(cls, text)
+        told.note = note
+        return told
+
+
+# The bytes of a file.
+File = bytes | bytearray | memoryview
 
 # A number of each station, or of single ones by their names, where None stands for each other one.
 Stated = int | Mapping[str | None, int] | None
@@ -66,71 +150,241 @@ class Marked(NamedTuple):
     notes: str
 
 
+class Agreement(NamedTuple):
+    """How far a table is apart, the limit that this was held to, and the greatest residual: in
+    mgon."""
+
+    station: str
+    sets: int
+    targets: int
+    within: Decimal
+    limit: Decimal
+    greatest_residual: Decimal
+
+
+class Observation(NamedTuple):
+    """A two-face direction, in gon, with its face differences, in mgon: all exact."""
+
+    station: str
+    set: int
+    target: str
+    direction: Decimal
+    two_c: Decimal
+    two_i: Decimal
+
+
+class Reading(NamedTuple):
+    """What was read of a target in both faces in a set, its mean, which is the two-face direction,
+    and the adjusted direction, turned as the set was, in gon; face differences and residual in
+    mgon; the zenith angles of both faces and their mean, in gon."""
+
+    station: str
+    set: int
+    target: str
+    face_one: Decimal
+    face_two: Decimal
+    direction: Decimal
+    two_c: Decimal
+    two_i: Decimal
+    adjusted: Decimal
+    residual: Decimal
+    zenith_one: Decimal
+    zenith_two: Decimal
+    zenith_mean: Decimal
+
+
+class Residual(NamedTuple):
+    """A two-face direction and the adjusted one, which is turned as the set was, in gon; and this
+    less that, in mgon."""
+
+    set: int
+    target: str
+    direction: Decimal
+    adjusted: Decimal
+    residual: Decimal
+
+
+class Difference(NamedTuple):
+    """What a table states of a target and its least-squares direction, in gon; in mgon the
+    difference of both after the rotation that makes the largest smallest, and that less the median
+    of all."""
+
+    target: str
+    stated: Decimal
+    least_squares: Decimal
+    difference: Decimal
+    from_the_median: Decimal
+
+
+class Verdict(NamedTuple):
+    """Whether a table agrees: how far it is apart, the limit that this was held to, and of one that
+    agrees the greatest residual, in mgon."""
+
+    agrees: bool
+    apart: Decimal
+    limit: Decimal
+    greatest_residual: Decimal | None
+
+
+class Table(NamedTuple):
+    """All of a table that was compared: the line of the agreement, or that it is apart, the verdict
+    in numbers, the text of `differences`, the report with the table, and the table's note."""
+
+    line: str
+    verdict: Verdict
+    differences: str
+    report: str
+    note: str
+
+
+class Station(NamedTuple):
+    """All of a station: the texts of `directions` and `report`, the rows that `report --csv`
+    prints, and a row of the degrees of freedom and the standard deviation of one two-face direction
+    in mgon, which is empty where there are none."""
+
+    directions: str
+    rows: str
+    accuracy: str
+    report: str
+
+
+class Listed(NamedTuple):
+    """The rows that `list --csv` prints, and how many readings went unchecked since no station is
+    listed."""
+
+    rows: str
+    unchecked: int
+
+
 def check(
-    gsi: bytes,
-    sheet: bytes,
+    gsi: File,
+    sheet: File,
     *,
     two_c: int = FACES,
     two_i: int = FACES,
     residual: int | None = None,
 ) -> str:
     """The line of the acceptance; `residual` limits the residuals, in half units of 0.005 mgon."""
-    numbers = [*_numbers(two_c, two_i), *_stated(residual)]
+    numbers = [*_numbers(two_c=two_c, two_i=two_i), *_stated(residual=residual)]
     return _line(_answer("check", [gsi, sheet], numbers))
 
 
 def compare(
-    gsi: bytes,
+    gsi: File,
     station: str,
-    table: bytes,
+    table: File,
     *,
     two_c: int = FACES,
     two_i: int = FACES,
     within: int | None = None,
-) -> str:
+    unit: str = "gon",
+    columns: tuple[int, int] | None = None,
+) -> Noted:
     """The line of the agreement, with the greatest residual; `within` is in units of 0.001 mgon,
     and if it is None what is usual for the decimals of the table."""
-    numbers = [*_numbers(two_c, two_i), *_stated(within)]
-    return _line(_answer("compare", [gsi, table, station.encode()], numbers))
+    faces = _numbers(two_c=two_c, two_i=two_i)
+    numbers = [*faces, *_form(unit, columns), *_stated(within=within)]
+    told = _told("compare", [gsi, table, _text(station)], numbers)
+    return Noted(told.removesuffix("\n"), told.note)
 
 
 def differences(
-    gsi: bytes, station: str, table: bytes, *, two_c: int = FACES, two_i: int = FACES
-) -> str:
+    gsi: File,
+    station: str,
+    table: File,
+    *,
+    two_c: int = FACES,
+    two_i: int = FACES,
+    unit: str = "gon",
+    columns: tuple[int, int] | None = None,
+) -> Noted:
     """The differences of the table, target by target, after the rotation that makes the largest
     smallest: exactly rounded, however large they are."""
-    return _answer("differences", [gsi, table, station.encode()], _numbers(two_c, two_i)).decode()
+    numbers = [*_numbers(two_c=two_c, two_i=two_i), *_form(unit, columns)]
+    return _told("differences", [gsi, table, _text(station)], numbers)
+
+
+def table(
+    gsi: File,
+    station: str,
+    table: File,
+    path: str,
+    table_path: str,
+    *,
+    two_c: int = FACES,
+    two_i: int = FACES,
+    within: int | None = None,
+    unit: str = "gon",
+    columns: tuple[int, int] | None = None,
+) -> Table:
+    """All of a table beside its station, of one reading of each file and one adjustment, whether it
+    agrees or is apart; its report names both files by these paths."""
+    faces = _numbers(two_c=two_c, two_i=two_i)
+    numbers = [*faces, *_form(unit, columns), *_stated(within=within)]
+    paths = os.fsencode(path), os.fsencode(table_path)
+    reply = _call("table", [gsi, paths[0], table, paths[1], _text(station)], numbers, texts=2)
+    parts = {title: os.fsdecode(part) for title, part in _parts(reply.text)}
+    line = parts["line"].removesuffix("\n")
+    if "report" not in parts:
+        raise Refused(line)
+    verdict, note = _verdict(parts["verdict"]), _line(reply.beside)
+    return Table(line, verdict, parts["differences"], parts["report"], note)
 
 
 def directions(
-    gsi: bytes, station: str, *, two_c: int = FACES, two_i: int = FACES, decimals: int = 6
+    gsi: File, station: str, *, two_c: int = FACES, two_i: int = FACES, decimals: int = 6
 ) -> str:
     """The table of the station's least-squares directions, in gon, exactly rounded."""
-    return _answer("directions", [gsi, station.encode()], _numbers(two_c, two_i, decimals)).decode()
+    numbers = _numbers(two_c=two_c, two_i=two_i, decimals=decimals)
+    return _answer("directions", [gsi, _text(station)], numbers).decode()
 
 
-def residuals(gsi: bytes, station: str, *, two_c: int = FACES, two_i: int = FACES) -> str:
+def residuals(gsi: File, station: str, *, two_c: int = FACES, two_i: int = FACES) -> str:
     """The residuals of the station, observation by observation, in mgon, exactly rounded."""
-    return _answer("residuals", [gsi, station.encode()], _numbers(two_c, two_i)).decode()
+    numbers = _numbers(two_c=two_c, two_i=two_i)
+    return _answer("residuals", [gsi, _text(station)], numbers).decode()
 
 
-def report(gsi: bytes, station: str, path: str, *, two_c: int = FACES, two_i: int = FACES) -> str:
+def report(gsi: File, station: str, path: str, *, two_c: int = FACES, two_i: int = FACES) -> str:
     """The report of the station's sets, which names the field file by this path."""
-    numbers = _numbers(two_c, two_i)
-    return os.fsdecode(_answer("report", [gsi, os.fsencode(path), station.encode()], numbers))
+    numbers = _numbers(two_c=two_c, two_i=two_i)
+    return os.fsdecode(_answer("report", [gsi, os.fsencode(path), _text(station)], numbers))
 
 
-def means(gsi: bytes, station: str, *, two_c: int = FACES, two_i: int = FACES) -> str:
+def station(
+    gsi: File,
+    station: str,
+    path: str,
+    *,
+    two_c: int = FACES,
+    two_i: int = FACES,
+    decimals: int = 6,
+) -> Station:
+    """All of a station, of one reading of the file and one adjustment; its report names the field
+    file by this path."""
+    numbers = _numbers(two_c=two_c, two_i=two_i, decimals=decimals)
+    text = _answer("station", [gsi, os.fsencode(path), _text(station)], numbers)
+    return Station(**{title: os.fsdecode(part) for title, part in _parts(text)})
+
+
+def means(gsi: File, station: str, *, two_c: int = FACES, two_i: int = FACES) -> str:
     """The sheet of the station, whose sets must be complete."""
-    return _answer("means", [gsi, station.encode()], _numbers(two_c, two_i)).decode()
+    numbers = _numbers(two_c=two_c, two_i=two_i)
+    return _answer("means", [gsi, _text(station)], numbers).decode()
 
 
-def list(gsi: bytes, *, two_c: int = FACES, two_i: int = FACES) -> str:
+def list(gsi: File, *, two_c: int = FACES, two_i: int = FACES) -> str:
     """The stations, their two-face directions and face differences."""
-    return _answer("list", [gsi], _numbers(two_c, two_i)).decode()
+    return _answer("list", [gsi], _numbers(two_c=two_c, two_i=two_i)).decode()
 
 
-def words(gsi: bytes) -> str:
+def list_rows(gsi: File, *, two_c: int = FACES, two_i: int = FACES) -> Listed:
+    """The two-face directions of the stations as rows."""
+    parts = dict(_parts(_answer("list_rows", [gsi], _numbers(two_c=two_c, two_i=two_i))))
+    return Listed(parts["rows"].decode(), int(parts["unchecked"]))
+
+
+def words(gsi: File) -> str:
     """The words of the field file, one a line; a refusal has those before the fault as `text`."""
     reply = _call("words", [gsi], [], texts=2)
     if reply.status == _REFUSED:
@@ -139,7 +393,7 @@ def words(gsi: bytes) -> str:
 
 
 def mark(
-    gsi: bytes,
+    gsi: File,
     station: str | None = None,
     *,
     sets: Stated = None,
@@ -156,61 +410,181 @@ def mark(
     names the open station begins nothing, and with `again` a name that comes again is another
     set-up. Each block of the code `station_code` begins a station. With `others` the readings of
     stations that aren't recognized stay outside of the sets, and the others are marked."""
-    if "" in (station, station_code):
-        raise ValueError("a station or a code has no empty name")
-    texts = [station or "", station_code or "", _lines(sets), _lines(targets)]
-    inputs = [gsi, *(text.encode() for text in texts)]
-    reply = _call("mark", inputs, _numbers(same_set_up, again, others), texts=2)
+    names = [_name("station", station), _name("station_code", station_code)]
+    inputs: Sequence[File] = [gsi, *names, _lines("sets", sets), _lines("targets", targets)]
+    flags = [ctypes.c_uint32(bool(flag)) for flag in (same_set_up, again, others)]
+    reply = _call("mark", inputs, flags, texts=2)
     if reply.status == _REFUSED:
         notes, line = _told_before(reply.beside)
         raise Refused(line, notes)
     return Marked(reply.text, reply.beside.decode())
 
 
-def change(gsi: bytes, changes: Mapping[int, str | None]) -> bytes:
+def change(gsi: File, changes: Mapping[int, str | None]) -> bytes:
     """A copy of a field file in which just these lines are changed, each by its number: it is left
     out where no name is given, else its point has that name. Lines of blanks don't count."""
     if not all(name is None or name.isprintable() for name in changes.values()):
         raise ValueError("a line feed in a name would be another change")
     lines = [str(n) if changes[n] is None else f"{n}={changes[n]}" for n in sorted(changes)]
-    said = "\n".join(lines)
-    return _answer("change", [gsi, said.encode()], [])
+    return _answer("change", [gsi, _text("\n".join(lines))], [])
 
 
-def digest(file: bytes, name: str) -> str:
+def digest(file: File, name: str) -> str:
     """The line that sha256sum prints of a file of this name."""
     return os.fsdecode(_answer("digest", [file, os.fsencode(name)], [])).removesuffix("\n")
 
 
 def explain(line: str = "") -> str:
     """What the fault means that the line of a refusal names; of no line, all names of faults."""
-    return _answer("explain", [line.encode()], []).decode()
+    return _answer("explain", [_text(line)], []).decode()
 
 
-def _numbers(*numbers: int) -> Sequence[ctypes.c_uint32]:
-    """Numbers as the library takes them. What has no place there is out of every range."""
-    for number in numbers:
-        if not 0 <= number < 1 << 32:
-            raise ValueError(f"out of its range: {number}")
-    return [ctypes.c_uint32(number) for number in numbers]
+def agreement_numbers(line: str) -> Agreement:
+    """The numbers of the line that `compare` answered."""
+    found = _AGREEMENT.fullmatch(line)
+    if not found:
+        raise ValueError(f"no line of what `compare` answers: {line!r}")
+    return Agreement(found[1], int(found[2]), int(found[3]), *map(Decimal, found.group(4, 5, 6)))
 
 
-def _lines(stated: Stated) -> str:
+def observation_rows(text: str) -> Sequence[Observation]:
+    """The observations that `list` answered, as exact numbers."""
+    return [*_observations(text)]
+
+
+def direction_rows(text: str) -> Mapping[str, Decimal]:
+    """The directions that `directions` answered, in gon: of each target its own."""
+    return {target: Decimal(direction) for target, direction in csv.reader(text.splitlines())}
+
+
+def reading_rows(text: str) -> Sequence[Reading]:
+    """The rows that the command `report --csv` prints, as numbers."""
+    titles = (
+        "station,set,target,face one,face two,direction,2c,2i,adjusted,residual"
+        ",zenith one,zenith two,zenith mean"
+    )
+    return [
+        Reading(name, int(nth), target, *map(Decimal, rest))
+        for name, nth, target, *rest in _rows_below(titles, text)
+    ]
+
+
+def residual_rows(text: str) -> Sequence[Residual]:
+    """The rows that `residuals` answered, as numbers."""
+    rows = _rows_below("set,target,direction,adjusted,residual", text)
+    return [Residual(int(nth), target, *map(Decimal, angles)) for nth, target, *angles in rows]
+
+
+def difference_rows(text: str) -> Sequence[Difference]:
+    """The rows that `differences` answered, as numbers."""
+    rows = _rows_below("target,stated,least squares,difference,from the median", text)
+    return [Difference(target, *map(Decimal, angles)) for target, *angles in rows]
+
+
+def _verdict(text: str) -> Verdict:
+    """The verdict of a row of which the numbers are in units of 0.001 mgon."""
+    [row] = csv.DictReader(text.splitlines())
+    numbers = (Decimal(row[title]).scaleb(-3) for title in ("apart", "limit"))
+    greatest = Decimal(row["greatest"]).scaleb(-3) if row["greatest"] else None
+    return Verdict(row["verdict"] == "agrees", *numbers, greatest)
+
+
+def _observations(text: str) -> Iterator[Observation]:
+    """The observations of a list, one by one."""
+    station = ""
+    for line in text.splitlines():
+        if named := _STATION.fullmatch(line):
+            station = named[1]
+        elif found := _OBSERVATION.fullmatch(line):
+            # (p counts 0.005 mgon, face differences 0.01 mgon)
+            direction, two_c, two_i = map(Decimal, found.group(3, 4, 5))
+            angles = (5 * direction).scaleb(-6), two_c.scaleb(-2), two_i.scaleb(-2)
+            yield Observation(station, int(found[1]), found[2], *angles)
+        else:
+            raise ValueError(f"no line of what `list` answers: {line!r}")
+
+
+def _rows_below(titles: str, text: str) -> Sequence[Sequence[str]]:
+    """The rows of a text below its titles, which must be these."""
+    first, *lines = text.splitlines() or [""]
+    if first != titles:
+        raise ValueError(f"these rows have the titles {first!r}, and not {titles!r}")
+    return [*csv.reader(lines)]
+
+
+def _bytes(data: File) -> bytes:
+    """The bytes of a file. A text has none of its own: its encoding would be a guess."""
+    if isinstance(data, bytes):
+        return data
+    try:
+        return bytes(memoryview(data))
+    except TypeError:
+        what = type(data).__name__
+        raise TypeError(f"a file is bytes, as open(.., 'rb').read() has them; not {what}") from None
+
+
+def _text(text: str) -> bytes:
+    """The bytes of a name or a line."""
+    if not isinstance(text, str):
+        raise TypeError(f"a name or a line is a str, and not {type(text).__name__}")
+    return text.encode()
+
+
+def _name(parameter: str, name: str | None) -> bytes:
+    """The bytes of what may be the name of a station; none, where none is stated."""
+    if name is None:
+        return b""
+    said = _text(name)
+    if not (1 <= len(said) <= 16 and said.isascii() and name.isprintable()):
+        raise ValueError(f"{parameter} is {name!r}: state {_NAME}")
+    return said
+
+
+def _whole(parameter: str, value: int) -> int:
+    """A number that is stated, in its range."""
+    if isinstance(value, bool) or not hasattr(value, "__index__"):
+        raise TypeError(f"{parameter} is {value!r}: state a whole number")
+    number, its = operator.index(value), _RANGES[parameter]
+    if not its.least <= number <= its.most:
+        raise ValueError(f"{parameter} is {number}: state {its}")
+    return number
+
+
+def _numbers(**stated: int) -> Sequence[ctypes.c_uint32]:
+    """Numbers by the names of their parameters, as the library takes them."""
+    return [ctypes.c_uint32(_whole(parameter, value)) for parameter, value in stated.items()]
+
+
+def _lines(parameter: str, stated: Stated) -> bytes:
     """Numbers of stations as the library takes them: a line for each."""
     if stated is None:
-        return ""
-    if isinstance(stated, int):
-        return str(int(stated))
-    if not stated or any(name is not None and not name.isprintable() for name in stated):
-        raise ValueError("a mapping has a number at least, and each the name of a station or None")
-    return "\n".join(
-        str(int(n)) if name is None else f"{name}={int(n)}" for name, n in stated.items()
+        return b""
+    if not isinstance(stated, Mapping):
+        return b"%d" % _whole(parameter, stated)
+    if not stated:
+        raise ValueError(f"{parameter} is empty: state a number, or None")
+    return b"\n".join(
+        (b"" if name is None else _name(parameter, name) + b"=") + b"%d" % _whole(parameter, number)
+        for name, number in stated.items()
     )
 
 
-def _stated(limit: int | None) -> Sequence[ctypes.c_uint32]:
+def _stated(**limit: int | None) -> Sequence[ctypes.c_uint32]:
     """A limit that need not be stated: whether one is, and which."""
-    return _numbers(limit is not None, limit or 0)
+    [(parameter, value)] = limit.items()
+    if value is None:
+        return [ctypes.c_uint32(0), ctypes.c_uint32(0)]
+    return [ctypes.c_uint32(1), *_numbers(**{parameter: value})]
+
+
+def _form(unit: str, columns: tuple[int, int] | None) -> Sequence[ctypes.c_uint32]:
+    """How a table is to be read, as the library takes it."""
+    if unit not in _UNITS:
+        raise ValueError(f"unit is {unit!r}: state one of {', '.join(_UNITS)}")
+    pair = (0, 0) if columns is None else tuple(_whole("columns", column) for column in columns)
+    if len(pair) != 2:
+        raise ValueError("columns are two: that of the names and that of the directions, as (2, 6)")
+    return [ctypes.c_uint32(number) for number in (_UNITS[unit], *pair)]
 
 
 def _line(text: bytes) -> str:
@@ -223,7 +597,16 @@ def _told_before(text: bytes) -> tuple[str, str]:
     return "".join(told), line.removesuffix("\n")
 
 
-def _answer(name: str, inputs: Sequence[bytes], numbers: Sequence[ctypes.c_uint32]) -> bytes:
+def _parts(text: bytes) -> Iterator[tuple[str, bytes]]:
+    """The parts of a text: before each stands a line of its title and of how many bytes it has."""
+    while text:
+        line, _, rest = text.partition(b"\n")
+        title, count = line.decode().split(" ")
+        yield title, rest[: int(count)]
+        text = rest[int(count) :]
+
+
+def _answer(name: str, inputs: Sequence[File], numbers: Sequence[ctypes.c_uint32]) -> bytes:
     """The text that a call answers."""
     reply = _call(name, inputs, numbers)
     if reply.status == _REFUSED:
@@ -231,15 +614,25 @@ def _answer(name: str, inputs: Sequence[bytes], numbers: Sequence[ctypes.c_uint3
     return reply.text
 
 
+def _told(name: str, inputs: Sequence[File], numbers: Sequence[ctypes.c_uint32]) -> Noted:
+    """The text that a call answers of a table, and the note of that."""
+    reply = _call(name, inputs, numbers, texts=2)
+    note = _line(reply.beside)
+    if reply.status == _REFUSED:
+        raise Refused(_line(reply.text), note=note)
+    return Noted(reply.text.decode(), note)
+
+
 def _call(
-    name: str, inputs: Sequence[bytes], numbers: Sequence[ctypes.c_uint32], texts: int = 1
+    name: str, inputs: Sequence[File], numbers: Sequence[ctypes.c_uint32], texts: int = 1
 ) -> _Reply:
     """What a call answers, asked again with more room until that is enough."""
-    room = max(_ROOM, 2 * sum(map(len, inputs)))
+    given = [_bytes(data) for data in inputs]
+    room = max(_ROOM, 2 * sum(map(len, given)))
     while True:
-        reply = _call_within(room, name, inputs, numbers, texts)
+        reply = _call_within(room, name, given, numbers, texts)
         if reply.status == _OUT_OF_RANGE:
-            raise ValueError("a number, a name or a code is out of its range, or stated twice")
+            raise ValueError(_BEYOND.get(name, "a number or a name is out of its range"))
         if reply.status != _TOO_LITTLE_ROOM:
             return reply
         room *= _MORE
@@ -253,7 +646,6 @@ def _call_within(
     lengths = [ctypes.c_size_t() for _ in range(texts)]
     call = getattr(_library, f"station_check_{name}")
     call.restype = ctypes.c_uint8
-    # (a pointer made of bytes alone: another kind of text is a TypeError here)
     given = [
         part for data in inputs for part in (ctypes.c_char_p(data), ctypes.c_size_t(len(data)))
     ]
@@ -275,4 +667,13 @@ def _find() -> str:
     return str(beside) if beside.exists() else LIBRARY
 
 
-_library = ctypes.CDLL(_find())
+def _loaded() -> ctypes.CDLL:
+    """The library."""
+    try:
+        return ctypes.CDLL(_find())
+    except OSError as why:
+        todo = "install the library, or name one by STATION_CHECK_LIBRARY"
+        raise OSError(f"{why}: {todo}") from why
+
+
+_library = _loaded()

@@ -53,7 +53,7 @@ ENVIRONMENT = dict(os.environb)
 NO_FILE = "no file, but a folder, a pipe or a link to nothing"
 
 # How an answer of station_check begins, and how many bytes one has at most: a path may be long.
-ANSWERS = (b"accepted ", b"agrees ", b"refused: ", b"cannot open ", b"error: ")
+ANSWERS = (b"accepted ", b"agrees ", b"refused: ", b"cannot open ", b"error: ", b"note: table: ")
 LONGEST_ANSWER = 1 << 16
 
 # The exit statuses of station_check.
@@ -61,18 +61,23 @@ ACCEPTED, REFUSED, MISTAKE = 0, 1, 2
 
 COUNTS = rb": \d+ sets, \d+ targets, \d+ directions"
 ACCEPTED_LINE = re.compile(rb"accepted (.*)" + COUNTS + rb", greatest residual \d+/\d+\n")
+# A table's answer may have a note of the columns that were read, before a refusal or after the line
+# of an agreement.
+NOTE = b"note: "
 AGREES_LINE = re.compile(
     rb"agrees (.*): \d+ sets, \d+ targets, within [\d.]+ mgon, limit [\d.]+ mgon, "
-    rb"greatest residual [\d.]+ mgon\n"
+    rb"greatest residual [\d.]+ mgon\n(?:note: table: .*\n)?"
 )
 STATION_LINE = re.compile(rb"^station (.*)" + COUNTS + rb"$", re.MULTILINE)
 
 # What tells a table from a sheet, in so many bytes of a file: a sheet has rows of five fields that
-# begin with their kind, a table has numbers at the ends of its rows.
+# begin with their kind, a table has numbers at the ends of its rows, in degrees with their signs.
 HEAD = 4096
 SHEET_ROW = re.compile(rb'^"?(?:sheet|target|set|obs)"?(?:,[^,\r\n]*){4}\s*$', re.MULTILINE)
+SIGNS = "°'\"\u2032\u2033\u2019\u201d".encode()
 TABLE_ROW = re.compile(
-    rb"^[^,;\t ].*[,;\t ]\"?[+-]?\d[\d.,'\"\xc2\xb0-]*\"?[,;\s]*$", re.MULTILINE
+    rb'^[^,;\t ].*[,;\t ]"?[+-]?\d[\d.,:' + SIGNS + rb"-]*(?:[ \t]*gon)?[|,;\s]*$",
+    re.MULTILINE,
 )
 
 # The rows of titles of what station_check prints as rows, and by which command; and of what its page
@@ -80,7 +85,8 @@ TABLE_ROW = re.compile(
 TITLES = {
     b"station,set,target,direction,2c,2i": "list --csv",
     b"target,stated,least squares,difference,from the median": "differences",
-    b"station,set,target,face one,face two,direction,2c,2i,adjusted,residual": "report --csv",
+    b"station,set,target,face one,face two,direction,2c,2i,adjusted,residual"
+    b",zenith one,zenith two,zenith mean": "report --csv",
 }
 SAVED_TITLES = b"set,target,direction,adjusted,residual"
 
@@ -221,6 +227,14 @@ def finished(runs: list[Run], jobs: int) -> Iterator[tuple[Run, int]]:
         yield from zip(runs, pool.imap(Run.status, runs, chunksize=8))
 
 
+def told_of(printed: bytes) -> tuple[bytes, bytes]:
+    """An answer without its notes, and these."""
+    said, notes = list[bytes](), list[bytes]()
+    for line in printed.splitlines(keepends=True):
+        (notes if line.startswith(NOTE) else said).append(line)
+    return b"".join(said), b"".join(notes)
+
+
 def first_line(printed: bytes) -> str:
     return os.fsdecode(printed.partition(b"\n")[0]) or "no answer"
 
@@ -275,6 +289,8 @@ class Folder:
         self.said: dict[str, str] = {}
         # Of each sheet and table what came of it, and what is said of it.
         self.results: dict[str, tuple[Result, str]] = {}
+        # Of tables the notes that say which of their columns were read.
+        self.notes: dict[str, str] = {}
         # Of each field file the stations with an accepted sheet or a table that agrees.
         self.good: dict[str, set[bytes]] = defaultdict(set)
 
@@ -342,7 +358,10 @@ class Folder:
             if good and claim.field is not None:
                 self.good[claim.field].add(good[1])
             result = Result.REFUSED if status == REFUSED else Result.NOT_CHECKED
-            self.results[run.name] = Result.GOOD if good else result, first_line(printed)
+            said, notes = told_of(printed)
+            self.results[run.name] = Result.GOOD if good else result, first_line(said)
+            if claim.is_table and notes:
+                self.notes[run.name] = first_line(notes)
 
     def left(self, field: str) -> list[str]:
         """What is still to be done of a field file."""
@@ -363,6 +382,8 @@ class Folder:
         well."""
         for claim in self.claims:
             print(shown(f"{claim.name}: {self.results[claim.name][1]}"))
+            if note := self.notes.get(claim.name):
+                print(shown(f"{claim.name}: {note}"))
         for name, origin in self.printed.items():
             print(shown(f"{name}: rows that {origin}"))
         for path in self.left_over:
@@ -407,8 +428,14 @@ def command_line() -> argparse.ArgumentParser:
     ]:
         text = f"as of {commands}"
         parser.add_argument(option, metavar="LIMIT", action="append", default=[], help=text)
-    text = "as of 'station_check compare': tables are in degrees, and not in gon"
-    parser.add_argument("--degrees", action="count", default=0, help=text)
+    for option, text in [
+        ("--degrees", "tables are in degrees, and not in gon"),
+        ("--dmmss", "their degrees have minutes and seconds after the point"),
+    ]:
+        text = f"as of 'station_check compare': {text}"
+        parser.add_argument(option, action="count", default=0, help=text)
+    text = "as of 'station_check compare': of each table these columns are read"
+    parser.add_argument("--columns", metavar="N,D", action="append", default=[], help=text)
     parser.add_argument("--jobs", metavar="N", type=int, help="so many at a time")
     return parser
 
@@ -421,7 +448,8 @@ def stated(asked: argparse.Namespace, *names: str) -> list[str]:
 def options_of(asked: argparse.Namespace) -> Options:
     limits = stated(asked, "two-c", "two-i")
     check = [*limits, *stated(asked, "residual")]
-    compare = [*check, *stated(asked, "within"), *["--degrees"] * asked.degrees]
+    units = [*["--degrees"] * asked.degrees, *["--dmmss"] * asked.dmmss]
+    compare = [*check, *stated(asked, "within", "columns"), *units]
     return Options(limits, check, compare, max(1, asked.jobs or os.cpu_count() or 1))
 
 

@@ -25,11 +25,15 @@ SCRIPT = Path(sys.argv[0]).name
 PAGE = Path(__file__).resolve().with_suffix(".html")
 PLACES = re.compile("@(STATION|RESIDUALS)@")
 
-# What station_check prints: its row of titles, and a residual in mgon. The page has some of its
-# columns.
-TITLES = "station,set,target,face one,face two,direction,2c,2i,adjusted,residual".split(",")
+# What station_check prints: its row of titles, a residual in mgon, and an angle in gon. The page has
+# some of its columns.
+TITLES = (
+    "station,set,target,face one,face two,direction,2c,2i,adjusted,residual"
+    ",zenith one,zenith two,zenith mean"
+).split(",")
 SHOWN = "set,target,direction,adjusted,residual".split(",")
 IN_MGON = re.compile(r"-?[0-9]+\.[0-9]{3}")
+IN_GON = re.compile(r"[0-9]+\.[0-9]{6}")
 
 
 class Refused(Exception):
@@ -38,7 +42,11 @@ class Refused(Exception):
 
 def is_observation(row: list[str]) -> bool:
     """Whether a row may be that of an observation."""
-    return len(row) == len(TITLES) and IN_MGON.fullmatch(row[-1]) is not None
+    if len(row) != len(TITLES):
+        return False
+    # (a row that was cut off has no whole last cell)
+    is_whole = IN_GON.fullmatch(row[-1]) is not None
+    return is_whole and IN_MGON.fullmatch(row[TITLES.index("residual")]) is not None
 
 
 def residuals_in(printed: str) -> str:

@@ -90,9 +90,10 @@ if command -v dpkg-deb > /dev/null; then
   mv "$root/usr/share/doc/station_check" "$root/usr/share/doc/station-check"
   ln -s station-check "$root/usr/share/doc/station_check"
   if [ -f "$library" ]; then
-    # Debian has modules where its Python looks for them.
+    # Debian has modules where its Python looks for them, and what names no architecture in share.
     mkdir -p "$root/usr/lib/python3/dist-packages" "$root/usr/share/lintian/overrides"
     mv "$root/usr/share/station_check/station_check.py" "$root/usr/lib/python3/dist-packages"
+    mv "$root/usr/lib/pkgconfig" "$root/usr/share/pkgconfig"
     cp packaging/lintian-overrides "$root/usr/share/lintian/overrides/station-check"
   fi
   gzip -9 -n > "$root/usr/share/doc/station-check/changelog.gz" << END

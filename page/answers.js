@@ -1,13 +1,13 @@
 // Which call is asked for which files, and what it answered: a card for each station, and for each
 // file that belongs to none. Nothing here decides a verdict.
 import { ask, digestOf } from './work.js';
-import { readFaults } from './faults.js';
+import { nameIn, readFaults } from './faults.js';
 import {
-  fieldOfSheet, stationOfSheet, stationOfTable, stemOf, tellApart, withTaken,
+  UNITS, fieldOfSheet, originalOf, stationOfSheet, stationOfTable, stemOf, tellApart, withTaken,
 } from './files.js';
 import { commandOf, isWithin } from './limits.js';
 import {
-  each, greatestOf, readingsOf, recognizedIn, residualsIn, stationsOf,
+  accuracyIn, each, greatestOf, partsIn, readingsOf, recognizedIn, residualsIn, rowsIn,
 } from './records.js';
 import { zenithsOf } from './zeniths.js';
 
@@ -19,11 +19,12 @@ import { zenithsOf } from './zeniths.js';
  * be compared, or something is to be done first.
  * @typedef {'good' | 'bad' | 'read' | 'open'} Mood
  * The answer of a command: its line or text, the fault in the words of the program where it is a
- * refusal, the greatest residual where it accepts a sheet, the text of the differences where it
- * compares a table, what it told of each station where it puts codes in.
+ * refusal, the greatest residual where it accepts a sheet, the verdict on a table in fields, with the
+ * text of the differences where it was compared and the note of one that was read by a pair of its
+ * columns, what it told of each station where it puts codes in.
  * @typedef {{ command: string, asked: string, status: number, line: string, explanation: string,
  *   field: Input, other?: Input, station?: Station, greatest?: import('./records.js').Residual,
- *   differences?: string, told?: import('./records.js').Recognized[] }} Answer
+ *   verdict?: import('./records.js').Verdict, differences?: string, note?: string, told?: import('./records.js').Recognized[] }} Answer
  * What came of the limit of residuals, to which each station is held: whether it is kept, the
  * residuals of which that was seen, with the greatest, and the command by which the program itself
  * holds the station to it. An accepted sheet was held to it by its own call, and so was one that
@@ -50,9 +51,12 @@ import { zenithsOf } from './zeniths.js';
  * A card of a file that has no place.
  * @typedef {AnyCard & { field?: undefined, station?: undefined }} FileCard
  * @typedef {StationCard | FieldCard | FileCard} Card
- * The results of a station, and the zenith angles that the page itself takes of it.
+ * All that is answered of a station: the table of its directions, its residuals among the rows of
+ * its report, that report, and where it is adjusted how accurate it is.
  * @typedef {{ directions: Answer, residuals: Answer, report: Answer,
- *   zeniths: import('./zeniths.js').Zeniths[] }} Results
+ *   accuracy?: { degrees: number, deviation: string } }} Whole
+ * The results of a station: that, and the zenith angles that the page itself takes of it.
+ * @typedef {Whole & { zeniths: import('./zeniths.js').Zeniths[] }} Results
  */
 
 /**
@@ -76,6 +80,9 @@ const MOST_ANGLES = 2_000_000;
 /** The name by which it is tried whether a job lacks nothing else: no station has it. */
 const NAME_TO_TRY = '?';
 
+/** That no columns of a table are stated: those of names and of directions. */
+const NO_COLUMNS = [0, 0];
+
 /** What a refusal means, in the words of the program; then those of the page are at hand too. */
 async function explanationOf(/** @type {string} */ line) {
   const [{ status, text }] = await Promise.all([ask('explain', line), readFaults()]);
@@ -85,7 +92,7 @@ async function explanationOf(/** @type {string} */ line) {
 /**
  * An answer, with what its line speaks of.
  * @param {{ status: number, text: string }} reply
- * @param {Omit<Answer, 'status' | 'line' | 'explanation' | 'greatest' | 'differences'>} about
+ * @param {Omit<Answer, 'status' | 'line' | 'explanation' | 'greatest'>} about
  * @returns {Promise<Answer>}
  */
 async function answered({ status, text }, about) {
@@ -121,14 +128,15 @@ const cardOfFile = file =>
  */
 async function cardsOfField(field, limits) {
   const { twoC, twoI } = limits, about = { ...cardOfFile(field), field };
-  const reply = await ask('list', field.bytes, twoC, twoI);
+  const reply = await ask('stations', field.bytes, twoC, twoI);
   const command = commandOf('list', ['twoC', 'twoI'], limits, [field.name]);
   if (reply.status !== ACCEPTED) {
     const answer = await answered(reply, { command, asked: 'list', field });
     return [{ ...about, mood: 'bad', answers: [answer] }];
   }
-  const stations = stationsOf(reply.text);
-  if (stations.length === 0) return cardsWithoutSets(field, limits);
+  /** @type {{ stations: import('./records.js').Listed[], readings: number }} */
+  const { stations, readings } = reply.told;
+  if (stations.length === 0) return cardsWithoutSets(field, readings, limits);
   return stations.map(listed => ({
     ...cardOfFile(field), title: listed.name, mood: 'read', field, station: { field, listed },
   }));
@@ -138,11 +146,11 @@ async function cardsOfField(field, limits) {
  * The cards of a field file without sets: those of a copy with codes, where the sets are
  * recognized.
  * @param {Input} field
+ * @param {number} readings how many it has
  * @param {Limits} limits
  * @returns {Promise<Card[]>}
  */
-async function cardsWithoutSets(field, limits) {
-  const { text } = await ask('readings', field.bytes), readings = Number(text);
+async function cardsWithoutSets(field, readings, limits) {
   const card = { ...cardOfFile(field), field, readings };
   if (readings === 0 || field.original) return [card];
   const marked = await answerOfMark(field, field.station);
@@ -156,19 +164,23 @@ async function cardsWithoutSets(field, limits) {
   });
 }
 
+/** Whether an answer is refused for this fault. */
+const isOf = (/** @type {Answer} */ { explanation }, /** @type {string} */ fault) =>
+  nameIn(explanation) === fault;
+
 /** Whether codes could not be put in since nothing names the station. */
-export const isWithoutName = (/** @type {Answer} */ { line, field }) =>
-  !field.station && /: mark: NoSetUp$/.test(line);
+export const isWithoutName = (/** @type {Answer} */ answer) =>
+  !answer.field.station && isOf(answer, 'NoSetUp');
 
 /** Whether the number of sets, or of targets, has to be stated. */
-export const isUncounted = (/** @type {Answer} */ { line }) => /: mark: ByTargets$/.test(line);
+export const isUncounted = (/** @type {Answer} */ answer) => isOf(answer, 'ByTargets');
 
 /** Whether other numbers are stated than those that are found. */
-export const isCountedOtherwise = (/** @type {Answer} */ { line }) =>
-  /: mark: (SetCount|TargetCount)$/.test(line);
+export const isCountedOtherwise = (/** @type {Answer} */ answer) =>
+  isOf(answer, 'SetCount') || isOf(answer, 'TargetCount');
 
 /** Whether it has to be stated what a station is whose name comes again. */
-export const isTwice = (/** @type {Answer} */ { line }) => /: mark: StationTwice$/.test(line);
+export const isTwice = (/** @type {Answer} */ answer) => isOf(answer, 'StationTwice');
 
 /**
  * What a job without a name shows: what is recognized but for it, or what is wrong besides, so that
@@ -237,9 +249,8 @@ async function answerOfMark(field, station = '') {
   // At a refusal its line comes after what is told of each station.
   const text = status === ACCEPTED ? beside : beside.trimEnd().split('\n').at(-1) ?? '';
   const told = recognizedIn(beside);
-  const isGone = /: mark: NoSuchStation$/.test(text);
-  if (isGone && forgets(field, told)) return answerOfMark(field, station);
   const answer = await answered({ status, text }, { asked: 'mark', command, field, told });
+  if (isOf(answer, 'NoSuchStation') && forgets(field, told)) return answerOfMark(field, station);
   if (status !== ACCEPTED) return answer;
   const digest = await digestOf({ name: copy, bytes });
   const kind = /** @type {const} */ ('field'), path = copyOf(field.path);
@@ -264,13 +275,13 @@ async function answerOfSheet(sheet, field, station, limits) {
   const command = commandOf('check', ['twoC', 'twoI', 'residual'], limits, files);
   const answer = await answered(reply, { asked: 'check', field, other: sheet, station, command });
   if (answer.status !== ACCEPTED || !station) return answer;
-  const residuals = await residualsOf(station, limits);
+  const { residuals } = await wholeOf(station, limits);
   if (residuals.status !== ACCEPTED) return answer;
   return { ...answer, greatest: greatestOf(residualsIn(residuals.line)) };
 }
 
 /**
- * The answer to a table, with its differences where there are some.
+ * The answer to a table, of one reading of both files and one adjustment.
  * @param {Input} table
  * @param {Station} station
  * @param {Limits} limits
@@ -278,19 +289,24 @@ async function answerOfSheet(sheet, field, station, limits) {
  */
 async function answerOfTable(table, station, limits) {
   const { field, listed: { name } } = station, { twoC, twoI, within } = limits;
-  const reply = await ask('compare', field.bytes, table.bytes, name, twoC, twoI, within);
-  const operands = [field.name, name, table.name];
-  const command = commandOf('compare', ['twoC', 'twoI', 'within'], limits, operands);
-  const answer = await answered(reply, { asked: 'compare', field, other: table, station, command });
-  if (answer.status !== ACCEPTED && !/^refused: compare: /.test(answer.line)) return answer;
-  const { status, text } = await ask('differences', field.bytes, table.bytes, name, twoC, twoI);
-  return status === ACCEPTED ? { ...answer, differences: text } : answer;
+  const { unit = 'gon', columns } = originalOf(table);
+  const form = [UNITS.indexOf(unit), ...columns ?? NO_COLUMNS];
+  const files = [field.bytes, field.name, table.bytes, table.name];
+  const { status, bytes, beside: note } =
+    await ask('table', ...files, name, twoC, twoI, ...form, within);
+  const { line: text = '', verdict = '', differences } = partsIn(bytes);
+  const operands = [field.name, name, table.name], stated = [
+    ...unit === 'gon' ? [] : [`--${unit}`], ...columns ? ['--columns', columns.join(',')] : [],
+  ];
+  const command = commandOf('compare', ['twoC', 'twoI', 'within'], limits, operands, stated);
+  const about = { asked: 'compare', field, other: table, station, command, note, differences };
+  return answered({ status, text }, { ...about, verdict: rowsIn(verdict)[0] });
 }
 
 // ---------------------------------------------------------------- the limit of residuals
 
-/** A refusal for a residual above its limit, which names the observation. */
-const RESIDUAL = /^refused: (?:kernel|adjust): Residual /;
+/** Whether an answer is refused for a residual above its limit, which names the observation. */
+const isOfResidual = (/** @type {Answer} */ answer) => isOf(answer, 'Residual');
 
 /**
  * Holds a station to the limit of residuals: where no call has done it, by the greatest residual
@@ -302,10 +318,10 @@ export async function judge(card, limits) {
   const { station, answers } = card;
   if (!station || card.judged) return;
   const isAccepted = answers.some(one => one.asked === 'check' && one.status === ACCEPTED);
-  if (isAccepted || answers.some(one => RESIDUAL.test(one.line))) {
+  if (isAccepted || answers.some(isOfResidual)) {
     card.judged = { isKept: isAccepted };
   } else {
-    const residuals = await residualsOf(station, limits);
+    const { residuals } = await wholeOf(station, limits);
     if (residuals.status !== ACCEPTED) {
       card.judged = { isKept: false, residuals };
     } else {
@@ -323,7 +339,7 @@ export async function judge(card, limits) {
  * Whether a station was held to the limit of residuals: not where it has none for another reason.
  */
 export const isHeld = (/** @type {Card} */ { judged }) => judged !== undefined
-  && (!judged.residuals || judged.greatest !== undefined || RESIDUAL.test(judged.residuals.line));
+  && (!judged.residuals || judged.greatest !== undefined || isOfResidual(judged.residuals));
 
 /**
  * How an answer looks on its card: good only where the station keeps the limit of residuals, and
@@ -383,7 +399,7 @@ export async function makeCards(inputs, limits, cards, told) {
       const isFew = card.field && mine * card.field.bytes.length <= MOST_READ;
       if (isFew || card.answers.length > 0) await judge(card, limits);
       // (of several cards there is a table, which has the standard deviations)
-      if (isFew && card.station && cards.length > 1) await reportOf(card.station, limits);
+      if (isFew && card.station && cards.length > 1) await wholeOf(card.station, limits);
     }
   } catch (error) {
     leave(left, cards, read(), stations());
@@ -465,34 +481,37 @@ export const meansOf = (/** @type {Station} */ { field, listed }, /** @type {Lim
   ask('means', field.bytes, listed.name, limits.twoC, limits.twoI);
 
 /**
- * What a call answers of a station, by its numbers of these names, and by the name of the file
- * where it says that.
- * @param {string} asked
+ * All that is answered of a station, of one reading of its file and one adjustment: asked for once.
  * @param {Station} station
- * @param {string[]} names
  * @param {Limits} limits
- * @param {string[]} path
- * @returns {Promise<Answer>}
  */
-async function answerOfStation(asked, { field, listed: { name } }, names, limits, ...path) {
-  const reply = await ask(asked, field.bytes, ...path, name, ...names.map(one => limits[one]));
-  // (the program prints residuals among the rows of a report)
-  const [word, ...more] = asked === 'residuals' ? ['report', '--csv'] : [asked];
-  const command = commandOf(word, names, limits, [field.name, name], more);
-  return answered(reply, { asked, field, command });
+async function wholeOf(station, limits) {
+  station.whole ??= await answersOf(station, limits);
+  return station.whole;
 }
 
-/** The residuals of a station: asked for once. */
-async function residualsOf(/** @type {Station} */ station, /** @type {Limits} */ limits) {
-  station.residuals ??= await answerOfStation('residuals', station, ['twoC', 'twoI'], limits);
-  return station.residuals;
-}
-
-/** The report of a station: asked for once. */
-async function reportOf(/** @type {Station} */ station, /** @type {Limits} */ limits) {
-  const faces = ['twoC', 'twoI'], { name } = station.field;
-  station.report ??= await answerOfStation('report', station, faces, limits, name);
-  return station.report;
+/**
+ * What is answered of a station, each with the command that prints it.
+ * @param {Station} station
+ * @param {Limits} limits
+ * @returns {Promise<Whole>}
+ */
+async function answersOf({ field, listed: { name } }, limits) {
+  const { twoC, twoI, decimals } = limits, faces = ['twoC', 'twoI'];
+  const { status, bytes, text } =
+    await ask('station', field.bytes, field.name, name, twoC, twoI, decimals);
+  const parts = status === ACCEPTED ? partsIn(bytes) : undefined;
+  /** @type {(part: string, asked: string, names: string[], more?: string[]) => Promise<Answer>} */
+  const of = (part, asked, names, more = []) => {
+    const command = commandOf(asked, names, limits, [field.name, name], more);
+    return answered({ status, text: parts?.[part] ?? text }, { asked, field, command });
+  };
+  return {
+    directions: await of('directions', 'directions', [...faces, 'decimals']),
+    residuals: await of('rows', 'report', faces, ['--csv']),
+    report: await of('report', 'report', faces),
+    accuracy: parts && accuracyIn(parts.accuracy),
+  };
 }
 
 /**
@@ -502,15 +521,17 @@ async function reportOf(/** @type {Station} */ station, /** @type {Limits} */ li
  * @returns {Promise<Results>}
  */
 export async function resultsOf({ station }, limits) {
-  const faces = ['twoC', 'twoI'];
-  const directions = await answerOfStation('directions', station, [...faces, 'decimals'], limits);
-  const report = await reportOf(station, limits), residuals = await residualsOf(station, limits);
-  return { directions, residuals, report, zeniths: await zenithsIn(station) };
+  const whole = await wholeOf(station, limits);
+  return { ...whole, zeniths: await zenithsIn(station, whole) };
 }
 
-/** The zenith angles of a station, of which the report is there. */
-async function zenithsIn(/** @type {Station} */ { field, listed, report }) {
-  if (report?.status !== ACCEPTED || field.bytes.length > MOST_ANGLES) return [];
+/**
+ * The zenith angles of a station.
+ * @param {Station} station
+ * @param {Whole} whole
+ */
+async function zenithsIn({ field, listed }, { report }) {
+  if (report.status !== ACCEPTED || field.bytes.length > MOST_ANGLES) return [];
   const { text } = await ask('angles', field.bytes, listed.name);
   return zenithsOf(text, readingsOf(report.line));
 }

@@ -50,6 +50,8 @@ CAREFUL = (
     "-disable-postra-machine-licm -mllvm -sink-common-insts=false --no-default-config "
     "-no-canonical-prefixes -fintegrated-cc1 -fno-crash-diagnostics -Werror"
 ).split()
+# The page is sent and kept: its code is made for size, and no run was found to take longer for it.
+FOR_SIZE = "-Os"
 FREE_STANDING = ["-O2", "-ffreestanding", "-nostdinc", "-fno-builtin"]
 
 # How the module with 64-bit memory becomes one with 32-bit memory, and what such modules use.
@@ -120,7 +122,7 @@ def compiled(kit: Path, module: Path, room: Path) -> Path:
     old, new, made = room / "old.ll", room / "new.ll", room / "page.o"
     run(clang, "-x", "ir", module, "-S", "-emit-llvm", "-Xclang", "-disable-llvm-passes", "-o", old)
     new.write_text(retarget.retargeted(old.read_text()))
-    run(clang, *TARGET, *CAREFUL, "-O3", "-c", "-x", "ir", new, "-o", made)
+    run(clang, *TARGET, *CAREFUL, FOR_SIZE, "-c", "-x", "ir", new, "-o", made)
     return made
 
 
@@ -160,10 +162,15 @@ def version() -> str:
     return f"{manuals.release()[0]} ({commit}{changed})"
 
 
-def digest_of_script(page: str) -> str:
-    """The digest of the page's script, as the policy of content takes it: no other runs."""
-    [script] = SCRIPT.findall(page)
+def digest_of(script: str) -> str:
+    """The digest of a script, as the policy of content takes it: no other runs."""
     return base64.b64encode(hashlib.sha256(script.encode()).digest()).decode()
+
+
+def script_in(page: str) -> str:
+    """The script that runs at once in a page."""
+    [script] = SCRIPT.findall(page)
+    return script
 
 
 def packed(data: bytes) -> str:
@@ -174,13 +181,20 @@ def packed(data: bytes) -> str:
     return text
 
 
+def later() -> str:
+    """The script that the page runs once it is unpacked. No name of the page's script stands in it for
+    another thing."""
+    scripts.joined([*scripts.SCRIPTS["page"], *scripts.SCRIPTS["later"]])
+    return scripts.dense(scripts.joined(scripts.SCRIPTS["later"]))
+
+
 def stored(texts: dict[str, dict[str, str]]) -> dict[str, Any]:
     """What the page has beside the module: its texts, those of faults by their languages, the files
-    of its example, and the script of the worker."""
+    of its example, the script that is run later, and that of the worker."""
     refusals = {path.stem: json.loads(path.read_text()) for path in REFUSALS}
     example = {path.name: path.read_bytes().decode() for path in EXAMPLE}
     calls = scripts.dense(scripts.joined(scripts.SCRIPTS["calls"]))
-    return {"texts": texts, "refusals": refusals, "example": example, "calls": calls}
+    return {"texts": texts, "refusals": refusals, "example": example, "later": later(), "calls": calls}
 
 
 def page(module: bytes) -> str:
@@ -194,7 +208,7 @@ def page(module: bytes) -> str:
         "SHA256": hashlib.sha256(module).hexdigest(),
         "COMMIT": version(),
     })
-    return scripts.filled(whole, {"SCRIPT": digest_of_script(whole)})
+    return scripts.filled(whole, {"SCRIPT": digest_of(script_in(whole)), "LATER": digest_of(later())})
 
 
 def asked_for() -> argparse.Namespace:

@@ -91,6 +91,8 @@ export const calls = {
   check: (core, gsi, sheet, twoC, twoI, residual) =>
     callOf(core, 'station_page_check', [gsi, sheet], [twoC, twoI, ...stated(residual)]),
   list: (core, gsi, twoC, twoI) => callOf(core, 'station_page_list', [gsi], [twoC, twoI]),
+  listRows: (core, gsi, twoC, twoI) =>
+    callOf(core, 'station_page_list_rows', [gsi], [twoC, twoI]),
   means: (core, gsi, name, twoC, twoI) =>
     callOf(core, 'station_page_means', [gsi, name], [twoC, twoI]),
   words: (core, gsi) => callOf(core, 'station_page_words', [gsi], [], 2),
@@ -100,10 +102,17 @@ export const calls = {
     callOf(core, 'station_page_residuals', [gsi, name], [twoC, twoI]),
   report: (core, gsi, path, name, twoC, twoI) =>
     callOf(core, 'station_page_report', [gsi, path, name], [twoC, twoI]),
-  compare: (core, gsi, table, name, twoC, twoI, within) =>
-    callOf(core, 'station_page_compare', [gsi, table, name], [twoC, twoI, ...stated(within)]),
-  differences: (core, gsi, table, name, twoC, twoI) =>
-    callOf(core, 'station_page_differences', [gsi, table, name], [twoC, twoI]),
+  station: (core, gsi, path, name, twoC, twoI, decimals) =>
+    callOf(core, 'station_page_station', [gsi, path, name], [twoC, twoI, decimals]),
+  compare: (core, gsi, table, name, twoC, twoI, unit, names, directions, within) =>
+    callOf(core, 'station_page_compare', [gsi, table, name],
+      [twoC, twoI, unit, names, directions, ...stated(within)], 2),
+  differences: (core, gsi, table, name, twoC, twoI, unit, names, directions) =>
+    callOf(core, 'station_page_differences', [gsi, table, name],
+      [twoC, twoI, unit, names, directions], 2),
+  table: (core, gsi, path, table, tablePath, name, twoC, twoI, unit, names, directions, within) =>
+    callOf(core, 'station_page_table', [gsi, path, table, tablePath, name],
+      [twoC, twoI, unit, names, directions, ...stated(within)], 2),
   mark: (core, gsi, name, code, sets, targets, ...flags) =>
     callOf(core, 'station_page_mark', [gsi, name, code, sets, targets], flags.map(Number), 2),
   change: (core, gsi, changes) => callOf(core, 'station_page_change', [gsi, changes], []),

@@ -4,23 +4,24 @@ import {
   mayLeaveOut, meansOf, moodOfAnswer,
 } from './answers.js';
 import {
-  asHandedIn, changeText, changesOf, givenBlock, logOf, pointNamesIn,
+  asHandedIn, changeText, changesOf, changesTogether, givenBlock, logOf, pointNamesIn,
 } from './changes.js';
 import { handOnTo } from './drawing.js';
 import { button, element, menuOf, ofProgram, save } from './elements.js';
 import { originalOf, stemOf, textOf } from './files.js';
 import {
-  furthestOf, headlineOf, headlineOfCard, isApart, judgedText, recognizedTexts, titleOf,
-  waitingText,
+  columnsText, furthestOf, headlineOf, headlineOfCard, isApart, judgedText, recognizedTexts,
+  titleOf, waitingText,
 } from './headlines.js';
 import { LIMITS, commandOf } from './limits.js';
 import { MOODS } from './overview.js';
 import { mgonOf } from './numbers.js';
 import { pictureFile } from './picture.js';
-import { placeOf } from './place.js';
+import { placeOf, seenText } from './place.js';
 import { nameOfProtocol, protocolFile } from './protocol.js';
-import { deviationIn, isComplete, residualsIn } from './records.js';
+import { isComplete, residualsIn } from './records.js';
 import { showExplanation, showFault, showMeaning, showPlace } from './refusals.js';
+import { blockLinesOf, proposalFor } from './repairs.js';
 import { showResultsInTurn } from './results.js';
 import { facesFile } from './tables.js';
 import { text } from './texts.js';
@@ -34,8 +35,8 @@ import { text } from './texts.js';
  * What a card asks of the page: the limits, to load its results, what its protocol says of what
  * else was handed in, to print it, to name the station of a field file, or the code whose blocks
  * begin its stations, to state the numbers of sets and targets of stations, what one is whose name
- * comes again, that stations that aren't recognized stay outside, or to have lines changed in a
- * copy, which answers why that can't be.
+ * comes again, that stations that aren't recognized stay outside, by which columns a table is to be
+ * read, or to have lines changed in a copy, which answers why that can't be.
  * @typedef {{ limits: import('./limits.js').Limits, load: (card: StationCard) => Promise<void>,
  *   beside: (card: Card) => string[], print: (card: Card) => void,
  *   name: (field: Input, station: string) => void,
@@ -43,7 +44,10 @@ import { text } from './texts.js';
  *   count: (field: Input, stations: string[], numbers: import('./files.js').Numbers) => void,
  *   setUp: (field: Input, again?: import('./files.js').Again) => void,
  *   leaveOut: (field: Input, others: boolean) => void,
- *   change: (field: Input, changes: import('./changes.js').Change[]) => Promise<string> }} Desk
+ *   readBy: (table: Input, columns?: number[]) => void,
+ *   change: (field: Input, changes: Change[]) => Promise<string> }} Desk
+ * @typedef {import('./changes.js').Change} Change
+ * @typedef {import('./repairs.js').Proposal} Proposal
  * @typedef {import('./files.js').Input} Input
  * Gives what is in a file that can be saved; nothing where there is none, and it is said why.
  * @typedef {() => string | null | Promise<string | null>} Content
@@ -52,15 +56,17 @@ import { text } from './texts.js';
 // ---------------------------------------------------------------- an answer
 
 /**
- * The program's line, where it has one, and the command that answers the same.
- * @param {{ command: string, line?: string, status?: number }} answer
+ * The program's line, where it has one, with the note of a table, and the command that answers the
+ * same.
+ * @param {{ command: string, line?: string, note?: string, status?: number }} answer
  * @param {Element} parent
  */
-function showCommand({ line = '', command, status = OUT_OF_RANGE }, parent) {
+function showCommand({ line = '', note = '', command, status = OUT_OF_RANGE }, parent) {
   const part = element('dl', '', parent, { className: 'exact' });
   if (status <= REFUSED) {
     element('dt', text('program'), part);
-    ofProgram('samp', line, element('dd', '', part));
+    for (const said of [line, ...note ? [note] : []])
+      ofProgram('samp', said, element('dd', '', part));
   }
   element('dt', text('sameCommand'), part);
   ofProgram('code', command, element('dd', '', part));
@@ -79,53 +85,148 @@ function showAnswer(answer, card, desk, parent) {
   if (other) element('p', other.shown, part, { className: 'label name' });
   if (other?.original) showTaken(other, other.original, part);
   const headline = element('h3', headlineOf(answer), part, { className: 'headline' });
-  if (status === REFUSED && !isApart(line) && explanation) {
+  if (status === REFUSED && !isApart(answer) && explanation) {
     headline.append(' ');
     showMeaning('span', answer, headline);
   }
-  if (isApart(line) && answer.differences)
+  if (isApart(answer) && answer.differences)
     element('p', furthestOf(answer.differences), part, { className: 'reason' });
+  const columns = columnsText(answer);
+  if (columns) element('p', columns, part, { className: 'columns' });
   showFault(answer, part);
+  if (other) askColumns(originalOf(other), answer, desk, part);
   offerChange(answer, desk, part);
   showCommand(answer, part);
+}
+
+/** The largest number of a column. */
+const MOST_COLUMNS = 999_999;
+/**
+ * The fields of columns: what each is called.
+ * @type {[string, string][]}
+ */
+const ASKED_COLUMNS = [['names', 'nameColumn'], ['directions', 'directionColumn']];
+
+/**
+ * Asks by which columns a table is to be read: where more than one pair fits, and where some are
+ * stated, which may be forgotten again.
+ * @param {Input} table
+ * @param {Answer} answer
+ * @param {Desk} desk
+ * @param {Element} parent
+ */
+function askColumns(table, { verdict }, desk, parent) {
+  const { columns = [] } = table, { first, second } = verdict ?? {};
+  if (columns.length === 0 && verdict?.verdict !== 'Columns') return;
+  const form = element('form', '', parent, { className: 'buttons' });
+  form.setAttribute('aria-label', text('columnsOf', { name: table.shown }));
+  if (second) element('span', text('columnsFit', { first, second }), form);
+  const typed = table.typing ??= new Map(), typing = typed.get('columns') ?? {};
+  typed.set('columns', typing);
+  const inputs = ASKED_COLUMNS.map(([name, called], nth) => {
+    const label = element('label', `${text(called)} `, form);
+    const value = typing[name] ?? String(columns[nth] ?? '');
+    const about = { type: 'number', min: '1', max: String(MOST_COLUMNS), required: true, value };
+    const input = /** @type {HTMLInputElement} */ (element('input', '', label, about));
+    input.oninput = () => { typing[name] = input.value; };
+    return input;
+  });
+  element('button', text('readColumns'), form, { type: 'submit', className: 'button' });
+  if (columns.length > 0) button(text('findColumns'), form, () => readBy());
+  const readBy = (/** @type {number[] | undefined} */ stated) => {
+    typed.delete('columns');
+    desk.readBy(table, stated);
+  };
+  form.onsubmit = event => {
+    event.preventDefault();
+    readBy(inputs.map(input => Number(input.value)));
+  };
 }
 
 // ---------------------------------------------------------------- changed lines
 
 /**
- * Offers to change the line at which a refusal stands, in a copy: where it is one of the file that
- * was handed in, and not its end or one of a copy with codes.
+ * What is said of a proposal, and on its button.
+ * @type {Record<Proposal['what'], [string, string]>}
+ */
+const PROPOSED = {
+  lastSet: ['proposedLastSet', 'leaveLastSetOut'], closing: ['proposedClosing', 'leaveClosingOut'],
+};
+
+/**
+ * What the page proposes to leave out, where a refusal stands at a block. (Where an office's code
+ * begins stations it isn't known which lines are of one.)
+ * @param {Answer} answer
+ * @param {number} block
+ */
+function proposalAt({ line, field }, block) {
+  const fault = line.replace(/^refused: block \d+: /, '');
+  return field.code ? undefined
+    : proposalFor(field.bytes, block, fault, field.again === 'another');
+}
+
+/**
+ * Offers to change the line at which a refusal stands, in a copy, and those that the page proposes
+ * to leave out: where they are of the file that was handed in, and not of a copy with codes. At its
+ * end there may be a proposal alone.
  * @param {Answer} answer
  * @param {Desk} desk
  * @param {Element} parent
  */
-function offerChange({ line, field, status }, desk, parent) {
-  const [, nth] = line.match(/^refused: block (\d+): /) ?? [];
+function offerChange(answer, desk, parent) {
+  const { line, field, status } = answer, [, nth] = line.match(/^refused: block (\d+): /) ?? [];
+  if (status !== REFUSED || !nth || field.original) return;
   const isThere = placeOf(line, field)?.lines.some(({ isMeant }) => isMeant);
-  if (status !== REFUSED || !nth || field.original || !isThere) return;
+  const proposal = proposalAt(answer, Number(nth));
+  if (!isThere && !proposal) return;
   const block = givenBlock(field, Number(nth)), given = asHandedIn(field);
   const form = element('form', '', parent, { className: 'buttons change' });
-  form.setAttribute('aria-label', text('changeLine', { block, name: given.shown }));
-  const input = (/** @type {string} */ called, /** @type {object} */ about) => {
-    const label = element('label', `${text(called)} `, form);
-    return /** @type {HTMLInputElement} */ (element('input', '', label, about));
+  const called = text(isThere ? 'changeLine' : 'changeLines', { block, name: given.shown });
+  form.setAttribute('aria-label', called);
+  const input = (/** @type {string} */ label, /** @type {object} */ about) => {
+    const part = element('label', `${text(label)} `, form);
+    return /** @type {HTMLInputElement} */ (element('input', '', part, about));
   };
   const why = input('reason', { type: 'text', maxLength: 200 });
-  button(text('leaveLineOut'), form, () => hand());
-  const name = input('newName', { type: 'text', maxLength: MOST_OF_NAME });
-  propose(name, `${given.shown} ${block}`, () => pointNamesIn(given.bytes));
-  button(text('renamePoint'), form, () => hand(name.value.trim()));
+  /** @type {HTMLInputElement | undefined} */
+  let name;
+  if (isThere) {
+    button(text('leaveLineOut'), form, () => hand([block]));
+    const typed = name = input('newName', { type: 'text', maxLength: MOST_OF_NAME });
+    propose(typed, `${given.shown} ${block}`, () => pointNamesIn(given.bytes));
+    button(text('renamePoint'), form, () => hand([block], { name: typed.value.trim() }));
+  }
+  if (proposal)
+    showProposal(proposal, field, (blocks, proposed) => hand(blocks, { proposed }), form);
   const said = element('p', '', form, { className: 'bad' });
   said.setAttribute('role', 'status');
   form.onsubmit = event => event.preventDefault();
-  async function hand(/** @type {string | undefined} */ named) {
+  /** @type {(blocks: number[], more?: Pick<Change, 'name' | 'proposed'>) => Promise<void>} */
+  async function hand(blocks, more = {}) {
     const reason = why.value.trim();
-    const missing = reason === '' ? why : named === '' ? name : undefined;
+    const missing = reason === '' ? why : more.name === '' ? name : undefined;
     said.textContent = missing ? text(missing === why ? 'needReason' : 'needNewName') : '';
     if (missing) return missing.focus();
-    const others = changesOf(field).filter(one => one.block !== block);
-    said.textContent = await desk.change(field, [...others, { block, name: named, why: reason }]);
+    const others = changesOf(field).filter(one => !blocks.includes(one.block));
+    const changed = blocks.map(one => ({ block: one, ...more, why: reason }));
+    said.textContent = await desk.change(field, [...others, ...changed]);
   }
+}
+
+/**
+ * Shows which lines are proposed to be left out, and a button that does it.
+ * @param {Proposal} proposal
+ * @param {Input} field
+ * @param {(blocks: number[], what: Proposal['what']) => void} leaveOut
+ * @param {Element} parent
+ */
+function showProposal({ what, lines }, field, leaveOut, parent) {
+  const part = element('div', '', parent, { className: 'proposal' });
+  const [said, label] = PROPOSED[what], blocks = lines.map(({ block }) => givenBlock(field, block));
+  const shown = lines.map(({ line }, nth) =>
+    ({ number: String(blocks[nth]), text: seenText(line), isMeant: false }));
+  showPlace({ where: text(said, { n: lines.length }), lines: shown, first: 0, end: 0 }, part);
+  button(text(label), part, () => leaveOut(blocks, what));
 }
 
 /** So many letters has a name at most. */
@@ -161,16 +262,41 @@ function showChanges(field, desk, parent) {
   const { shown } = asHandedIn(field);
   element('p', text('changedCopy', { name: shown }), part, { className: 'label' });
   const list = element('ul', '', part, { className: 'changes' });
-  for (const change of changes) {
-    const item = element('li', `${changeText(change)} `, list), said = changeText(change);
+  /** @type {(some: Change[], room: Element) => Element} */
+  const show = (some, room) => {
+    const said = changeText(...some), item = element('li', `${said} `, room);
     const back = button(text('takeBack'), item, () =>
-      desk.change(copy, changes.filter(one => one !== change)), 'button small');
+      desk.change(copy, changes.filter(one => !some.includes(one))), 'button small');
     back.setAttribute('aria-label', `${text('takeBack')}: ${said}`);
+    return item;
+  };
+  for (const some of changesTogether(changes)) {
+    const item = show(some, list);
+    if (some.length > 1) showEach(some, asHandedIn(field), show, item);
   }
   element('p', text('keepBoth'), part, { className: 'quiet' });
   const buttons = element('div', '', part, { className: 'buttons' });
   button(text('saveChanged'), buttons, () => save(copy.name, copy.bytes, 'text/plain'));
   button(text('saveLog'), buttons, () => save(`${copy.name}.log`, logOf(copy), 'text/plain'));
+}
+
+/**
+ * Shows changes that were made together one by one, each with its line, when that is unfolded: a
+ * file may have many cards.
+ * @param {Change[]} changes
+ * @param {Input} given
+ * @param {(some: Change[], room: Element) => Element} show
+ * @param {Element} parent
+ */
+function showEach(changes, given, show, parent) {
+  const fold = /** @type {HTMLDetailsElement} */ (element('details', '', parent));
+  element('summary', text('lineByLine'), fold);
+  fold.ontoggle = () => {
+    if (!fold.open || fold.children.length > 1) return;
+    const list = element('ul', '', fold), lines = blockLinesOf(given.bytes);
+    for (const one of changes) element('code', seenText(lines[one.block - 1]), show([one], list));
+    handOnTo(fold);
+  };
 }
 
 /** So many rows that were taken of a workbook are shown at once. */
@@ -263,8 +389,7 @@ function showButtons(card, desk, parent) {
     const { line } = results.residuals, title = text('residualsOf', { name });
     const origin = [field.name, text('digest', { digest: field.digest })];
     offer('saveResiduals', `${name}_residuals.csv`, () => `${line}\n`);
-    const { status, line: report } = results.report;
-    const deviation = status === ACCEPTED ? deviationIn(report) : '';
+    const deviation = results.accuracy?.deviation ?? '';
     const picture = () => pictureFile(title, origin, residualsIn(line), deviation);
     offer('savePicture', `${name}_residuals.svg`, picture, 'image/svg+xml');
   }

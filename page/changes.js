@@ -2,15 +2,16 @@
 // and why, stands on the cards, in the protocol and in a log.
 import { ACCEPTED, OUT_OF_RANGE } from './answers.js';
 import { originalOf, stemOf } from './files.js';
-import { lineOf, seen } from './place.js';
+import { MOST_SHOWN, lineOf, seen } from './place.js';
 import { text } from './texts.js';
 import { ask, digestOf } from './work.js';
 
 /**
  * @typedef {import('./files.js').Input} Input
  * What becomes of a line, by its number in the file as it was handed in: it is left out, or its
- * point gets this name; and why.
- * @typedef {{ block: number, name?: string, why: string }} Change
+ * point gets this name; why, and as a part of which proposal of the page, if it is one.
+ * @typedef {{ block: number, name?: string, why: string,
+ *   proposed?: import('./repairs.js').Proposal['what'] }} Change
  */
 
 /** The changes of a field file, in the order of its lines. */
@@ -75,9 +76,47 @@ export async function changeLines(field, changes) {
 export const stillOf = (changes, before, now) => changes.filter(({ block }) =>
   lineOf(before, block).join() === lineOf(now, block).join());
 
-/** What is said of a change: which line it is, and why. */
-export const changeText = (/** @type {Change} */ { block, name, why }) =>
-  text(name === undefined ? 'lineOut' : 'lineNamed', { block, name: name ?? '', why });
+/** What is said of a line that is left out as the page proposed it. */
+const OUT = { lastSet: 'lineOutOfSet', closing: 'lineOutClosing' };
+
+/** Numbers in their order, those that follow each other as a range: `5, 9-11`. */
+function rangesOf(/** @type {number[]} */ numbers) {
+  /** @type {number[][]} */
+  const ranges = [];
+  for (const one of numbers) {
+    const range = ranges[ranges.length - 1];
+    if (range?.[range.length - 1] === one - 1) range.push(one);
+    else ranges.push([one]);
+  }
+  const ends = ranges.map(range => new Set([range[0], range[range.length - 1]]));
+  return ends.map(some => [...some].join('–')).join(', ');
+}
+
+/** What is said of a change, or of several that were made together: which lines, and why. */
+export function changeText(/** @type {Change[]} */ ...changes) {
+  const [{ name, why, proposed }] = changes, blocks = changes.map(({ block }) => block);
+  const said = name !== undefined ? 'lineNamed' : proposed ? OUT[proposed] : 'lineOut';
+  return text(said, { n: blocks.length, block: rangesOf(blocks), name: name ?? '', why });
+}
+
+/** Changes by what was asked for: lines that were proposed together stand together. */
+export function changesTogether(/** @type {Change[]} */ changes) {
+  /** @type {Change[][]} */
+  const groups = [];
+  for (const one of changes) {
+    const same = groups.find(([other]) =>
+      one.proposed && other.proposed === one.proposed && other.why === one.why);
+    if (same) same.push(one);
+    else groups.push([one]);
+  }
+  return groups;
+}
+
+/** A line of the log: of one that is too long as much as a line may have, and that it is cut. */
+function logged(/** @type {string} */ sign, /** @type {Uint8Array} */ line) {
+  const cut = line.length > MOST_SHOWN ? ` ${text('lineCut', { bytes: line.length })}` : '';
+  return `${sign} ${seen(line)}${cut}\n`;
+}
 
 /** The log of what is changed: both files with their digests, and each line as it was and is. */
 export function logOf(/** @type {Input} */ field) {
@@ -88,8 +127,8 @@ export function logOf(/** @type {Input} */ field) {
     const out = changesOf(field)
       .filter(({ block, name }) => name === undefined && block < one.block);
     const is = lineOf(field.bytes, one.block - out.length);
-    const named = one.name === undefined ? '' : `> ${seen(is)}\n`;
-    return `\n${changeText(one)}\n< ${seen(was)}\n${named}`;
+    const named = one.name === undefined ? '' : logged('>', is);
+    return `\n${changeText(one)}\n${logged('<', was)}${named}`;
   });
   return [...files, ...lines].join('');
 }

@@ -22,7 +22,7 @@ export async function readFaults() {
 }
 
 /** The fault that an explanation is of, by the first of its names. */
-const nameIn = (/** @type {string} */ explanation) => explanation.match(/^[\w ]+/)?.[0] ?? '';
+export const nameIn = (/** @type {string} */ explanation) => explanation.match(/^[\w ]+/)?.[0] ?? '';
 
 /** The first line of an explanation, as a sentence without its names. */
 function sentenceIn(/** @type {string} */ explanation) {

@@ -8,21 +8,22 @@ import { each, recordsOf } from './records.js';
  *   'unread' | 'other'} Kind
  * A file that was handed in: `path` is where it lies in a folder that was, or else its name,
  * `handle` that by which it is read again, where there is one, `shown` its name as the page shows
- * it, `choice` the station that the user chose for it, `station` the name that the user gave to a
- * field file without one, `typed` the name that is being typed, `original` the field file that a
- * marked copy is of, or the workbook of a table, and `taken` the table of a workbook. `numbers` are
- * those of sets and of targets that the user stated of a station by its name, or of a job's
- * only one by no name, and `typing` what is being typed of them. `code` is the one whose blocks
- * begin stations, `again` what a name that comes again is; `others` says whether stations that
- * aren't recognized stay outside.
+ * it, `choice` the station that the user chose for it, `unit` that of a table, if it isn't gon,
+ * and `columns` those of its names and directions, if they are stated, `station` the name that the
+ * user gave to a field file without one, `typed` the name that is being typed, `original` the
+ * field file that a marked copy is of, or the workbook of a table, and `taken` the table of a
+ * workbook. `numbers` are those of sets and of targets that the user stated of a station by its
+ * name, or of a job's only one by no name, and `typing` what is being typed of them. `code` is the
+ * one whose blocks begin stations, `again` what a name that comes again is; `others` says whether
+ * stations that aren't recognized stay outside.
  * `changes` are those of its lines, where a copy with these stands in its place, and `given` is it
  * then as it was handed in.
  * `saved` says of the stations of a field file by their names what was saved of them last, and
  * `unfolded` has those whose readings the user unfolded. The digest is there once the file was
  * judged.
  * @typedef {{ name: string, path: string, handle?: any, shown: string, bytes: Uint8Array,
- *   kind: Kind, digest: string, choice?: { field: Input, name: string }, station?: string,
- *   typed?: string, original?: Input, taken?: Input,
+ *   kind: Kind, digest: string, choice?: { field: Input, name: string }, unit?: Unit,
+ *   columns?: number[], station?: string, typed?: string, original?: Input, taken?: Input,
  *   numbers?: Map<string, Numbers>, typing?: Map<string, Record<string, string>>, code?: string,
  *   typedCode?: string, again?: Again, others?: boolean,
  *   saved?: Map<string, () => string>, unfolded?: Set<string>,
@@ -30,11 +31,15 @@ import { each, recordsOf } from './records.js';
  * How many sets were read to the end at a station, and how many targets they have: each 0 where it
  * is not stated.
  * @typedef {{ sets: number, targets: number }} Numbers
+ * The unit of a table's directions; by which of its columns one was read, and what was passed over.
+ * @typedef {'gon' | 'degrees' | 'dmmss'} Unit
+ * @typedef {{ names: number, directions: number, before: number, among: number, after: number,
+ *   units: number }} Columns
  * What a station is whose name comes again: the same set-up, whose readings go on, or another one.
  * @typedef {'same' | 'another'} Again
- * A station of a field file, with its residuals and its report once they were asked for.
+ * A station of a field file, with all that is answered of it once that was asked for.
  * @typedef {{ field: Input, listed: import('./records.js').Listed,
- *   residuals?: import('./answers.js').Answer, report?: import('./answers.js').Answer }} Station
+ *   whole?: import('./answers.js').Whole }} Station
  */
 
 /** So many bytes at the beginning of a file tell what it is. */
@@ -45,13 +50,23 @@ const UTF16_MARKS = [0xfffe, 0xfeff];
 
 const EXTENSION = /\.[^.]*$/;
 const GSI_WORD = /^\*?\d\d[\d.?]{4}[+-]/;
-const DIRECTION = String.raw`"?[+-]?\d[\d.,'"°-]*(?: ?gon)?"?`;
-/** A row of a table: a number ends it, or where blanks separate, all is numbers but a name. */
-const ROW = new RegExp(`[,;\\t]\\s*${DIRECTION}[,;\\s]*$|^\\s*\\S+(?:\\s+${DIRECTION})+\\s*$`, 'i');
+const DIRECTION = String.raw`"?[+-]?\d[\d.,:'"°′″’”-]*(?:e[+-]?\d+)?(?: ?gon)?"?`;
+/** A direction that is no other number: with three decimals at least, or with minutes. */
+const LONG_DIRECTION = String.raw`[+-]?\d{1,3}(?:[.,]\d{3,}|[-:°] ?[\d.,:'"°′″’” -]*)(?: ?gon)?`;
+/**
+ * A row of a table: a number ends it, or where blanks or bars separate, all is numbers but a name,
+ * or a direction ends it.
+ */
+const ROW = new RegExp([
+  `[,;\\t]\\s*${DIRECTION}[,;\\s]*$`, `^\\s*\\S+(?:\\s+${DIRECTION})+\\s*$`,
+  `\\S[\\s|]+${LONG_DIRECTION}[|\\s]*$`,
+].join('|'), 'i');
 /** Of how many lines of a table one is a row at least: others may be titles. */
 const LINES_PER_ROW = 3;
 /** What a sheet begins with, and the separator that a spreadsheet may have put there. */
 const SHEET = /^"?sheet"?([,;\t])/;
+/** The units of tables: the place of each is the number by which the calls know it. */
+export const UNITS = /** @type {Unit[]} */ (['gon', 'degrees', 'dmmss']);
 /** By what the fields of a table may be separated. */
 const SEPARATORS = [',', ';', '\t', ' '];
 
@@ -200,29 +215,59 @@ export function fieldOfSheet(sheet, all, stations) {
 const hasPart = (/** @type {string} */ stem, /** @type {string} */ name) =>
   ` ${stem.replace(/[._-]/g, ' ')} `.includes(` ${name.replace(/[._-]/g, ' ')} `);
 
-/** What may be the names of a table: the first fields of its rows, however they are separated. */
-const namesIn = (/** @type {Input} */ table) => new Set(SEPARATORS.flatMap(separator =>
-  recordsOf(textOf(table.bytes), separator).map(({ fields }) => fields[0])));
+/** The rows of a table by one of the separators: several blanks are one. */
+const rowsBy = (/** @type {Input} */ table, /** @type {string} */ separator) =>
+  recordsOf(textOf(table.bytes), separator)
+    .map(({ fields }) => separator === ' ' ? fields.filter(field => field !== '') : fields);
 
-/** How many decimals a table states of each name. */
-export function decimalsIn(/** @type {Input} */ table) {
+/**
+ * What may be the names of a table: the first fields of its rows, so many or all, however they are
+ * separated.
+ * @param {Input} table
+ * @param {number} [most]
+ */
+const namesIn = (table, most) => new Set(SEPARATORS.flatMap(separator =>
+  rowsBy(table, separator).flatMap(fields => fields.slice(0, most).map(field => field.trim()))));
+
+/** The numbers of the note of a table, in their order. */
+const NOTED_OF_TABLE = ['names', 'directions', 'before', 'among', 'after', 'units'];
+
+/**
+ * What the note of a table says that was read by a pair of its columns: which they are, from 1, and
+ * how many rows and units were passed over; nothing where there is no note.
+ * @returns {Columns | undefined}
+ */
+export function columnsIn(note = '') {
+  const found = note.startsWith('note: table: ') ? note.match(/\d+/g) ?? [] : [];
+  if (found.length !== NOTED_OF_TABLE.length) return undefined;
+  return /** @type {Columns} */ (
+    Object.fromEntries(NOTED_OF_TABLE.map((name, nth) => [name, Number(found[nth])])));
+}
+
+/**
+ * How many decimals of a gon a table states of each name: by the columns of names and of
+ * directions, counted from 1, or by two columns.
+ * @param {Input} table
+ * @param {Columns} [columns]
+ */
+export function decimalsIn(table, columns) {
   /** @type {Map<string, number>} */
   const decimals = new Map();
-  for (const separator of SEPARATORS) {
-    for (const { fields: [name, ...rest] } of recordsOf(textOf(table.bytes), separator)) {
-      const direction = rest.find(one => one.trim() !== '')?.match(/\d(?:[.,](\d*))?\D*$/);
-      if (direction && !decimals.has(name.trim()))
-        decimals.set(name.trim(), direction[1]?.length ?? 0);
-    }
+  if ((originalOf(table).unit ?? 'gon') !== 'gon') return decimals;
+  for (const fields of SEPARATORS.flatMap(separator => rowsBy(table, separator))) {
+    const [first = '', ...rest] = fields;
+    const [name = '', direction = ''] = columns
+      ? [fields[columns.names - 1], fields[columns.directions - 1]]
+      : [first, rest.find(one => one.trim() !== '')];
+    const found = direction.match(/\d(?:[.,](\d*))?\D*$/);
+    if (found && !decimals.has(name.trim())) decimals.set(name.trim(), found[1]?.length ?? 0);
   }
   return decimals;
 }
 
 /** How many of these names a station has as targets. */
-function shared(/** @type {Station} */ station, /** @type {Set<string>} */ names) {
-  const rows = station.listed.list.matchAll(/^set \d+, target (.*): p \d+, 2c -?\d+, 2i -?\d+$/gm);
-  return each([...rows].map(row => row[1])).filter(target => names.has(target)).length;
-}
+const shared = (/** @type {Station} */ { listed }, /** @type {Set<string>} */ names) =>
+  listed.targetNames.filter(target => names.has(target)).length;
 
 /**
  * The station that a table is compared with: that which was chosen; else of the field files in its
@@ -240,10 +285,11 @@ export function stationOfTable(table, all, stations) {
   let left = narrowed(stations, station => fields.includes(station.field));
   left = narrowed(left, station => byName.includes(station.field));
   left = narrowed(left, station => hasPart(stemOf(table), station.listed.name));
-  if (left.length > 1) {
-    const names = namesIn(table);
-    const counts = left.map(station => shared(station, names));
-    left = left.filter((_, nth) => counts[nth] > 0 && counts[nth] === Math.max(...counts));
+  for (const most of [1, undefined]) {
+    if (left.length < 2) break;
+    const names = namesIn(table, most), counts = left.map(station => shared(station, names));
+    const greatest = Math.max(0, ...counts);
+    if (greatest > 0) left = left.filter((_, nth) => counts[nth] === greatest);
   }
   return left.length === 1 ? left[0] : undefined;
 }

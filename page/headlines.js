@@ -3,8 +3,8 @@ import {
   ACCEPTED, OUT_OF_RANGE, TOO_LITTLE_ROOM, isCountedOtherwise, isTwice, isUncounted, isWithoutName,
 } from './answers.js';
 import { nameOrWhat, toldOf } from './faults.js';
-import { isUsed, originalOf, stationOfSheet } from './files.js';
-import { HALF, mgonOf, plain } from './numbers.js';
+import { columnsIn, isUsed, originalOf, stationOfSheet } from './files.js';
+import { APART, HALF, mgonOf } from './numbers.js';
 import { differencesIn, sizeOf } from './records.js';
 import { signedNumeral, text } from './texts.js';
 
@@ -18,40 +18,35 @@ import { signedNumeral, text } from './texts.js';
 /** What the fault of a refusal is, as a sentence. */
 export const meaningOf = (/** @type {Answer} */ { explanation }) => toldOf(explanation).what;
 
-/** Whether a line refuses a table for being apart. */
-export const isApart = (/** @type {string} */ line) => line.startsWith('refused: compare: Apart ');
+/** Whether a table is refused for being apart. */
+export const isApart = (/** @type {Answer} */ { verdict }) => verdict?.verdict === 'Apart';
 
-/** How far a table is apart and the limit that it was held to, in mgon, as a line has them. */
-function howFarIn(/** @type {string} */ line) {
-  const [, apart, limit] = line.match(/([\d.]+) mgon, limit ([\d.]+) mgon/) ?? ['', '', ''];
-  return { apart: plain(apart), limit: plain(limit) };
-}
+/** The targets of a table, how far it is apart and the limit that it was held to, in mgon. */
+const howFarIn = (/** @type {import('./records.js').Verdict} */ { targets, apart, limit }) =>
+  ({ n: targets, apart: mgonOf(Number(apart), APART), limit: mgonOf(Number(limit), APART) });
 
-function acceptedHeadline(/** @type {Answer} */ { line, greatest }) {
-  if (/greatest residual 0\//.test(line)) return text('acceptedZero');
+/** An accepted sheet: residuals that are written as 0 may be less than a tenth of a half unit. */
+function acceptedHeadline(/** @type {Answer} */ { greatest }) {
   if (!greatest) return text('acceptedBare');
   const { set, target, residual } = greatest;
+  if (sizeOf(residual) === 0) return text('acceptedZero');
   return text('accepted', { size: residual.replace('-', ''), set, target });
 }
 
-function agreesHeadline(/** @type {string} */ line) {
-  const n = line.match(/: \d+ sets, (\d+) targets, within /)?.[1];
-  return n ? text('agrees', { n, ...howFarIn(line) }) : text('agreesBare');
-}
-
 /** That one set alone shows nothing, where a station has no other. */
-const ofOneSet = (/** @type {string} */ line) => (/: 1 sets, /.test(line) ? [text('oneSet')] : []);
+const ofOneSet = (/** @type {Answer} */ { station }) =>
+  station?.listed.sets === 1 ? [text('oneSet')] : [];
 
 /** The answer in words and mgon. */
 export function headlineOf(/** @type {Answer} */ answer) {
-  const { status, line, asked } = answer;
+  const { status, verdict } = answer;
   if (status === OUT_OF_RANGE) return text('outOfRange');
   if (status === TOO_LITTLE_ROOM) return text('noRoom');
   if (status === ACCEPTED) {
-    const accepted = asked === 'compare' ? agreesHeadline(line) : acceptedHeadline(answer);
-    return [accepted, ...ofOneSet(line)].join(' ');
+    const accepted = verdict ? text('agrees', howFarIn(verdict)) : acceptedHeadline(answer);
+    return [accepted, ...ofOneSet(answer)].join(' ');
   }
-  return isApart(line) ? text('refusedApart', howFarIn(line)) : text('refused');
+  return verdict && isApart(answer) ? text('refusedApart', howFarIn(verdict)) : text('refused');
 }
 
 /** So many targets of a table that is apart are named. */
@@ -67,9 +62,15 @@ export function furthestOf(/** @type {string} */ differences) {
   return text('furthest', { targets: [...furthest.slice(0, MOST_NAMED), ...more].join(', ') });
 }
 
+/** By which columns a table was read, in words; nothing where it has two. */
+export function columnsText(/** @type {Answer} */ { note }) {
+  const columns = columnsIn(note);
+  return columns ? text('columnsRead', columns) : '';
+}
+
 /** The answer in words, and what the fault of a refusal is. */
 export const saidOf = (/** @type {Answer} */ answer) =>
-  answer.explanation && !isApart(answer.line)
+  answer.explanation && !isApart(answer)
     ? `${headlineOf(answer)} ${meaningOf(answer)}` : headlineOf(answer);
 
 /**

@@ -26,7 +26,7 @@ export function signed(/** @type {string} */ number) {
 }
 
 /** A text without zeros at its end: '0.300' is '0.3'. */
-export const plain = (/** @type {string} */ number) => number.replace(/\.?0+$/, '') || '0';
+const plain = (/** @type {string} */ number) => number.replace(/\.?0+$/, '') || '0';
 
 /**
  * How many of a quantity's units make one mgon: face differences, half units, distances of tables.

@@ -2,7 +2,7 @@
 import { ACCEPTED } from './answers.js';
 import { tableOf } from './elements.js';
 import { originalOf } from './files.js';
-import { deviationIn, greatestOf, residualsIn } from './records.js';
+import { greatestOf, residualsIn } from './records.js';
 import { numeral, text } from './texts.js';
 
 /** @typedef {import('./answers.js').Card} Card */
@@ -15,11 +15,10 @@ const NONE = '\u2013';
 
 /** The greatest residual of a station and its standard deviation, as far as they are at hand. */
 function accuracyOf(/** @type {Card} */ { station }) {
-  const { residuals, report } = station ?? {};
+  const { residuals, accuracy } = station?.whole ?? {};
   const greatest = residuals?.status === ACCEPTED
     ? numeral(greatestOf(residualsIn(residuals.line)).residual.replace('-', '')) : NONE;
-  const deviation = report?.status === ACCEPTED ? deviationIn(report.line) : '';
-  return [greatest, numeral(deviation) || NONE];
+  return [greatest, numeral(accuracy?.deviation ?? '') || NONE];
 }
 
 /**

@@ -4,17 +4,19 @@ import { keyOfCard, showCard } from './cards.js';
 import { asHandedIn, changeLines, changesOf, stillOf } from './changes.js';
 import { isOther, redraw, redrawEach } from './drawing.js';
 import { button, element, save } from './elements.js';
-import { HEAD, isChosen, isUsed, kindOf, originalOf, placeName, tellApart } from './files.js';
+import {
+  HEAD, UNITS, isChosen, isUsed, kindOf, originalOf, placeName, tellApart,
+} from './files.js';
 import { dropped, givenBy, givenOf } from './gather.js';
 import { kindText, saidOfCard, titleOf } from './headlines.js';
 import { limitsLine, limitsNow, LIMITS, showLimit, wrongLimit } from './limits.js';
 import { recallNotes } from './notes.js';
 import { overviewTable } from './overview.js';
 import {
-  DATES, besideOf, nameOfProtocol, protocolsFile, showProtocol, showProtocols,
+  besideOf, nameOfProtocol, protocolsFile, showProtocol, showProtocols,
 } from './protocol.js';
-import { exampleFiles, readTexts } from './stored.js';
-import { LANGUAGES, languageOf, speak, spoken, text } from './texts.js';
+import { exampleFiles, readRest } from './stored.js';
+import { DATES, LANGUAGES, languageOf, speak, spoken, text } from './texts.js';
 import { Stopped, isAsked, start, stop } from './work.js';
 import { withTable } from './workbook.js';
 
@@ -151,11 +153,15 @@ const ORDER = { bad: 0, open: 1, read: 2, good: 2 };
 /** Of more stations a choice is filled when it is turned to: all of each would hold the window. */
 const FEW_STATIONS = 20;
 
+/** Whether a file is of a station, which may be chosen. */
+const isOfOne = (/** @type {Input} */ { kind }) => ['sheet', 'table', 'workbook'].includes(kind);
+
 /** Where a sheet or a table belongs, to be chosen where there are several stations. */
 function showChoice(/** @type {Input} */ input, /** @type {Element} */ parent) {
   const stations = now.cards.flatMap(card => card.station ?? []);
-  if (stations.length < 2 || !['sheet', 'table', 'workbook'].includes(input.kind)) return;
-  const choice = /** @type {HTMLSelectElement} */ (element('select', '', parent));
+  if (stations.length < 2 || !isOfOne(input)) return;
+  const about = { className: 'station' };
+  const choice = /** @type {HTMLSelectElement} */ (element('select', '', parent, about));
   choice.setAttribute('aria-label', text('belongsTo', { name: input.shown }));
   element('option', text('byName'), choice, { value: '' });
   const offer = (/** @type {import('./files.js').Station[]} */ some) => {
@@ -174,12 +180,32 @@ function showChoice(/** @type {Input} */ input, /** @type {Element} */ parent) {
   };
 }
 
+/** What each unit of a table is called in the texts. */
+const UNIT_TEXTS = { gon: 'unitGon', degrees: 'unitDegrees', dmmss: 'unitDmmss' };
+
+/** The unit of the directions of a table, to be chosen. */
+function showUnit(/** @type {Input} */ input, /** @type {Element} */ parent) {
+  if (!['table', 'workbook'].includes(input.kind)) return;
+  const about = { className: 'unit' };
+  const choice = /** @type {HTMLSelectElement} */ (element('select', '', parent, about));
+  choice.setAttribute('aria-label', text('unitOf', { name: input.shown }));
+  for (const unit of UNITS) {
+    const selected = unit === (input.unit ?? 'gon');
+    element('option', text(UNIT_TEXTS[unit]), choice, { value: unit, selected });
+  }
+  choice.onchange = () => {
+    input.unit = UNITS[choice.selectedIndex];
+    checkAll();
+  };
+}
+
 /** Shows a file that was handed in. */
 function showInput(/** @type {Input} */ input, /** @type {Element} */ list) {
   const item = element('li', '', list, { className: isUsed(input) ? '' : 'unused' });
   element('span', input.shown, item, { className: 'name' });
   element('span', kindText(input), item, { className: 'kind' });
   showChoice(input, item);
+  showUnit(input, item);
   const gone = button('×', item, () => {
     go({ replaced: [], skipped: [], inputs: now.inputs.filter(one => one !== input) });
     checkAll();
@@ -195,7 +221,8 @@ function drawInputs() {
   const shown = [...inputs.filter(input => !isUsed(input)), ...inputs.filter(isUsed)];
   document.body.classList.toggle('has-files', inputs.length > 0);
   write('choose-text', text(inputs.length > 0 ? 'addMore' : 'choose'));
-  const of = (/** @type {Input} */ input) => [input, cards, input.choice, kindText(input)];
+  const of = (/** @type {Input} */ input) =>
+    [input, isOfOne(input) && cards, input.choice, input.unit, kindText(input)];
   redrawEach($('inputs'), shown, input => input.shown, of, showInput);
   const names = replaced.join(', ');
   write('replaced', names && text('replaced', { names }));
@@ -245,7 +272,7 @@ function drawCards() {
   const { cards, limits } = now, words = text('ready'), isFew = cards.length <= FEW;
   const lead = (/** @type {Card} */ card, /** @type {Element} */ head) =>
     button(card.title, head, () => leadTo(card), 'to name');
-  const seen = cards.flatMap(({ mood, station }) => [mood, station?.residuals, station?.report]);
+  const seen = cards.flatMap(({ mood, station }) => [mood, station?.whole]);
   $('several').hidden = cards.length < 2;
   redraw($('overview'), [cards, words, ...seen], room => {
     if (cards.length > 1) overviewTable(cards, lead, room);
@@ -314,11 +341,13 @@ async function checkAll() {
   });
 }
 
-/** Checks all, and leads to the first card of a field file of which something was stated. */
-async function checkAgain(/** @type {Input} */ field) {
+/** Checks all, and leads to the first card of a file of which something was stated. */
+async function checkAgain(/** @type {Input} */ stated) {
   await checkAll();
   // (all cards are new, and the one that was worked at may have been far below)
-  const first = now.cards.find(card => card.field && originalOf(card.field) === field);
+  const isOf = (/** @type {Input | undefined} */ file) => file && originalOf(file) === stated;
+  const first = now.cards.find(({ field, answers }) =>
+    isOf(field) || answers.some(({ other }) => isOf(other)));
   if (first) leadTo(first);
 }
 
@@ -373,6 +402,11 @@ const desk = {
     field.code = code;
     await checkAgain(field);
   },
+  /** @type {import('./cards.js').Desk['readBy']} */
+  async readBy(table, columns) {
+    table.columns = columns;
+    await checkAgain(table);
+  },
   /** @type {import('./cards.js').Desk['setUp']} */
   async setUp(field, again) {
     field.again = again;
@@ -423,6 +457,18 @@ async function inputOf({ file, path, handle }) {
   }
 }
 
+/** So many files are read at a time: that the browser turns to a file holds the window. */
+const AT_A_TIME = 25;
+
+/** What many files are. */
+async function inputsOf(/** @type {import('./gather.js').Given[]} */ given) {
+  /** @type {Input[]} */
+  const inputs = [];
+  for (let first = 0; first < given.length; first += AT_A_TIME)
+    inputs.push(...await Promise.all(given.slice(first, first + AT_A_TIME).map(inputOf)));
+  return inputs;
+}
+
 /** So many paths of what holds nothing for the page are named at most. */
 const MOST_SKIPPED = 8;
 
@@ -438,7 +484,7 @@ async function add(/** @type {import('./gather.js').Given[]} */ given) {
   go({ phase: { is: 'reading' } });
   await worded;
   const folders = given.filter(({ path }) => path.endsWith('/'));
-  const all = await Promise.all(given.filter(one => !folders.includes(one)).map(inputOf));
+  const all = await inputsOf(given.filter(one => !folders.includes(one)));
   const read = all.filter(one => !isSkipped(one));
   const skipped = [...all.filter(isSkipped), ...folders].map(({ path }) => path);
   const isGone = (/** @type {Input} */ one) =>
@@ -540,7 +586,7 @@ speak(languageOf(navigator.languages));
 languages.value = spoken();
 recallNotes();
 go({ limits: limitsNow() });
-/** Comes when the texts are at hand; where they can't be unpacked the worker can't either. */
-const worded = readTexts().then(draw, () => {});
+/** Comes when texts and script are at hand; where they can't be unpacked the worker can't either. */
+const worded = readRest().then(draw, () => {});
 worked(async () => { await Promise.all([start(), worded]); })
   .then(isReady => { if (isReady) checkAll(); });

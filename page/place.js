@@ -1,7 +1,7 @@
 // Where a refusal says that the fault stands: a line of the field file, a row of a sheet or a
 // table, or a target or an observation of the station.
 import { textOf } from './files.js';
-import { each, pairsOf, recordsOf } from './records.js';
+import { pairsOf, recordsOf } from './records.js';
 import { text } from './texts.js';
 
 /**
@@ -16,15 +16,18 @@ import { text } from './texts.js';
 const AROUND = 2;
 
 /** So many bytes of a line are shown at most: longer ones are refused for that. */
-const MOST_SHOWN = 1024;
+export const MOST_SHOWN = 1024;
 
-const LF = 10, CR = 13, BLANK = 32;
+const LF = 10, CR = 13, BLANK = 32, BYTE = 255;
 
 const signOf = (/** @type {number} */ byte) =>
   byte < 0x20 ? 0x2400 + byte : byte < 0x7f ? byte : 0xfffd;
 /** A line's bytes as letters, those outside 20 to 7E (hex) as signs that are seen. */
 export const seen = (/** @type {Uint8Array} */ bytes) =>
   Array.from(bytes.subarray(0, MOST_SHOWN), byte => String.fromCharCode(signOf(byte))).join('');
+/** The same of a line of which each byte is a letter. */
+export const seenText = (/** @type {string} */ line) =>
+  seen(Uint8Array.from(line, sign => Math.min(sign.charCodeAt(0), BYTE)));
 
 /**
  * The lines of a field file as an editor counts them, up to some after that of a block: that line's
@@ -154,8 +157,8 @@ const KIND_OF_FAULT = { Target: 'target', Set: 'set', Obs: 'obs' };
 function inStation(at, station) {
   const { listed } = station;
   return at(/^refused: table: Missing (\d+)/, nth => {
-    const target = each(pairsOf(listed).map(pair => pair.target))[Number(nth) - 1];
-    return alone(text('targetOfStation', { nth, station: listed.name }), target);
+    const where = text('targetOfStation', { nth, station: listed.name });
+    return alone(where, listed.targetNames[Number(nth) - 1]);
   }) ?? at(/^refused: adjust: Residual (\d+)/, nth => {
     const { set, target } = pairsOf(listed)[Number(nth) - 1];
     const where = text('observationOfStation', { nth, station: listed.name });

@@ -1,24 +1,18 @@
 // The protocol of a station, as an office prints and files it, and the page before several.
-import { ACCEPTED, REFUSED, filesOf, isHeld, moodOfAnswer } from './answers.js';
-import { changeText, changesOf } from './changes.js';
+import { REFUSED, filesOf, isHeld, moodOfAnswer } from './answers.js';
+import { changeText, changesOf, changesTogether } from './changes.js';
 import { element, ofProgram } from './elements.js';
 import { isUsed, originalOf, stemOf } from './files.js';
 import {
-  countsOf, headlineOfCard, judgedText, kindText, recognizedTexts, saidOf, saidOfCard, saidOfFile,
-  titleOf, waitingText,
+  columnsText, countsOf, headlineOfCard, judgedText, kindText, recognizedTexts, saidOf, saidOfCard,
+  saidOfFile, titleOf, waitingText,
 } from './headlines.js';
 import { limitsLine } from './limits.js';
 import { notes } from './notes.js';
 import { overviewTable } from './overview.js';
 import { showFault, showMeaning } from './refusals.js';
 import { showResults } from './results.js';
-import { spoken, text } from './texts.js';
-
-/**
- * How each language writes a date; English as it does where angles are in gon.
- * @type {Record<string, string>}
- */
-export const DATES = { en: 'en-GB', de: 'de', fr: 'fr' };
+import { DATES, spoken, text } from './texts.js';
 
 /**
  * @typedef {import('./answers.js').Card} Card
@@ -91,7 +85,10 @@ function showAnswers(card, limits, parent) {
     const workbook = answer.other?.original;
     if (workbook) element('div', text('takenFrom', { name: workbook.shown }), parent);
     say(label ? text('labelled', { label, said }) : said, moodOfAnswer(answer, card));
-    if (answer.status <= REFUSED) ofProgram('samp', answer.line, element('div', '', parent));
+    const columns = columnsText(answer), { status, line, note = '' } = answer;
+    if (columns) element('div', columns, parent);
+    for (const one of status <= REFUSED ? [line, ...note ? [note] : []] : [])
+      ofProgram('samp', one, element('div', '', parent));
     ofProgram('code', answer.command, element('div', '', parent));
   }
   const said = judgedText(card, limits), { isKept, command } = card.judged ?? {};
@@ -130,7 +127,7 @@ function showChanged(/** @type {Input} */ field, /** @type {Element} */ parent) 
   const changes = changesOf(field);
   if (changes.length === 0) return;
   const said = row('changes', parent);
-  for (const change of changes) element('div', changeText(change), said);
+  for (const some of changesTogether(changes)) element('div', changeText(...some), said);
 }
 
 /**
@@ -203,8 +200,7 @@ export function showProtocol(card, limits, parent, page = '', beside = []) {
   if (station) row('observed', facts).textContent = text('counts', countsOf(station.listed));
   if (card.field) showChanged(card.field, facts);
   if (station && card.marked) showMarks(card.marked, card, row('marks', facts));
-  const isCompared = card.answers.some(({ asked, status, line }) =>
-    asked === 'compare' && (status === ACCEPTED || /^refused: compare: /.test(line)));
+  const isCompared = card.answers.some(({ differences }) => differences);
   const held = { residual: isHeld(card), within: isCompared };
   if (card.field) row('limits', facts).textContent = limitsLine(limits, held);
   showAnswers(card, limits, row('answer', facts));

@@ -1,6 +1,6 @@
-// What stands in the texts of the program: records of comma-separated text, the stations of a list,
-// the residuals and the report of a station, the differences of a table. Nothing here decides
-// anything.
+// What stands in the texts of the program: records of comma-separated text, the parts of what is
+// answered of a station or a table, the stations of a list, the residuals and the report of a station, the
+// differences of a table. Nothing here decides anything.
 
 /** @typedef {{ first: number, end: number, fields: string[] }} TextRecord */
 
@@ -37,6 +37,44 @@ export function recordsOf(text, separator = ',') {
   }
   end(text.length);
   return records;
+}
+
+/** The lines of a text that the core wrote. */
+const linesOf = (/** @type {string} */ text) => text.split('\n').filter(line => line !== '');
+
+/** The fields of a row that the core wrote: it stands on one line. */
+const fieldsOf = (/** @type {string} */ line) =>
+  line.includes('"') ? recordsOf(line)[0].fields : line.split(',');
+
+/**
+ * The rows below the titles of a text, each with its fields by these.
+ * @returns {Record<string, string>[]}
+ */
+export function rowsIn(/** @type {string} */ text) {
+  const [titles, ...rows] = linesOf(text).map(fieldsOf);
+  return rows.map(fields =>
+    Object.fromEntries(titles.map((title, nth) => [title, fields[nth]])));
+}
+
+/** The byte that ends a line. */
+const LINE_FEED = 10;
+
+/**
+ * The parts of a text, by their titles: before each stands a line of its title and of how many bytes
+ * it has.
+ */
+export function partsIn(/** @type {Uint8Array} */ bytes) {
+  /** @type {Record<string, string>} */
+  const parts = {};
+  const textIn = (/** @type {number} */ first, /** @type {number} */ end) =>
+    new TextDecoder().decode(bytes.subarray(first, end));
+  for (let at = 0; at < bytes.length;) {
+    const first = bytes.indexOf(LINE_FEED, at) + 1;
+    const [title, count] = textIn(at, first).split(' ');
+    at = first + Number(count);
+    parts[title] = textIn(first, at);
+  }
+  return parts;
 }
 
 /**
@@ -133,44 +171,60 @@ export function recognizedIn(/** @type {string} */ notes) {
 // ---------------------------------------------------------------- lists
 
 /**
- * A two-face direction of a list: the differences in 0.01 mgon.
- * @typedef {{ set: string, target: string, twoC: number, twoI: number }} Pair
+ * A two-face direction of a list: its face differences in mgon.
+ * @typedef {{ set: string, target: string, twoC: string, twoI: string }} Pair
+ * A station of a list: how many sets, targets and two-face directions it has, the names of its
+ * targets, and its rows, below their titles.
  * @typedef {{ name: string, sets: number, targets: number, directions: number,
- *   list: string }} Listed
+ *   targetNames: string[], rows: string }} Listed
  */
 
+/** A field of a row that the core wrote, and the comma after it. */
+const CELL = /(?:"(?:[^"]|"")*"|[^,\n]*),/y;
+
+/** The cell of a row that stands there in a text. */
+function cellAt(/** @type {string} */ text, /** @type {number} */ at) {
+  CELL.lastIndex = at;
+  return CELL.exec(text)?.[0] ?? '';
+}
+
 /**
- * The stations of a list that the core wrote, each with its part of the list.
+ * The stations of a list that the core wrote as rows, each with its rows. They may be many, and
+ * stand station by station and set by set: so of each row no more is read than its target.
  * @returns {Listed[]}
  */
-export function stationsOf(/** @type {string} */ list) {
-  const heads = [...list.matchAll(/^station (.*): (\d+) sets, (\d+) targets, (\d+) directions$/gm)];
-  return heads.map((head, nth) => ({
-    name: head[1],
-    sets: Number(head[2]),
-    targets: Number(head[3]),
-    directions: Number(head[4]),
-    list: list.slice(head.index, heads[nth + 1]?.index),
-  }));
+export function stationsOf(/** @type {string} */ text) {
+  const after = (/** @type {number} */ at) => text.indexOf('\n', at) + 1;
+  const titles = text.slice(0, after(0)), nameOf = (/** @type {string} */ cell) => fieldsOf(cell)[0];
+  /** @type {Listed[]} */
+  const stations = [];
+  for (let at = titles.length; at < text.length;) {
+    const station = cellAt(text, at), first = at, cells = new Set();
+    let sets = 0, directions = 0, set = '';
+    for (; text.startsWith(station, at); at = after(at)) {
+      const next = cellAt(text, at + station.length);
+      if (next !== set) sets += 1;
+      set = next;
+      directions += 1;
+      cells.add(cellAt(text, at + station.length + set.length));
+    }
+    const targetNames = [...cells].map(nameOf), rows = titles + text.slice(first, at);
+    const targets = targetNames.length, name = nameOf(station);
+    stations.push({ name, sets, targets, directions, targetNames, rows });
+  }
+  return stations;
 }
 
 /**
  * The two-face directions of a station, in the order of its list.
  * @returns {Pair[]}
  */
-export function pairsOf(/** @type {Listed} */ { list }) {
-  const rows = list.matchAll(/^set (\d+), target (.*): p \d+, 2c (-?\d+), 2i (-?\d+)$/gm);
-  return [...rows].map(([, set, target, twoC, twoI]) =>
-    ({ set, target, twoC: Number(twoC), twoI: Number(twoI) }));
-}
+export const pairsOf = (/** @type {Listed} */ { rows }) => rowsIn(rows).map(row =>
+  ({ set: row.set, target: row.target, twoC: row['2c'], twoI: row['2i'] }));
 
 /** Whether every target was observed in every set, so that means are least squares. */
 export const isComplete = (/** @type {Listed} */ { sets, targets, directions }) =>
   sets * targets === directions;
-
-/** How many blocks have a word 21, by the words that the core wrote. */
-export const readingsIn = (/** @type {string} */ words) =>
-  each([...words.matchAll(/^(\d+) \d+ 21 /gm)].map(row => row[1])).length;
 
 // ---------------------------------------------------------------- residuals
 
@@ -181,13 +235,11 @@ export const readingsIn = (/** @type {string} */ words) =>
  */
 
 /**
- * The residuals of a station, in the order of the text that the call wrote.
+ * The residuals of a station, in the order of the rows that the program wrote.
  * @returns {Residuals}
  */
 export function residualsIn(/** @type {string} */ text) {
-  const [, ...records] = recordsOf(text);
-  const rows = records.map(({ fields: [set, target, , , residual] }) =>
-    ({ set, target, residual }));
+  const rows = rowsIn(text).map(({ set, target, residual }) => ({ set, target, residual }));
   return { rows, sets: each(rows.map(row => row.set)), targets: each(rows.map(row => row.target)) };
 }
 
@@ -198,22 +250,21 @@ export const sizeOf = (/** @type {string} */ number) => Math.abs(Number(number))
 export const greatestOf = (/** @type {{ rows: Residual[] }} */ { rows }) =>
   rows.reduce((a, b) => sizeOf(b.residual) > sizeOf(a.residual) ? b : a);
 
-const ACCURACY = /\nDegrees of freedom +(\d+)\nStandard deviation +(\S+)[^\n]*$/;
-
 /**
- * What a report says at its end: the degrees of freedom, and the standard deviation of one two-face
- * direction in mgon, or 'none'.
+ * How accurate a station is: the degrees of freedom, and the standard deviation of one two-face
+ * direction in mgon, which is empty where there are none.
  */
-export function accuracyIn(/** @type {string} */ report) {
-  const [, degrees, deviation] = report.match(ACCURACY) ?? [];
+export function accuracyIn(/** @type {string} */ text) {
+  const [{ degrees, deviation }] = rowsIn(text);
   return { degrees: Number(degrees), deviation };
 }
 
-/** The standard deviation that a report says, in mgon; empty where there is none. */
-export function deviationIn(/** @type {string} */ report) {
-  const { degrees, deviation } = accuracyIn(report);
-  return degrees > 0 ? deviation : '';
-}
+/**
+ * The verdict on a table, field by field, as the call wrote it: that it agrees, or the name of the
+ * fault; of which row, columns, target or observation that speaks; how far the table is apart, and
+ * the limit, in units of 0.001 mgon.
+ * @typedef {Record<string, string>} Verdict
+ */
 
 /**
  * A target that a set reads in both faces, as the report has it: in gon what was read in face I and

@@ -1,10 +1,10 @@
 // The results of a station, on its card and in its protocol.
 import { ACCEPTED } from './answers.js';
 import { element, ofProgram } from './elements.js';
-import { decimalsIn, originalOf } from './files.js';
+import { columnsIn, decimalsIn, originalOf } from './files.js';
 import { hasZeniths } from './notes.js';
 import { showPicture } from './picture.js';
-import { accuracyIn, deviationIn, differencesIn, readingsOf, residualsIn } from './records.js';
+import { differencesIn, readingsOf, residualsIn } from './records.js';
 import { showMeaning } from './refusals.js';
 import { readingsTables, zenithsTables } from './readings.js';
 import {
@@ -70,12 +70,12 @@ function sectionsOfReadings({ station, results: { report, zeniths } }, isOnPaper
  */
 function sectionsOf(card, isOnPaper) {
   const { station, results, answers } = card;
-  const { directions, residuals, report } = results;
+  const { directions, residuals, accuracy } = results;
   /** @type {Section[]} */
-  const sections = answers.flatMap(({ differences, other }) => differences && other ? [{
+  const sections = answers.flatMap(({ differences, other, note }) => differences && other ? [{
     title: text('differences', { name: other.shown }),
     fill(part) {
-      differencesTable(differencesIn(differences), decimalsIn(other), part);
+      differencesTable(differencesIn(differences), decimalsIn(other, columnsIn(note)), part);
       element('p', text('differencesNote'), part, { className: 'quiet note' });
     },
   }] : []);
@@ -88,13 +88,13 @@ function sectionsOf(card, isOnPaper) {
   });
   if (residuals.status === ACCEPTED) {
     const read = residualsIn(residuals.line);
-    const deviation = report.status === ACCEPTED ? deviationIn(report.line) : '';
+    const deviation = accuracy?.deviation ?? '';
     /** @type {Section} */
     const table = {
       title: text('residuals'),
       fill(part) {
         residualsTable(read, part);
-        if (report.status === ACCEPTED) accuracyNote(accuracyIn(report.line), part);
+        if (accuracy) accuracyNote(accuracy, part);
       },
     };
     /** @type {Section} */

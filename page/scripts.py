@@ -14,15 +14,18 @@ from pathlib import Path
 HERE = Path(__file__).resolve().parent
 
 # The modules of each script, in the order in which they need each other: of the worker, which needs
-# no page around it; of the page; and of the residuals of a station in a file of their own.
+# no page around it; of the page; what is run later in it, which needs the page's; and of the residuals
+# of a station in a file of their own.
 SCRIPTS = {
     "calls": ["calls.js", "numbers.js", "packed.js", "records.js", "zeniths.js", "worker.js"],
     "page": [
-        "texts.js", "numbers.js", "records.js", "zeniths.js", "files.js", "packed.js", "stored.js", "work.js",
-        "limits.js", "notes.js", "place.js", "answers.js", "changes.js", "elements.js", "tables.js", "readings.js", "picture.js",
-        "faults.js", "headlines.js", "results.js", "refusals.js", "overview.js", "protocol.js",
-        "drawing.js", "cards.js", "gather.js", "workbook.js", "page.js",
+        "texts.js", "numbers.js", "records.js", "zeniths.js", "files.js", "packed.js", "stored.js",
+        "work.js", "limits.js", "notes.js", "place.js", "answers.js", "changes.js", "elements.js",
+        "tables.js",
+        "faults.js", "headlines.js", "refusals.js", "overview.js", "drawing.js", "cards.js",
+        "gather.js", "workbook.js", "page.js",
     ],
+    "later": ["repairs.js", "readings.js", "picture.js", "results.js", "protocol.js"],
     "residuals": [
         "texts.js", "numbers.js", "records.js", "elements.js", "tables.js", "picture.js",
         "residuals.js",

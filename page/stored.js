@@ -4,10 +4,10 @@ import { TEXTS } from './texts.js';
 
 /**
  * The texts of the page by their names, the texts of faults by their languages and names, the files
- * of the example by theirs, and the script of the worker.
+ * of the example by theirs, the script that is run later, and that of the worker.
  * @typedef {{ texts: Record<string, Record<string, string>>,
  *   refusals: Record<string, Record<string, import('./faults.js').Texts>>,
- *   example: Record<string, string>, calls: string }} Stored
+ *   example: Record<string, string>, later: string, calls: string }} Stored
  */
 
 /** What stands in a part of the page. */
@@ -24,10 +24,12 @@ async function read() {
 /** All that is stored: unpacked once. */
 export const stored = () => whole ??= read();
 
-/** Has the texts of the page at hand. */
-export async function readTexts() {
-  const { texts } = await stored();
+/** Has the texts of the page at hand, and the rest of its script, which nothing needs before. */
+export async function readRest() {
+  const { texts, later } = await stored();
   Object.assign(TEXTS, texts);
+  const script = Object.assign(document.createElement('script'), { textContent: later });
+  document.body.append(script);
 }
 
 /** The files of the example, as if they were dropped. */

@@ -1,7 +1,6 @@
 // The results of a station as tables: targets as rows, and sets as columns, in groups that fit on a
 // page.
 import { element, tableOf } from './elements.js';
-import { FACE, decimal } from './numbers.js';
 import { each, greatestOf, pairsOf, recordsOf, sizeOf } from './records.js';
 import { numeral, signedNumeral, text } from './texts.js';
 
@@ -113,7 +112,7 @@ export function residualsTable(residuals, parent) {
 }
 
 /**
- * The standard deviation, as the report has it.
+ * The standard deviation, as the call wrote it.
  * @param {{ degrees: number, deviation: string }} accuracy
  * @param {Element} parent
  */
@@ -134,18 +133,17 @@ export function facesTables(/** @type {Station} */ station, /** @type {Element} 
   const pairs = pairsOf(station.listed);
   const sets = each(pairs.map(pair => pair.set)), targets = each(pairs.map(pair => pair.target));
   for (const [name, caption] of FACES) {
-    const greatest = Math.max(...pairs.map(pair => Math.abs(pair[name])));
+    const greatest = pairs.map(pair => pair[name]).reduce((a, b) => sizeOf(b) > sizeOf(a) ? b : a);
     const byPlace = new Map(pairs.map(pair => [`${pair.set} ${pair.target}`, pair[name]]));
-    const mgon = (/** @type {number} */ units) => decimal(BigInt(units), BigInt(FACE), 2);
     /** @type {(set: string, target: string) => Cell | undefined} */
     const cell = (set, target) => {
-      const units = byPlace.get(`${set} ${target}`);
-      if (units === undefined) return undefined;
-      const mark = Math.abs(units) === greatest ? 'greatest' : '';
-      return { text: signedNumeral(mgon(units)), mark };
+      const mgon = byPlace.get(`${set} ${target}`);
+      if (mgon === undefined) return undefined;
+      const mark = sizeOf(mgon) === sizeOf(greatest) ? 'greatest' : '';
+      return { text: signedNumeral(mgon), mark };
     };
     const part = element('div', '', around);
-    bySets(text(caption, { size: mgon(greatest) }), targets, sets, cell, part, 'numbers');
+    bySets(text(caption, { size: greatest.replace('-', '') }), targets, sets, cell, part, 'numbers');
   }
 }
 
@@ -160,6 +158,5 @@ export const csv = (/** @type {string[][]} */ rows) =>
 /** The face differences as a file: in mgon. */
 export const facesFile = (/** @type {Station} */ station) => csv([
   ['set', 'target', '2c mgon', '2i mgon'],
-  ...pairsOf(station.listed).map(({ set, target, twoC, twoI }) =>
-    [set, target, ...[twoC, twoI].map(units => decimal(BigInt(units), BigInt(FACE), 2))]),
+  ...pairsOf(station.listed).map(({ set, target, twoC, twoI }) => [set, target, twoC, twoI]),
 ]);

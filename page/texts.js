@@ -6,6 +6,12 @@ import { signed } from './numbers.js';
 export const LANGUAGES = { en: 'English', de: 'Deutsch', fr: 'Français' };
 
 /**
+ * How each language writes a date; English as it does where angles are in gon.
+ * @type {Record<string, string>}
+ */
+export const DATES = { en: 'en-GB', de: 'de', fr: 'fr' };
+
+/**
  * Each text by its name. `{word}` is filled in; before `|` stands the text for one, then that for
  * more. The blanks of French signs are made narrow where it is spoken.
  * @type {Record<string, Record<string, string>>}
@@ -100,6 +106,24 @@ export const TEXTS = {
     fr: 'non utilisé : ni fichier de terrain, ni résultat exact, ni table de directions',
   },
   belongsTo: { en: 'Station of {name}', de: 'Station von {name}', fr: 'Station de {name}' },
+  unitOf: { en: 'Unit of the directions in {name}', de: 'Einheit der Richtungen in {name}', fr: 'Unité des directions de {name}' },
+  unitGon: { en: 'gon', de: 'gon', fr: 'gon' },
+  unitDegrees: { en: 'degrees (360°)', de: 'Grad (360°)', fr: 'degrés (360°)' },
+  unitDmmss: { en: 'degrees as D.MMSS', de: 'Grad als G.MMSS', fr: 'degrés en D.MMSS' },
+  columnsOf: { en: 'Columns of {name}', de: 'Spalten von {name}', fr: 'Colonnes de {name}' },
+  columnsFit: {
+    en: 'Columns {first} and {second} both fit.', de: 'Die Spalten {first} und {second} passen beide.',
+    fr: 'Les colonnes {first} et {second} conviennent toutes deux.',
+  },
+  nameColumn: { en: 'Targets in column', de: 'Ziele in Spalte', fr: 'Points visés en colonne' },
+  directionColumn: { en: 'Directions in column', de: 'Richtungen in Spalte', fr: 'Directions en colonne' },
+  readColumns: { en: 'Read these columns', de: 'Diese Spalten lesen', fr: 'Lire ces colonnes' },
+  findColumns: { en: 'Find the columns', de: 'Spalten suchen', fr: 'Chercher les colonnes' },
+  columnsRead: {
+    en: 'Read: targets in column {names}, directions in column {directions}. Rows passed over: {before} before the targets, {among} among them, {after} after them. Units passed over: {units}.',
+    de: 'Gelesen: Ziele in Spalte {names}, Richtungen in Spalte {directions}. Übergangene Zeilen: {before} vor den Zielen, {among} dazwischen, {after} danach. Übergangene Einheiten: {units}.',
+    fr: 'Lu : points visés en colonne {names}, directions en colonne {directions}. Lignes laissées de côté : {before} avant les points, {among} entre eux, {after} après. Unités laissées de côté : {units}.',
+  },
   byName: { en: 'found automatically', de: 'automatisch gefunden', fr: 'trouvée automatiquement' },
   labelled: { en: '{label}: {said}', de: '{label}: {said}', fr: '{label} : {said}' },
   limits: { en: 'Limits', de: 'Grenzwerte', fr: 'Limites' },
@@ -212,9 +236,9 @@ export const TEXTS = {
     fr: 'Accepté. Plus grand résidu {size} mgon, série {set}, {target}.',
   },
   acceptedZero: {
-    en: 'Accepted. All residuals are 0.',
-    de: 'Bestätigt. Alle Verbesserungen sind 0.',
-    fr: 'Accepté. Tous les résidus sont nuls.',
+    en: 'Accepted. All residuals are 0.000 mgon.',
+    de: 'Bestätigt. Alle Verbesserungen sind 0,000 mgon.',
+    fr: 'Accepté. Tous les résidus sont de 0,000 mgon.',
   },
   oneSet: {
     en: 'One set: its residuals are 0 whatever was read.',
@@ -227,7 +251,6 @@ export const TEXTS = {
     de: 'Stimmt überein. {n} Ziel weicht höchstens {apart} mgon von den ausgeglichenen Richtungen ab; der Grenzwert ist {limit} mgon.|Stimmt überein. {n} Ziele weichen höchstens {apart} mgon von den ausgeglichenen Richtungen ab; der Grenzwert ist {limit} mgon.',
     fr: 'Conforme. {n} point visé à {apart} mgon près des directions des moindres carrés ; la limite est {limit} mgon.|Conforme. {n} points visés à {apart} mgon près des directions des moindres carrés ; la limite est {limit} mgon.',
   },
-  agreesBare: { en: 'Agrees.', de: 'Stimmt überein.', fr: 'Conforme.' },
   residualKept: {
     en: 'Greatest residual {size} mgon, set {set}, {target}: within the limit of {limit} mgon.',
     de: 'Größte Verbesserung {size} mgon, Satz {set}, {target}: innerhalb des Grenzwerts von {limit} mgon.',
@@ -396,14 +419,35 @@ export const TEXTS = {
     de: 'Block {block} von {name} in einer Kopie ändern',
     fr: 'Changer le bloc {block} de {name} dans une copie',
   },
+  changeLines: {
+    en: 'Change lines of {name} in a copy',
+    de: 'Zeilen von {name} in einer Kopie ändern',
+    fr: 'Changer des lignes de {name} dans une copie',
+  },
   reason: {
-    en: 'Why is this line changed in a copy?',
-    de: 'Warum wird diese Zeile in einer Kopie geändert?',
-    fr: 'Pourquoi changer cette ligne dans une copie ?',
+    en: 'Why is this changed in a copy?',
+    de: 'Warum wird das in einer Kopie geändert?',
+    fr: 'Pourquoi ce changement dans une copie ?',
   },
   leaveLineOut: { en: 'Leave this line out', de: 'Diese Zeile weglassen', fr: 'Omettre cette ligne' },
   newName: { en: 'or rename its point to', de: 'oder ihren Punkt umbenennen in', fr: 'ou renommer son point en' },
   renamePoint: { en: 'Rename', de: 'Umbenennen', fr: 'Renommer' },
+  proposedLastSet: {
+    en: 'Proposed by the page, which is not proved: the last set seems to be broken off. See its line:|Proposed by the page, which is not proved: the last set seems to be broken off. See its {n} lines:',
+    de: 'Vorschlag der Seite, nicht bewiesen: Der letzte Satz ist wohl abgebrochen. Sehen Sie seine Zeile an:|Vorschlag der Seite, nicht bewiesen: Der letzte Satz ist wohl abgebrochen. Sehen Sie seine {n} Zeilen an:',
+    fr: 'Proposé par la page, non prouvé : la dernière série semble interrompue. Voyez sa ligne :|Proposé par la page, non prouvé : la dernière série semble interrompue. Voyez ses {n} lignes :',
+  },
+  proposedClosing: {
+    en: 'Proposed by the page, which is not proved: this seems to be a closing sight. See the line:|Proposed by the page, which is not proved: these seem to be closing sights. See the {n} lines:',
+    de: 'Vorschlag der Seite, nicht bewiesen: Das ist wohl eine Abschlussvisur (Horizontschluss). Sehen Sie die Zeile an:|Vorschlag der Seite, nicht bewiesen: Das sind wohl Abschlussvisuren (Horizontschluss). Sehen Sie die {n} Zeilen an:',
+    fr: 'Proposé par la page, non prouvé : il s’agit sans doute d’une visée de fermeture. Voyez la ligne :|Proposé par la page, non prouvé : il s’agit sans doute de visées de fermeture. Voyez les {n} lignes :',
+  },
+  leaveLastSetOut: { en: 'Leave out the last set', de: 'Letzten Satz weglassen', fr: 'Omettre la dernière série' },
+  leaveClosingOut: {
+    en: 'Leave out the closing sights',
+    de: 'Abschlussvisuren weglassen',
+    fr: 'Omettre les visées de fermeture',
+  },
   needReason: {
     en: 'Write the reason first: it stands in the protocol and in the log.',
     de: 'Schreiben Sie zuerst den Grund: Er steht im Protokoll und im Log.',
@@ -441,12 +485,28 @@ export const TEXTS = {
     de: 'Block {block} weggelassen: {why}',
     fr: 'bloc {block} omis : {why}',
   },
+  lineOutOfSet: {
+    en: 'block {block} left out, of the last set: {why}|blocks {block} left out, of the last set: {why}',
+    de: 'Block {block} weggelassen, vom letzten Satz: {why}|Blöcke {block} weggelassen, vom letzten Satz: {why}',
+    fr: 'bloc {block} omis, de la dernière série : {why}|blocs {block} omis, de la dernière série : {why}',
+  },
+  lineOutClosing: {
+    en: 'block {block} left out, a closing sight: {why}|blocks {block} left out, closing sights: {why}',
+    de: 'Block {block} weggelassen, Abschlussvisur: {why}|Blöcke {block} weggelassen, Abschlussvisuren: {why}',
+    fr: 'bloc {block} omis, visée de fermeture : {why}|blocs {block} omis, visées de fermeture : {why}',
+  },
   lineNamed: {
     en: 'block {block}, point renamed to {name}: {why}',
     de: 'Block {block}, Punkt umbenannt in {name}: {why}',
     fr: 'bloc {block}, point renommé en {name} : {why}',
   },
   takeBack: { en: 'Take back', de: 'Zurücknehmen', fr: 'Annuler' },
+  lineByLine: { en: 'Line by line', de: 'Zeile für Zeile', fr: 'Ligne par ligne' },
+  lineCut: {
+    en: '.. (cut here: the line has {bytes} bytes)',
+    de: '.. (hier abgeschnitten: Die Zeile hat {bytes} Bytes)',
+    fr: '.. (coupé ici : la ligne a {bytes} octets)',
+  },
   keepBoth: {
     en: 'Keep the copy and the log beside the field file: the protocol has the digests of both.',
     de: 'Bewahren Sie Kopie und Log neben der Messdatei auf: Das Protokoll hat die Prüfsummen beider.',
@@ -804,9 +864,9 @@ export const TEXTS = {
   },
   aboutNot: { en: 'Not proved', de: 'Nicht bewiesen', fr: 'Non prouvé' },
   aboutNotSaid: {
-    en: 'That the page shows what the module answered, which files it takes together, and what it takes of a workbook (.xlsx): this is tested. That the greatest residual, with its three decimals, is held to your limit where no sheet is: tested too. The tools that make the module of what was proved, and the browser, are trusted. What was read in the field nobody can prove: see the residuals.',
-    de: 'Dass die Seite zeigt, was das Modul antwortet, welche Dateien sie zusammenfügt, und was sie einer Arbeitsmappe (.xlsx) entnimmt: Das ist getestet. Dass die größte Verbesserung mit ihren drei Dezimalen, wo kein Ergebnisblatt vorliegt, Ihren Grenzwert einhält: ebenso getestet. Den Werkzeugen, die aus dem Bewiesenen das Modul machen, und dem Browser wird vertraut. Ob im Feld richtig gemessen wurde, kann niemand beweisen: Das zeigen die Verbesserungen.',
-    fr: 'Que la page montre ce que le module répond, quels fichiers elle réunit, et ce qu’elle reprend d’un classeur (.xlsx) : cela est testé. Que le plus grand résidu, avec ses trois décimales, respecte votre limite là où il n’y a pas de résultat exact : testé aussi. On se fie aux outils qui font le module de ce qui est prouvé, et au navigateur. Ce qui a été lu sur le terrain, personne ne peut le prouver : voyez les résidus.',
+    en: 'That the page shows what the module answered, which files it takes together, which lines it proposes to leave out, and what it takes of a workbook (.xlsx): this is tested. That the greatest residual, with its three decimals, is held to your limit where no sheet is: tested too. The tools that make the module of what was proved, and the browser, are trusted. What was read in the field nobody can prove: see the residuals.',
+    de: 'Dass die Seite zeigt, was das Modul antwortet, welche Dateien sie zusammenfügt, welche Zeilen sie wegzulassen vorschlägt, und was sie einer Arbeitsmappe (.xlsx) entnimmt: Das ist getestet. Dass die größte Verbesserung mit ihren drei Dezimalen, wo kein Ergebnisblatt vorliegt, Ihren Grenzwert einhält: ebenso getestet. Den Werkzeugen, die aus dem Bewiesenen das Modul machen, und dem Browser wird vertraut. Ob im Feld richtig gemessen wurde, kann niemand beweisen: Das zeigen die Verbesserungen.',
+    fr: 'Que la page montre ce que le module répond, quels fichiers elle réunit, quelles lignes elle propose d’omettre, et ce qu’elle reprend d’un classeur (.xlsx) : cela est testé. Que le plus grand résidu, avec ses trois décimales, respecte votre limite là où il n’y a pas de résultat exact : testé aussi. On se fie aux outils qui font le module de ce qui est prouvé, et au navigateur. Ce qui a été lu sur le terrain, personne ne peut le prouver : voyez les résidus.',
   },
   aboutWho: { en: 'By whom', de: 'Von wem', fr: 'Par qui' },
   aboutWhoSaid: {

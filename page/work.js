@@ -3,8 +3,9 @@ import { bytesOfText } from './packed.js';
 import { part, stored } from './stored.js';
 
 /**
- * What a call answered: its status, its text, and what it said beside it, where it has two texts.
- * @typedef {{ status: number, bytes: Uint8Array, text: string, beside: string }} Reply
+ * What a call answered: its status, its text, what it said beside it, where it has two texts, and
+ * what the worker read of it.
+ * @typedef {{ status: number, bytes: Uint8Array, text: string, beside: string, told?: any }} Reply
  */
 
 /** What a call ends with that was stopped. */
@@ -14,6 +15,10 @@ const bytesOf = (/** @type {string} */ text) => new TextEncoder().encode(text);
 
 /** @type {Worker | undefined} */
 let worker;
+/** The numbers of the files that the worker has. */
+let handed = new WeakMap();
+/** Has the worker forget a file that is no longer here. */
+const gone = new FinalizationRegistry(file => worker?.postMessage({ forget: file }));
 /** The script of the worker, once it is unpacked. */
 let script = '';
 /** @type {Map<number, { resolve: Function, reject: Function }>} */
@@ -36,6 +41,7 @@ export async function start() {
   script ||= (await stored()).calls;
   const address = URL.createObjectURL(new Blob([script], { type: 'text/javascript' }));
   worker = new Worker(address);
+  handed = new WeakMap();
   worker.onmessage = ({ data: { id, answer, error } }) => {
     const { resolve, reject } = waiting.get(id) ?? {};
     waiting.delete(id);
@@ -60,16 +66,31 @@ export function stop() {
 }
 
 /**
+ * A file as the worker takes it: with its bytes the first time, and then by its number alone.
+ */
+function asHanded(/** @type {Uint8Array} */ bytes) {
+  const file = handed.get(bytes);
+  if (file) return { file };
+  handed.set(bytes, ++count);
+  gone.register(bytes, count);
+  return { file: count, bytes };
+}
+
+/**
  * Asks a proved call, with files as bytes, names as texts, numbers in their units, and flags.
  * @param {string} name
  * @param {(Uint8Array | string | number | boolean | null)[]} inputs
  * @returns {Promise<Reply>}
  */
 export async function ask(name, ...inputs) {
-  const given = inputs.map(input => typeof input === 'string' ? bytesOf(input) : input);
-  const { status, shown: [bytes, more = new Uint8Array()] } = await sent({ name, inputs: given });
+  const given = inputs.map(input => {
+    if (typeof input === 'string') return bytesOf(input);
+    return input instanceof Uint8Array ? asHanded(input) : input;
+  });
+  const { status, shown, told } = await sent({ name, inputs: given });
+  const [bytes = new Uint8Array(), more = new Uint8Array()] = shown;
   const [text, beside] = [bytes, more].map(one => new TextDecoder().decode(one));
-  return { status, bytes, text, beside: beside.trimEnd() };
+  return { status, bytes, text, beside: beside.trimEnd(), told };
 }
 
 /**

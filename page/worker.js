@@ -1,19 +1,35 @@
 // Answers one call after the other beside the page, so that no file holds the window.
 import { calls } from './calls.js';
 import { unpacked } from './packed.js';
-import { readingsIn } from './records.js';
+import { partsIn, stationsOf } from './records.js';
 import { anglesIn } from './zeniths.js';
 
 /** @type {Promise<WebAssembly.Module>} */
 let core;
+/**
+ * The files that were handed in, by their numbers.
+ * @type {Map<number, Uint8Array>}
+ */
+const files = new Map();
+
+/** What is passed to a call: a file is handed in once, and then it is told by its number. */
+function passed(/** @type {any} */ input) {
+  const { file, bytes } = input ?? {};
+  if (bytes instanceof Uint8Array && file) files.set(file, bytes);
+  return file ? files.get(file) : input;
+}
 
 /**
- * How many readings with a direction a field file has: its words may be many, and are counted here.
+ * The stations of a field file, and how many readings it has where it has none: its rows may be
+ * many, and are parted here.
+ * @type {(module: WebAssembly.Module, ...inputs: any[]) =>
+ *   Promise<import('./calls.js').Answered & { told?: object }>}
  */
-async function readings(/** @type {WebAssembly.Module} */ module, /** @type {Uint8Array} */ gsi) {
-  const { status, shown: [words] } = await calls.words(module, gsi);
-  const count = String(readingsIn(new TextDecoder().decode(words)));
-  return { status, shown: [new TextEncoder().encode(count)] };
+async function stations(module, ...inputs) {
+  const { status, shown } = await calls.listRows(module, ...inputs);
+  if (status !== 0) return { status, shown };
+  const { rows, unchecked } = partsIn(shown[0]);
+  return { status, shown: [], told: { stations: stationsOf(rows), readings: Number(unchecked) } };
 }
 
 /**
@@ -29,13 +45,14 @@ async function angles(module, gsi, name) {
 }
 
 /** @type {typeof calls} */
-const asked = { ...calls, readings, angles };
+const asked = { ...calls, stations, angles };
 
-onmessage = async ({ data: { module, id, name, inputs } }) => {
+onmessage = async ({ data: { module, id, name, inputs, forget } }) => {
+  if (forget) return files.delete(forget);
   try {
     if (module) core = unpacked(module).then(WebAssembly.compile);
-    const ready = await core;
-    postMessage({ id, answer: name && await asked[name](ready, ...inputs) });
+    const given = inputs?.map(passed), ready = await core;
+    postMessage({ id, answer: name && await asked[name](ready, ...given) });
   } catch (error) {
     postMessage({ id, error: String(error) });
   }

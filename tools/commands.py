@@ -26,7 +26,7 @@ PATHS = {"GSI", "SHEET", "TABLE"}
 HEADING = re.compile(r"^(Usage|Commands|Arguments|Options|Exit status):", re.MULTILINE)
 
 # An option or an operand in a long help text, and what is said of it below.
-ENTRY = re.compile(r"^ +(?:-\w, )?(--[\w-]+|<\w+>|\[\w+\]\S*)(?: <(\w+)>)?\n((?:^ {10}.*\n|^\s*\n)*)", re.MULTILINE)
+ENTRY = re.compile(r"^ +(?:-\w, )?(--[\w-]+|<\w+>|\[\w+\]\S*)(?: <([\w,=]+)>)?\n((?:^ {10}.*\n|^\s*\n)*)", re.MULTILINE)
 DEFAULT = re.compile(r"\s*\[default: (\w+)\]")
 RANGE = re.compile(r"(\d+) to (\d+)")
 

@@ -36,7 +36,9 @@ PRINTED = {
     "what `compare`, `differences` and `report --table` say of a field file and a table": ("table_answers", "Answers"),
     "`report --csv`": ("report_rows", "Stating"),
     "what `directions` and `report` say of a field file": ("station_answers", "Answers"),
-    "the copy with changed lines of the page and the library": ("changed_lines", "Answers"),
+    "what they say of all its stations": ("book_answers", "Answers"),
+    "`change`": ("changed_lines", "Answers"),
+    "the notes of `change`": ("station_change", "Notes"),
 }
 
 # More letters than most rows of the page have.

@@ -2,9 +2,10 @@
 worked from the exact fractions of its sheet."""
 
 import unittest
+from dataclasses import replace
 
 from program import ProgramTest
-from test_compare import P7, agrees, judged
+from test_compare import P7, agrees, judged, told
 from worked import refused
 
 # Each is a print, and how far it is apart with its limit, in units of 0.001 mgon, or its refusal.
@@ -31,7 +32,7 @@ PRINTS: list[tuple[str, bytes, tuple[int, int] | str]] = [
         b'"","target","direction"\n"1","TOWER",0\n"2","P3",64.5213375\n'
         b'"3","MAST",139.404538136161\n"4","P8",212.757195\n"5","CHURCH",278.860591707589\n'
         b'"6","P12",345.20918875\n',
-        "table row 2: Fields",
+        (1, 10),
     ),
     (
         "R's write.csv without them",
@@ -61,7 +62,7 @@ PRINTS: list[tuple[str, bytes, tuple[int, int] | str]] = [
         "LibreOffice, with a column and a row of blanks",
         b"Target,Direction,\nTOWER,0,\nP3,64.5213375,\nMAST,139.404538136161,\nP8,212.757195,\n"
         b"CHURCH,278.860591707589,\nP12,345.20918875,\n,,\n",
-        "table row 8: Name",
+        (1, 10),
     ),
     (
         "LibreOffice in German, computed cells with tabs",
@@ -86,13 +87,13 @@ PRINTS: list[tuple[str, bytes, tuple[int, int] | str]] = [
         "degrees with blanks",
         b"TOWER 0 00 00.00\nP3 58 04 09.13\nMAST 125 27 50.70\nP8 191 28 53.31\n"
         b"CHURCH 250 58 28.32\nP12 310 41 17.77\n",
-        "table row 1: Fields",
+        "table: Columns 2 3",
     ),
     (
         "an empty row below the titles",
         b"Ziel;Richtung\n;\nTOWER;0,00000\nP3;64,52134\nMAST;139,40454\nP8;212,75719\n"
         b"CHURCH;278,86059\nP12;345,20919\n",
-        "table row 2: Name",
+        (4, 10),
     ),
     (
         "a controller's list in German",
@@ -122,7 +123,7 @@ PRINTS: list[tuple[str, bytes, tuple[int, int] | str]] = [
         b"P7;P8;DIRECTION;212.757150;0,00030;212.757195;0.12;0.05;0.1;0.1\n"
         b"P7;CHURCH;DIRECTION;278.860730;0,00030;278.860592;0.12;0.05;0.1;0.1\n"
         b"P7;P12;DIRECTION;345.209140;0,00030;345.209189;0.12;0.05;0.1;0.1\n",
-        "table row 2: Fields",
+        "table: Columns 4 5",
     ),
     (
         "a report in HTML",
@@ -138,7 +139,7 @@ PRINTS: list[tuple[str, bytes, tuple[int, int] | str]] = [
         b"| Target | Direction |\n|---|---|\n| TOWER | 0.00000 |\n| P3 | 64.52134 |\n"
         b"| MAST | 139.40454 |\n| P8 | 212.75719 |\n| CHURCH | 278.86059 |\n"
         b"| P12 | 345.20919 |\n",
-        "table row 2: Fields",
+        (4, 10),
     ),
     (
         "Python's print of four decimals",
@@ -166,7 +167,7 @@ PRINTS: list[tuple[str, bytes, tuple[int, int] | str]] = [
         "Python's print with the unit",
         b"TOWER 0.00000 gon\nP3 64.52134 gon\nMAST 139.40454 gon\nP8 212.75719 gon\n"
         b"CHURCH 278.86059 gon\nP12 345.20919 gon\n",
-        "table row 1: Fields",
+        (4, 10),
     ),
     (
         "Octave's csvwrite of one column",
@@ -206,7 +207,7 @@ PRINTS: list[tuple[str, bytes, tuple[int, int] | str]] = [
         "pandas' to_csv with its row numbers",
         b",target,direction\n0,TOWER,0.0\n1,P3,64.5213375\n2,MAST,139.4045381361607\n"
         b"3,P8,212.757195\n4,CHURCH,278.86059170758926\n5,P12,345.20918875\n",
-        "table row 2: Fields",
+        (1, 10),
     ),
     (
         "pandas' to_string",
@@ -244,7 +245,7 @@ PRINTS: list[tuple[str, bytes, tuple[int, int] | str]] = [
         "a row of the standard deviation below",
         b"Ziel;Richtung\nTOWER;0,00000\nP3;64,52134\nMAST;139,40454\nP8;212,75719\n"
         b"CHURCH;278,86059\nP12;345,20919\n\ns0;0,00021\n",
-        "table row 8: Unknown",
+        (4, 10),
     ),
     (
         "blanks at the ends of lines",
@@ -261,11 +262,54 @@ PRINTS: list[tuple[str, bytes, tuple[int, int] | str]] = [
 ]
 
 
+# What is told of a print that was read by its columns: those of targets and of directions, the rows
+# that were passed over before the targets, among and after them, and the units behind numbers.
+TOLD = {
+    "R's write.csv with its row numbers": (2, 3, 1, 0, 0, 0),
+    "LibreOffice, with a column and a row of blanks": (1, 2, 1, 0, 1, 0),
+    "an empty row below the titles": (1, 2, 2, 0, 0, 0),
+    "a table of Markdown": (2, 4, 2, 0, 0, 0),
+    "Python's print with the unit": (1, 2, 0, 0, 0, 6),
+    "pandas' to_csv with its row numbers": (2, 3, 1, 0, 0, 0),
+    "a row of the standard deviation below": (1, 2, 1, 0, 1, 0),
+}
+
+# Of a print that is refused as it is: an option, and what then is said and told of it.
+STATED: list[tuple[str, str, tuple[int, int] | str, tuple[int, ...] | None]] = [
+    ("degrees with minutes and seconds after the point", "--dmmss", (1, 10), None),
+    ("degrees with signs", "--degrees", (1, 10), None),
+    ("degrees with blanks", "--degrees", (1, 10), (1, 2, 0, 0, 0, 0)),
+    ("its degrees with signs and blanks", "--degrees", (2, 10), None),
+    ("a network adjustment's table", "--columns=2,6", (1, 10), (2, 6, 1, 0, 0, 0)),
+    (
+        "a network adjustment's table",
+        "--columns=2,4",
+        "compare: Apart 0.152 mgon, limit 0.010 mgon",
+        (2, 4, 1, 0, 0, 0),
+    ),
+    ("a network adjustment's table", "--columns=2,3", "table row 2: Number", None),
+    ("a network adjustment's table", "--columns=2,11", "table row 2: Fields", None),
+    ("a network adjustment's table", "--columns=1,6", "table: Missing 1\nthe table lacks TOWER", None),
+    ("Octave's printf of six digits", "--within=0.5mgon", (329, 500), None),
+]
+
+
+def judged_print(name, table, said, counts, *options):
+    """A run over a print of P7."""
+    line = refused(said) if isinstance(said, str) else agrees(*said, 6, "P7")
+    run = judged(name, P7, table, line, *options, station="P7")
+    return replace(run, stderr=(told(counts) if counts else b"") + run.stderr)
+
+
 class ClientsTest(ProgramTest):
     def test_a_print_agrees_or_its_first_fault_is_named(self):
         for name, table, said in PRINTS:
-            line = refused(said) if isinstance(said, str) else agrees(*said, 6, "P7")
-            self.check([judged(name, P7, table, line, station="P7")])
+            self.check([judged_print(name, table, said, TOLD.get(name))])
+
+    def test_a_print_that_is_refused_as_it_is_agrees_by_an_option(self):
+        tables = {name: table for name, table, _ in PRINTS}
+        for name, option, said, counts in STATED:
+            self.check([judged_print(name, tables[name], said, counts, option)])
 
 
 if __name__ == "__main__":

@@ -75,12 +75,14 @@ LIMITED = ["check", "compare", "differences", "means", "directions", "report", "
 
 # The commands that have a limit of residuals, and those that read a field file and have none.
 HELD = ["check", "compare", "differences", "directions", "report"]
-NOT_HELD = ["means", "list", "words", "mark"]
+NOT_HELD = ["means", "list", "words", "mark", "change"]
 
 NO_MEMORY = (1, b"", b"refused: out of memory\n")
 
 # The status that the loader of shared libraries ends with.
 NOT_LOADED = 127
+
+NO_STATION = b"error: no station is named: name a STATION, or ask for all of them with '--all'\n"
 
 MORE = b"\nFor more information, try '--help'.\n"
 
@@ -156,6 +158,7 @@ class CommandLineTest(ProgramTest):
         for args, named in [
             *((of_file(command, ""), "<GSI>") for command in COMMANDS),
             (["mark", ""], "<GSI>"),
+            (["change", ""], "<GSI>"),
             (["check", EXAMPLE, ""], "<SHEET>"),
             (["compare", EXAMPLE, "S1", ""], "<TABLE>"),
             (["differences", EXAMPLE, "S1", ""], "<TABLE>"),
@@ -182,7 +185,7 @@ class CommandLineTest(ProgramTest):
         for command in COMMANDS:
             self.assert_answer((1, b"", refused("block 1: Read")), of_file(command, self.folder))
         self.assert_answer((1, b"", refused("sheet: Read")), ["check", EXAMPLE, self.folder])
-        for station, reason in [("S1", "table: Read"), ("S9", "no station")]:
+        for station, reason in [("S1", "table: Read"), ("S9", "no station\nthe file has S1")]:
             args = ["compare", EXAMPLE, station, self.folder]
             self.assert_answer((1, b"", refused(reason)), args)
 
@@ -208,7 +211,7 @@ class CommandLineTest(ProgramTest):
             self.assert_answer(expected, of_file(command, "/dev/null"))
         unfinished = 1, b"", refused("sheet row 1: Unfinished")
         self.assert_answer(unfinished, ["check", EXAMPLE, "/dev/null"])
-        missing = 1, b"", refused("table: Missing 1")
+        missing = 1, b"", refused("table: Missing 1", "the table lacks A")
         self.assert_answer(missing, ["compare", EXAMPLE, "S1", "/dev/null"])
 
     def test_limits_are_those_of_the_command_line(self):
@@ -237,9 +240,9 @@ class CommandLineTest(ProgramTest):
             (["list"], missing + b"  <GSI>\n"),
             (["means", "a"], missing + b"  <STATION>\n"),
             (["check", "a"], missing + b"  <SHEET>\n"),
-            (["directions", "a"], missing + b"  <STATION>\n"),
-            (["report", "a"], missing + b"  <STATION>\n"),
-            (["report", "--csv", "a"], missing + b"  <STATION>\n"),
+            (["directions", "a"], NO_STATION),
+            (["report", "a"], NO_STATION),
+            (["report", "--csv", "a"], NO_STATION),
             (["compare", "a"], missing + b"  <STATION>\n  <TABLE>\n"),
             (["compare", "a", "b"], missing + b"  <TABLE>\n"),
             (["differences", "a"], missing + b"  <STATION>\n  <TABLE>\n"),
@@ -327,12 +330,16 @@ class CommandLineTest(ProgramTest):
             *([command, "--residual=0.3", *COMMANDS[command][1:]] for command in HELD),
             ["compare", "--within=0.3", "a", "b", "c"],
             ["report", "--csv", "--sha256", "a", "b"],
+            ["report", "--decimal-comma", "a", "b"],
+            ["list", "--decimal-comma", "a"],
             ["report", "--within=1", "a", "b"],
             ["report", "--degrees", "a", "b"],
             ["mark", "--station=", "a"],
             ["mark", "--sets=41", "a"],
             ["mark", "--targets=P7=1", "--targets=P7=1", "a"],
             ["mark", "--station-code=10", "a"],
+            ["change", "--leave-out=x", "a"],
+            ["change", "--rename=1", "a"],
             ["explain", "nonsense"],
             ["explain", "FaceTwise"],
         ]:
@@ -377,10 +384,10 @@ class CommandLineTest(ProgramTest):
             (["list", "--help"], [b"0.01 mgon", b"--two-i <LIMIT>", b"[default: 20mgon]"]),
             (["compare", "--help"], [b"--within <LIMIT>", b"0.001 mgon", b"it is 0.01mgon;", b"<TABLE>"]),
             *(([command, "--help"], [b"--degrees", b"59-04-09.18"]) for command in ["compare", "differences", "report"]),
-            (["directions", "--help"], [b"--decimals <K>", b"[default: 6]", b"<STATION>"]),
-            (["differences", "--help"], [b"<TABLE>", b"--two-c <LIMIT>", b"in mgon with 3"]),
-            (["report", "--help"], [b"<STATION>", b"--two-c <LIMIT>", b"degrees of freedom", b"in mgon with 3"]),
-            (["report", "--help"], [b"--table <TABLE>", b"--within <LIMIT>", b"--sha256", b"--csv"]),
+            (["directions", "--help"], [b"--decimals <K>", b"[default: 6]", b"[STATION]", b"--all", b"--decimal-comma"]),
+            (["differences", "--help"], [b"<TABLE>", b"--two-c <LIMIT>", b"in mgon with 3", b"--decimal-comma"]),
+            (["report", "--help"], [b"[STATION]", b"--two-c <LIMIT>", b"degrees of freedom", b"in mgon with 3"]),
+            (["report", "--help"], [b"--table <TABLE>", b"--within <LIMIT>", b"--date <TEXT>", b"--note <KEY=TEXT>", b"--sha256", b"--signature", b"--csv", b"--decimal-comma"]),
             *(([COMMANDS[command][0], "--help"], FACE_DIFFERENCES) for command in LIMITED),
             (["words", "--help"], [b"GSI-8, GSI-16 or both"]),
             (["help", "words"], [b"GSI-8, GSI-16 or both"]),

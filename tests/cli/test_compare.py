@@ -4,6 +4,7 @@ tell; generated stations beside the model; `compare` accepts what `directions` p
 or more."""
 
 import unittest
+from dataclasses import replace
 from random import Random
 
 import model
@@ -19,9 +20,9 @@ from program import (
     answer_in_shell,
     answer_of,
 )
-from test_directions import TWO_PARTS, both_faces, three_sets
+from test_directions import ABOVE, TWO_PARTS, both_faces, three_sets
 from test_means import largest
-from worked import AGREES, STATION, TABLE, edited, field_file, refused, widened
+from worked import AGREES, PARTS, STATION, TABLE, edited, field_file, refused, widened
 
 STATIONS = 400 if SWEEP else 30
 
@@ -41,7 +42,8 @@ def agrees(within, limit, targets=2, station="S1", greatest=None, sets=None):
     sets is stated."""
     residual = "{}.{:03}".format(*divmod(GREATEST[station] if greatest is None else greatest, 1000))
     found = f"{how_far(within, limit)}, greatest residual {residual} mgon"
-    counted = f"{SETS[station] if sets is None else sets} sets, {targets} targets"
+    sets = SETS[station] if sets is None else sets
+    counted = f"{sets} set{'s' * (sets != 1)}, {targets} target{'s' * (targets != 1)}"
     return f"agrees {station}: {counted}, within {found}\n".encode()
 
 
@@ -271,13 +273,12 @@ PRINTED = [
 
 # Each is a table with a fault, and the fault.
 FAULTS = [
-    ("no bytes", b"", "table: Missing 1"),
-    ("no B", b"A,0\n", "table: Missing 2"),
-    ("no A", b"B,50.00003\n", "table: Missing 1"),
+    ("no bytes", b"", "table: Missing 1\nthe table lacks A"),
+    ("no B", b"A,0\n", "table: Missing 2\nthe table lacks B"),
+    ("no A", b"B,50.00003\n", "table: Missing 1\nthe table lacks A"),
     ("one column", b"A\nB\n", "table row 1: Fields"),
     ("three columns", b"A,0,0\nB,50.00003\n", "table row 1: Fields"),
     ("a blank column between", b"A,,0\nB,50.00003\n", "table row 1: Fields"),
-    ("two tabs", b"A\t\t0\nB\t\t50.00003\n", "table row 1: Fields"),
     ("a decimal comma", of_b(b"50,00003"), "table row 2: Fields"),
     ("decimal commas everywhere", b"A,0,0\nB,50,00003\n", "table row 1: Fields"),
     ("another separator", b"A,0\nB;50.00003\n", "table row 2: Fields"),
@@ -309,9 +310,8 @@ FAULTS = [
     ("A twice", TABLE + b"A,0.000000\n", "table row 3: Twice"),
     ("A twice with blanks around it", TABLE + b" A ,0.000000\n", "table row 3: Twice"),
     ("titles in the second row", TABLE[:2] + b"0\nName,Hz\n", "table row 2: Number"),
-    ("titles after titles", b"Name,Hz\nName,gon\n" + TABLE, "table row 2: Number"),
-    ("a target's row is none of titles", b"A,0 gon\nB,50 gon\n", "table row 1: Number"),
-    ("titles and no row of B", b"Name,Hz\nA,0\n", "table: Missing 2"),
+    ("a target's row is none of titles", b"A,0 g\nB,50 g\n", "table row 1: Number"),
+    ("titles and no row of B", b"Name,Hz\nA,0\n", "table: Missing 2\nthe table lacks B"),
     ("rows are counted, not lines", b"A,0\n\n\n\nB,x\n", "table row 2: Number"),
     ("a quote that is never closed", b'A,"0\nB,50.00003\n', "table row 1: Number"),
     ("the name before the number", b"A,0\n,5e\n", "table row 2: Name"),
@@ -319,6 +319,47 @@ FAULTS = [
     ("the range before the station's names", b"C,401\n", "table row 1: Range"),
     ("the first row before the second", b"A,401\nB\n", "table row 1: Range"),
     ("a row before what is missing", b"B,401\n", "table row 1: Range"),
+]
+
+# Each is a table that is read by a pair of its columns, as options say or the one that fits; and what
+# its note says: the two columns, the rows passed over before the targets, among and after them, and
+# the units.
+BY_COLUMNS = [
+    ("two tabs", b"A\t\t0\nB\t\t50.00003\n", [], (1, 3, 0, 0, 0, 0)),
+    ("titles after titles", b"Name,Hz\nName,gon\n" + TABLE, [], (1, 2, 2, 0, 0, 0)),
+    ("gon behind one number", b"A,0\nB,50.00003gon\n", [], (1, 2, 0, 0, 0, 1)),
+    ("a column of the unit", b"A;0;gon\nB;50,00003;gon\n", [], (1, 2, 0, 0, 0, 2)),
+    ("a text before them", b"Sets of S1\nfrom 7 h\nA;0\nB;50.00003\n", [], (1, 2, 2, 0, 0, 0)),
+    ("rows of separators", b"---;---\nA;0\n;\nB;50.00003\n===\n", [], (1, 2, 1, 1, 1, 0)),
+    ("a row of another name above", b"T;15.5\nA;0\nB;50.00003\n", [], (1, 2, 1, 0, 0, 0)),
+    ("a row of another name below", b"A;0\nB;50.00003\nT;15.5\n", [], (1, 2, 0, 0, 1, 0)),
+    ("the station in each row", b"7;A;I;0\n7;B;I;50.00003\n", [], (2, 4, 0, 0, 0, 0)),
+    ("the rows counted from 1", b"1 A 0\n2 B 50.00003\n", [], (2, 3, 0, 0, 0, 0)),
+    ("numbers of points", b"101;A;0\n7;B;50.00003\n", ["--columns=2,3"], (2, 3, 0, 0, 0, 0)),
+    ("an equals sign", b"A = 0\nB = 50.00003\n", [], (1, 3, 0, 0, 0, 0)),
+    ("both of two columns", b"A,0,1\nB,50.00003,2\n", ["--columns=1,2"], (1, 2, 0, 0, 0, 0)),
+    ("a first row of numbers", b"S;1;2\nA;0;1\nB;50.00003;2\n", ["--columns=1,2"], (1, 2, 1, 0, 0, 0)),
+    ("names after directions", b"Hz,V,To\n0,1,A\n50.00003,2,B\n", ["--columns=3,1"], (3, 1, 1, 0, 0, 0)),
+]
+
+# Each is a table whose columns can't be told or are stated wrongly, and its fault.
+NO_COLUMNS = [
+    ("two columns fit", b"A,0,1\nB,50.00003,2\n", [], "table: Columns 2 3"),
+    ("two columns of names", b"A,0,B\nB,50.00003,A\n", [], "table: Columns 1 3"),
+    ("numbers of points before names", b"101;A;0\n7;B;50.00003\n", [], "table: Columns 1 3"),
+    ("decimals in a column", b"A,0,000\nB,50,003\n", [], "table: Columns 2 3"),
+    ("a number of four digits beside", b"A,0,1000\nB,50.00003,1000\n", [], "table row 1: Fields"),
+    ("a hyphen beside", b"A,0,-\nB,50.00003,-\n", [], "table row 1: Fields"),
+    ("a minus by itself", b"A - 0\nB - 50.00003\n", [], "table row 1: Fields"),
+    ("the true minus by itself", "A \u2212 0\nB \u2212 50.00003\n".encode(), [], "table row 1: Fields"),
+    ("another unit", b"A 0 deg\nB 50.00003 deg\n", [], "table row 1: Fields"),
+    ("directions before names", b"0,A\n50.00003,B\n", [], "table row 2: Number"),
+    ("a name in another column", b"A 0 gon\nB 50.00003 gon\nto A\n", [], "table row 1: Fields"),
+    ("another name among them", b"A 0 gon\nC 1\nB 50.00003 gon\n", [], "table row 1: Fields"),
+    ("a target twice", b"A 0 gon\nB 50.00003 gon\nA 0\n", [], "table row 1: Fields"),
+    ("and by stated columns", b"A 0 gon\nB 50.00003 gon\nA 0\n", ["--columns=1,2"], "table row 3: Twice"),
+    ("no such column", b"A,0\nB,50.00003\n", ["--columns=1,3"], "table row 1: Fields"),
+    ("no names there", b"A,0\nB,50.00003\n", ["--columns=2,1"], "table: Missing 1\nthe table lacks A"),
 ]
 
 # The example's table in UTF-16: its first row is one of titles, and a byte 0 stands before the name
@@ -355,10 +396,17 @@ IN_DEGREES = [
         (f"B as {text!r}", of_b(text.encode()), refused("table row 2: Number"))
         for text in [
             *["45-0-0", "45-00-0", "45-0-00", "45-00", "45-", "-45-", "45--00-00", "45-00-00-00"],
-            *["45-60-00", "45-00-60", "45 0 0", "45 00 00", "45:00:00", "4500.00.00"],
+            *["45-60-00", "45-00-60", "45 0 0", "45:0:0", "45:00", "45:00-00", "4500.00.00"],
             *["0045-00-00", "-00-00", "45-00.5-00", "45-00-01e-05", "45-00-00N"],
-            *["45°", "45°00'", "45°00'00", "45°00-00", "45-00'00\"", "45° 00' 00\"", "45º00'00\""],
-            *["45°00\u203200\u2033", "45°00\u201900\u201d", "45°00'00''", "45d00m00s"],
+            *["45°", "45°00'", "45°00'00", "45°00-00", "45-00'00\"", "45º00'00\"", "45 °00'00\""],
+            *["45°00\u203300\u2032", "45°00\u201800\u201c", "45°00'00'", "45d00m00s"],
+        ]
+    ),
+    *(
+        (f"B as {text!r}", of_b(text.encode()), apart(15, 1))
+        for text in [
+            *["45 00 00", "45:00:00", "45° 00' 00\"", "45°00\u203200\u2033", "45°00\u201900\u201d"],
+            *["45°00'00''", "45°00'00\u2033", "45°\t00\u2032  00''"],
         ]
     ),
     *(
@@ -371,11 +419,11 @@ IN_DEGREES = [
 FILES = [
     ("GSI-16", widened(STATION), "S1", TABLE, AGREES),
     ("another unit", edited(STATION, (b"21.102", b"21.104")), "S1", b"", refused("block 3: Hz Unit")),
-    ("another station", STATION, "S2", b"", refused("no station")),
-    ("two parts", TWO_PARTS, "S1", TABLE, refused("adjust: NotConnected")),
-    ("two parts and a fault", TWO_PARTS, "S1", b"A,0\n", refused("table: Missing 2")),
-    ("half a circle", three_sets(20_000_000), "S1", TABLE, refused("adjust: Residual 5")),
-    ("above 2,000 half units", three_sets(3_001), "S1", TABLE, refused("adjust: Residual 5")),
+    ("another station", STATION, "S2", b"", refused("no station", "the file has S1")),
+    ("two parts", TWO_PARTS, "S1", TABLE, refused("adjust: NotConnected", PARTS)),
+    ("two parts and a fault", TWO_PARTS, "S1", b"A,0\n", refused("table: Missing 2\nthe table lacks B")),
+    ("half a circle", three_sets(20_000_000), "S1", TABLE, refused("adjust: Residual 5", ABOVE)),
+    ("above 2,000 half units", three_sets(3_001), "S1", TABLE, refused("adjust: Residual 5", ABOVE)),
     ("the largest residuals", three_sets(3_000), "S1", of_b(b"0.010001"), agrees(1, 10, greatest=10_000, sets=3)),
 ]
 
@@ -388,6 +436,14 @@ MISTAKES = ["1000001", "4294967297", "2.5", "0.0005mgon", "1000.001mgon"]
 TABLE_LIMITS = (
     "state mgon, as 0.05mgon: from 0mgon to 1000mgon, by 0.001;\nor units of 0.001 mgon: from 0 to 1000000\n"
 )
+
+
+def told(counts):
+    """The note of a table that was read by a pair of its columns."""
+    return (
+        b"note: table: targets in column %d, directions in column %d; rows passed over: "
+        b"%d before, %d among, %d after them; units passed over: %d\n" % counts
+    )
 
 
 def judged(name, file, table, line, *options, station="S1"):
@@ -408,6 +464,13 @@ class CompareTest(ProgramTest):
         self.check([judged(name, s1_of(b), table, line) for name, b, table, line in ROOM])
         faults = [*FAULTS, *IN_UTF_16]
         self.check([judged(name, STATION, table, refused(why)) for name, table, why in faults])
+
+    def test_a_table_is_read_by_the_columns_that_fit_or_are_stated(self):
+        for name, table, options, counts in BY_COLUMNS:
+            run = judged(name, STATION, table, AGREES_WITHIN_0, "--within=0", *options)
+            self.check([replace(run, stderr=told(counts))])
+        for name, table, options, why in NO_COLUMNS:
+            self.check([judged(name, STATION, table, refused(why), *options)])
 
     def test_a_table_in_degrees_agrees_or_its_first_fault_is_named(self):
         for name, table, line in IN_DEGREES:
@@ -437,6 +500,24 @@ class CompareTest(ProgramTest):
                 status, stdout, stderr = answer_of(args)
                 self.assertEqual((2, b""), (status, stdout))
                 self.assertTrue(stderr.startswith(message), stderr)
+
+    def test_a_text_that_states_no_columns_is_explained(self):
+        """By each command that reads a table, whatever else is stated."""
+        why = "two numbers of columns from 1, with a comma between, as 2,6"
+        files = [EXAMPLE, "S1", EXAMPLE_TABLE]
+        for text in ["", "xx", "1", "1,", "0,1", "1,2,3", "1;2", "1000000,1"]:
+            said = f"error: invalid value '{text}' for '--columns <TARGET,DIRECTION>': {why}\n".encode()
+            for args in [
+                ["compare", *files],
+                ["compare", "--within=10", "--dmmss", *files],
+                ["differences", *files],
+                ["report", EXAMPLE, "S1"],
+                ["report", "--csv", f"--table={EXAMPLE_TABLE}", EXAMPLE, "S1"],
+            ]:
+                with self.subTest(args, text=text):
+                    status, stdout, stderr = answer_of([args[0], f"--columns={text}", *args[1:]])
+                    self.assertEqual((2, b""), (status, stdout))
+                    self.assertTrue(stderr.startswith(said), stderr)
 
     def test_both_files_may_be_pipes(self):
         files = f"<(cat '{EXAMPLE}') S1 <(cat '{EXAMPLE_TABLE}')"
@@ -487,7 +568,8 @@ class CompareTest(ProgramTest):
         args = ["report", f"--table={path}", "--within=1000mgon", self.folder / "field.gsi", name]
         status, printed, said = answer_of(args)
         self.assertEqual((0, b""), (status, said))
-        self.assertIn(b"\nComparison            " + line, printed)
+        found = b"Comparison            agrees: 100 targets, within 1000.000 mgon"
+        self.assertIn(b"\n" + found + b"\n", printed)
 
     def test_the_largest_station(self):
         """Its directions in reverse, each but the last off by 40 units upward."""

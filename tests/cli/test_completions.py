@@ -19,26 +19,34 @@ ZSH = SHARE / "zsh" / "site-functions"
 FISH = SHARE / "fish" / "vendor_completions.d" / "station_check.fish"
 
 COMMANDS = [
-    *["compare", "differences", "directions", "report", "check", "means", "mark"],
+    *["compare", "differences", "directions", "report", "check", "means", "mark", "change"],
     *["list", "words"],
     *["explain", "help"],
 ]
 
 FACE_LIMITS = ["--two-c", "--two-i"]
 
+# The options that say how a table is read.
+TABLE_FORMS = ["--degrees", "--dmmss", "--columns"]
+
 # The options with a value that a command has for itself.
 OWN_OPTIONS = {
     "compare": ["--residual", "--within"],
     "directions": ["--residual", "--decimals"],
-    "report": ["--residual", "--table", "--degrees", "--within"],
+    "report": ["--residual", "--table", *TABLE_FORMS, "--within", "--date", "--note"],
     "check": ["--residual"],
 }
 
 # The flags of a command.
-FLAGS = {"compare": ["--sha256"], "directions": [], "report": ["--sha256", "--csv"], "check": ["--sha256"]}
+FLAGS = {
+    "compare": ["--sha256"],
+    "directions": ["--decimal-comma"],
+    "report": ["--sha256", "--signature", "--csv", "--decimal-comma"],
+    "check": ["--sha256"],
+}
 
 # Those that stand before its limits.
-FIRST_FLAGS = {"compare": ["--degrees"], "directions": [], "report": [], "check": []}
+FIRST_FLAGS = {"compare": TABLE_FORMS, "directions": ["--all"], "report": ["--all"], "check": []}
 
 # Asks the completion of bash for a line, whose last word may be empty.
 ASK_BASH = """
@@ -84,8 +92,8 @@ class CompletionsTest(ProgramTest):
                 self.assertEqual(text, path.read_text())
 
     def test_bash_completes_commands(self):
-        self.assertEqual(["check"], self.of_bash("ch"))
-        self.assertEqual(["compare", "check"], self.of_bash("c"))
+        self.assertEqual(["check"], self.of_bash("che"))
+        self.assertEqual(["compare", "check", "change"], self.of_bash("c"))
         self.assertEqual(COMMANDS, self.of_bash(""))
         self.assertEqual(COMMANDS, self.of_bash("help", ""))
         self.assertEqual([""], self.of_bash("nonsense", ""))
@@ -97,8 +105,8 @@ class CompletionsTest(ProgramTest):
             self.assertEqual(options, self.of_bash(command, "-"))
             self.assertEqual([""], self.of_bash(command, own[-1], ""))
         self.assertEqual(FACE_LIMITS, self.of_bash("check", "field.gsi", "--two"))
-        self.assertEqual([*FACE_LIMITS, "--csv", "--help"], self.of_bash("list", "-"))
-        of_differences = ["--degrees", *FACE_LIMITS, "--residual", "--help"]
+        self.assertEqual([*FACE_LIMITS, "--csv", "--decimal-comma", "--help"], self.of_bash("list", "-"))
+        of_differences = [*TABLE_FORMS, *FACE_LIMITS, "--residual", "--decimal-comma", "--help"]
         self.assertEqual(of_differences, self.of_bash("differences", "-"))
         self.assertEqual([*FACE_LIMITS, "--help"], self.of_bash("means", "-"))
         options = ["--station", "--same-set-up", "--again", "--station-code"]
@@ -148,18 +156,25 @@ class CompletionsTest(ProgramTest):
     @unittest.skipUnless(shutil.which("fish"), "no fish is found")
     def test_fish_completes(self):
         for line, expected in [
-            ("station_check ch", ["check"]),
+            ("station_check che", ["check"]),
             ("station_check ", sorted(COMMANDS)),
             ("station_check check --", ["--help", "--residual", "--sha256", *FACE_LIMITS]),
             (
                 "station_check compare --",
-                ["--degrees", "--help", "--residual", "--sha256", *FACE_LIMITS, "--within"],
+                [
+                    *["--columns", "--degrees", "--dmmss", "--help", "--residual", "--sha256"],
+                    *[*FACE_LIMITS, "--within"],
+                ],
             ),
-            ("station_check directions --", ["--decimals", "--help", "--residual", *FACE_LIMITS]),
+            (
+                "station_check directions --",
+                ["--all", "--decimal-comma", "--decimals", "--help", "--residual", *FACE_LIMITS],
+            ),
             (
                 "station_check report --",
                 [
-                    *["--csv", "--degrees", "--help", "--residual", "--sha256", "--table"],
+                    *["--all", "--columns", "--csv", "--date", "--decimal-comma", "--degrees", "--dmmss"],
+                    *["--help", "--note", "--residual", "--sha256", "--signature", "--table"],
                     *[*FACE_LIMITS, "--within"],
                 ],
             ),

@@ -60,6 +60,35 @@ def numbers(texts, most):
     return found.pop(None, None), found
 
 
+def columns(text):
+    """The columns of targets and of directions that are stated."""
+    names, directions = text.encode().split(b",")
+    return names, directions
+
+
+def line_number(text):
+    """The number of a line."""
+    if not re.fullmatch("[0-9]{0,10}", text) or int(text or 0) >= 2**32:
+        raise Mistake(text)
+    return int(text or 0)
+
+
+def renaming(text):
+    """The number of a line, and the name of its point."""
+    number, equals, name = text.partition("=")
+    if not equals or not model.is_name(name.encode()):
+        raise Mistake(text)
+    return line_number(number), name.encode()
+
+
+def note(text):
+    """What is noted in a report, and of what."""
+    found = model.note_in(text.encode())
+    if found is None:
+        raise Mistake(text)
+    return found
+
+
 def command_line():
     parser = Parser(allow_abbrev=False)
     of_faces = partial(limit, unit=model.FACE_UNIT, largest=model.LARGEST_LIMIT)
@@ -71,8 +100,12 @@ def command_line():
     of_tables = partial(limit, unit=model.TABLE_UNIT, largest=model.LARGEST_WITHIN)
     parser.add_argument("--within", type=of_tables)
     parser.add_argument("--station", type=str.encode)
+    parser.add_argument("--all", action="store_true")
     parser.add_argument("--csv", action="store_true")
-    parser.add_argument("--degrees", action="store_true")
+    parser.add_argument("--decimal-comma", action="store_true")
+    parser.add_argument("--degrees", action="store_const", const="degrees", dest="unit", default="gon")
+    parser.add_argument("--dmmss", action="store_const", const="dmmss", dest="unit")
+    parser.add_argument("--columns", type=columns)
     parser.add_argument("--table")
     parser.add_argument("--sha256", action="store_true")
     parser.add_argument("--sets", action="append", default=[])
@@ -81,6 +114,11 @@ def command_line():
     parser.add_argument("--same-set-up", action="store_true")
     parser.add_argument("--again", action="store_true")
     parser.add_argument("--station-code", type=str.encode)
+    parser.add_argument("--leave-out", action="append", type=line_number, default=[])
+    parser.add_argument("--rename", action="append", type=renaming, default=[])
+    parser.add_argument("--date", type=str.encode)
+    parser.add_argument("--note", action="append", type=note, default=[])
+    parser.add_argument("--signature", action="store_true")
     parser.add_argument("command", nargs="?")
     parser.add_argument("operands", nargs="*")
     return parser
@@ -88,6 +126,25 @@ def command_line():
 
 # Of each command, which of its operands are files.
 FILES = {"check": [0, 1], "compare": [0, 2], "differences": [0, 2]}
+
+def answer_of_all(asked, data, limits, fails, held, formed):
+    """What the model answers of all stations of a file, which nothing that is of one may stand
+    beside."""
+    of_one = [asked.table, asked.within, asked.columns, asked.sha256, asked.unit != "gon"]
+    if asked.command not in ["directions", "report"] or len(asked.operands) != 1 or any(of_one):
+        return (2, b"", b"")
+    if asked.command == "directions":
+        joined, one = model.named_directions, partial(model.directions, decimals=asked.decimals)
+    elif asked.csv:
+        joined, one = model.titled_once, partial(model.reported_rows, **formed)
+    else:
+        joined, one = model.paged, partial(model.reported, path=asked.operands[0].encode())
+
+    def of_name(name):
+        return one(data, name=name, limits=limits, **held)
+
+    return model.of_all(data, limits, fails, of_name, joined)
+
 
 # The commands that take a limit of residuals.
 HELD = ["check", "compare", "differences", "directions", "report"]
@@ -104,7 +161,13 @@ def model_answer(case):
         return (2, b"", b"")
     if asked.residual is not None and asked.command not in HELD:
         return (2, b"", b"")
+    if asked.decimal_comma and asked.command in ["list", "report"] and not asked.csv:
+        return (2, b"", b"")
+    notes = model.ReportNotes(asked.date, asked.note, asked.signature)
+    if notes != model.ReportNotes() and (asked.command != "report" or asked.csv):
+        return (2, b"", b"")
     limits, held = model.Limits(asked.two_c, asked.two_i), {"residual": asked.residual}
+    formed = {"decimal_comma": asked.decimal_comma}
     paths = [
         case.folder / name
         for place, name in enumerate(asked.operands)
@@ -121,11 +184,13 @@ def model_answer(case):
     if asked.command == "words":
         return model.words(files[0], fails[0])
     if asked.command == "list" and asked.csv:
-        return model.listed_rows(files[0], limits, fails[0])
+        return model.listed_rows(files[0], limits, fails[0], **formed)
     if asked.command == "list":
         return model.listed(files[0], limits, fails[0])
     if asked.command == "check":
         return model.check(*files, limits, fails=fails, **held)
+    if asked.command == "change":
+        return model.changed(files[0], asked.leave_out, asked.rename, fails[0])
     if asked.command == "mark":
         code = asked.station_code and model.name_of(asked.station_code)
         if code in (b"10", b"20", b"30") or not (code is None or model.is_name(code)):
@@ -134,22 +199,27 @@ def model_answer(case):
         own = own_sets, own_targets
         stated = model.StatedSets(sets, targets, asked.others, *own, **begins)
         return model.marked(files[0], asked.station, fails[0], stated)
+    if asked.all:
+        return answer_of_all(asked, files[0], limits, fails[0], held, formed)
+    if len(asked.operands) < 2:
+        return (2, b"", b"")
     station = asked.operands[1].encode()
+    form = model.TableForm(asked.unit, asked.columns)
     if asked.command == "means":
         return model.means(files[0], station, limits, fails[0])
     if asked.command == "directions":
-        return model.directions(files[0], station, limits, asked.decimals, fails[0], **held)
+        return model.directions(files[0], station, limits, asked.decimals, fails[0], **held, **formed)
     if asked.command == "differences":
-        return model.differences(files[0], station, files[1], limits, asked.degrees, fails, **held)
+        return model.differences(files[0], station, files[1], limits, form, fails, **held, **formed)
     if asked.command == "report" and asked.csv:
-        return model.reported_rows(files[0], station, limits, fails[0], **held)
+        return model.reported_rows(files[0], station, limits, fails[0], **held, **formed)
     if asked.command == "report":
         names = [name.encode() for name in [asked.operands[0], asked.table] if name]
-        units = asked.within, asked.degrees
+        units = asked.within, form
         stated = model.ReportTable(names[1], files[1], *units, fails[1]) if asked.table else None
-        report = model.reported(files[0], names[0], station, limits, fails[0], stated, **held)
+        report = model.reported(files[0], names[0], station, limits, fails[0], stated, **held, notes=notes)
         return model.with_digests(report, *zip(names, files)) if asked.sha256 else report
-    units = asked.within, asked.degrees
+    units = asked.within, form
     return model.compared(files[0], station, files[1], limits, *units, fails, **held)
 
 

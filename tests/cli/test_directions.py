@@ -9,7 +9,7 @@ from against_model import AgainstModel, Case
 from generated import SEED, station_to_adjust, table_of_station
 from program import EXAMPLE, SWEEP, ProgramTest, Run, answer_of
 from test_means import largest
-from worked import STATION, TABLE, edited, field_file, refused, widened
+from worked import JOB, PARTS, STATION, TABLE, edited, field_file, refused, widened
 
 DIRECTIONS = ["directions", "{file}", "S1"]
 
@@ -29,6 +29,12 @@ def three_sets(last):
     """Two sets with A and B at 0, and one in which B is further."""
     of_b = enumerate([0, 0, last], 1)
     return field_file({number: [both_faces("A", 0), both_faces("B", hz)] for number, hz in of_b})
+
+
+def many_stations(count):
+    """The stations S1, S2 and so on, one after the other."""
+    names = [f"S{number}".rjust(8, "0").encode() for number in range(1, count + 1)]
+    return b"".join(edited(STATION, (b"000000S1", name)) for name in names)
 
 
 TWO_PARTS = field_file({1: [both_faces("A", 0)], 2: [both_faces("B", 0)]})
@@ -59,15 +65,29 @@ TABLES = [
     ("residuals of 2,000 half units", three_sets(3_000), "4", b"A,0.0000\nB,0.0100\n"),
 ]
 
-# Each is a field file, the name of a station, and the fault.
+# What is told of eight stations, and of a job without codes.
+EIGHT = "the file has S1, S2, S3, S4, S5, S6, S7, S8"
+NOTHING_CHECKED = (
+    "note: nothing was checked: 8 readings stand in no set; "
+    "station_check mark puts codes into a copy"
+)
+
+# What is told of the last set of three, where B is further in it than the limit of residuals allows.
+ABOVE = "set 3, A: the greatest residual, above the limit of 10.000 mgon"
+
+# Each is a field file, the name of a station, and the fault, with what is told after its line.
 FAULTS = [
     ("no bytes", b"", "S1", "no station"),
-    ("another name", STATION, "S2", "no station"),
-    ("a part of a name", STATION, "S", "no station"),
+    ("another name", STATION, "S2", "no station\nthe file has S1"),
+    ("a part of a name", STATION, "S", "no station\nthe file has S1"),
+    ("more stations than a line names", many_stations(10), "S", f"no station\n{EIGHT} and 2 others"),
+    ("one more than a line names", many_stations(9), "S", f"no station\n{EIGHT} and 1 other"),
+    ("as many as a line names", many_stations(8), "S", f"no station\n{EIGHT}"),
+    ("a job without codes", JOB, "S1", f"no station\n{NOTHING_CHECKED}"),
     ("another unit", edited(STATION, (b"21.102", b"21.104")), "S2", "block 3: Hz Unit"),
-    ("two parts", TWO_PARTS, "S1", "adjust: NotConnected"),
-    ("half a circle", three_sets(20_000_000), "S1", "adjust: Residual 5"),
-    ("more than 2,000 half units in the last set", three_sets(3_001), "S1", "adjust: Residual 5"),
+    ("two parts", TWO_PARTS, "S1", f"adjust: NotConnected\n{PARTS}"),
+    ("half a circle", three_sets(20_000_000), "S1", f"adjust: Residual 5\n{ABOVE}"),
+    ("more than 2,000 half units in the last set", three_sets(3_001), "S1", f"adjust: Residual 5\n{ABOVE}"),
 ]
 
 AGREES_WITHIN_1 = (
@@ -142,7 +162,7 @@ class AdjustedTest(AgainstModel):
                     self.assertRegex(answer_of(compare, table)[1], AGREES_WITHIN_1)
                     agreed += 1
                 else:
-                    self.assertEqual(refused("adjust: NotConnected"), said)
+                    self.assertEqual(refused("adjust: NotConnected", PARTS), said)
         self.assertGreater(agreed, STATIONS // 2)
 
 

@@ -119,6 +119,7 @@ class DistTest(ProgramTest):
         self.check_module(place / "share/station_check", {})
         self.assertEqual("libstation_check.so.1", os.readlink(place / "lib/libstation_check.so"))
         self.assertTrue((place / "include/station_check.h").exists())
+        self.assertTrue((place / "lib/pkgconfig/station_check.pc").exists())
         note = (place / "share/doc/station_check/PROVED").read_text()
         self.assertRegex(note, r"\nSHA-256 of the library.*: [0-9a-f]{64}\n")
         packages = [path for name, path in made.items() if name.endswith(".deb")]
@@ -127,6 +128,7 @@ class DistTest(ProgramTest):
             output_of("dpkg-deb", "--raw-extract", package, root)
             self.check_module(root / "usr/lib/python3/dist-packages", {"LD_LIBRARY_PATH": str(root / "usr/lib")})
             self.assertEqual("activate-noawait ldconfig\n", (root / "DEBIAN/triggers").read_text())
+            self.assertTrue((root / "usr/share/pkgconfig/station_check.pc").exists())
             if shutil.which("lintian"):
                 self.check_by_lintian(package)
 

@@ -83,7 +83,8 @@ LIMITS = [
 RESIDUAL = Option("--residual", "1", "0", refusal("kernel: Residual 1"), ("0.0050mgon", "0.mgon"))
 
 # The same of the least-squares directions.
-ADJUSTED = RESIDUAL._replace(answer=refusal("adjust: Residual 1"))
+ABOVE_0 = "set 1, A: the greatest residual, above the limit of 0.000 mgon"
+ADJUSTED = RESIDUAL._replace(answer=refusal(f"adjust: Residual 1\n{ABOVE_0}"))
 
 APART_15 = refusal("compare: Apart 0.015 mgon, limit 0.014 mgon")
 

@@ -46,6 +46,7 @@ class EndsTest(ProgramTest):
             ["compare", self.field, "S1", self.table],
             ["differences", self.field, "S1", self.table],
             ["mark", "--station=S1", self.file("job.gsi", JOB)],
+            ["change", "--leave-out=1", self.field],
         ]
 
     def file(self, name, content):
@@ -79,7 +80,7 @@ class StreamsTest(EndsTest):
     def test_a_failing_standard_error_changes_no_status(self):
         folder = str(self.folder)
         read = [["words", folder], ["list", folder], ["means", folder, "S1"]]
-        read += [["mark", folder]]
+        read += [["mark", folder], ["change", folder]]
         of_two = [["check", self.field, folder]]
         of_two += [[command, self.field, "S1", folder] for command in ["compare", "differences"]]
         named = [[command, self.field, "S2"] for command in ["directions", "report"]]
@@ -127,12 +128,13 @@ class FilesTest(EndsTest):
             (["report", "--csv", folder, "S1"], "block 1: Read"),
             (["compare", folder, "S1", self.table], "block 1: Read"),
             (["compare", self.field, "S1", folder], "table: Read"),
-            (["compare", self.field, "S2", folder], "no station"),
+            (["compare", self.field, "S2", folder], "no station\nthe file has S1"),
             (["differences", folder, "S1", self.table], "block 1: Read"),
             (["differences", self.field, "S1", folder], "table: Read"),
-            (["differences", self.field, "S2", folder], "no station"),
+            (["differences", self.field, "S2", folder], "no station\nthe file has S1"),
             (["mark", folder], "block 1: Read"),
             (["mark", "--station=S1", folder], "block 1: Read"),
+            (["change", folder], "field file: Read"),
         ]:
             with self.subTest(args):
                 self.assertEqual(refused(reason), answer_of(args))
@@ -176,10 +178,10 @@ class FilesTest(EndsTest):
             (["report", "/dev/null", "S1"], refused("no station")),
             (["report", "--csv", "/dev/null", "S1"], refused("no station")),
             (["compare", "/dev/null", "S1", "/dev/zero"], refused("no station")),
-            (["compare", self.field, "S1", "/dev/null"], refused("table: Missing 1")),
+            (["compare", self.field, "S1", "/dev/null"], refused("table: Missing 1\nthe table lacks A")),
             (["compare", self.field, "S1", "/dev/zero"], refused("table: TooLong")),
             (["differences", "/dev/null", "S1", "/dev/zero"], refused("no station")),
-            (["differences", self.field, "S1", "/dev/null"], refused("table: Missing 1")),
+            (["differences", self.field, "S1", "/dev/null"], refused("table: Missing 1\nthe table lacks A")),
             (["differences", self.field, "S1", "/dev/zero"], refused("table: TooLong")),
         ]:
             with self.subTest(args):

@@ -28,7 +28,7 @@ FAULT_ROW = re.compile(r"^\| (`[^|]*`) \| ")
 WIDEST = 100
 
 # What the line of a refusal has before the name of its fault.
-PLACE = r"^(block \d+(: mark)?|(sheet|table)( row \d+)?|means|kernel|adjust|compare): "
+PLACE = r"^(block \d+(: mark|: change)?|field file|(sheet|table)( row \d+)?|means|kernel|adjust|compare): "
 
 
 def explained(*words):
@@ -84,12 +84,12 @@ class ExplainTest(ProgramTest):
         """The name of the fault in the line of a refusal, found in another way than the program's."""
         reason = line.removeprefix("refused: ")
         reason = re.sub(PLACE, "", reason)
-        return re.sub(r" (\d+|[0-9n.]+ mgon, limit [0-9n.]+ mgon)$", "", reason)
+        return re.sub(r"( \d+)+$| [0-9n.]+ mgon, limit [0-9n.]+ mgon$", "", reason)
 
     def test_each_kind_of_refusal_is_explained(self):
         others = ["cannot open", "already there", "write failed", "out of memory"]
         kinds = [*REFUSALS, *OF_COUNTS, *OF_BYTES, *OF_READS, *NEVER_MET, *others]
-        found = {self.name_in(kind.replace(" n", " 1")) for kind in kinds}
+        found = {self.name_in(re.sub(r" n\b", " 1", kind)) for kind in kinds}
         self.assertEqual(found, set(names()))
 
     def test_each_fault_of_the_formats_is_explained(self):
@@ -97,7 +97,7 @@ class ExplainTest(ProgramTest):
         self.assertGreater(len(found), 40)
         known = set(names())
         for name in found:
-            name = re.sub(r" n$", "", name)
+            name = re.sub(r"( m)? n$", "", name)
             if name.endswith(" FAULT"):
                 continue
             with self.subTest(name):
@@ -138,12 +138,14 @@ class ExplainTest(ProgramTest):
             ("Hz Unit", ["block 3: Hz Unit", "refused: block 3: Hz Unit", "Zenith Unit"]),
             ("WordTwice", ["WordTwice 42", "refused: block 1: WordTwice 42"]),
             ("no station", ["refused: no station"]),
-            ("Read", ["sheet: Read", "table: Read", "refused: block 1: Read"]),
+            ("Read", ["sheet: Read", "table: Read", "refused: block 1: Read", "refused: field file: Read"]),
             ("Range", ["sheet row 3: Range", "refused: table row 2: Range"]),
             ("Missing", ["Missing 2", "refused: table: Missing 2"]),
             ("Residual", ["kernel: Residual 1", "refused: adjust: Residual 1"]),
             ("OneSet", ["mark: OneSet", "refused: block 4: mark: OneSet"]),
             ("TooManySets", ["refused: block 164: mark: TooManySets"]),
+            ("NameTooLong", ["refused: block 1: mark: NameTooLong", "refused: block 9: change: NameTooLong"]),
+            ("NoSuchLine", ["change: NoSuchLine", "refused: block 62: change: NoSuchLine"]),
             ("Apart", ["Apart 15", f"compare: {APART_15}", f"refused: compare: {APART_15}"]),
             ("out of memory", ["refused: out of memory"]),
             ("cannot open", ["Cannot open"]),

@@ -14,7 +14,7 @@ import test_generated
 import test_mark
 from against_model import FIELD, SHEET, TABLE, sample
 from program import PROGRAM, SWEEP, ProgramTest, answer_to, side_by_side
-from worked import JOB
+from worked import JOB, refused
 
 # The words of each command; without words the field file is standard input. The report has the names
 # of its files in it, which stand in the folder of the run.
@@ -188,13 +188,14 @@ class FailingEndsTest(ProgramTest):
         )
 
     def test_a_residual_that_is_refused_meets_no_output(self):
-        refused = (1, b"", b"refused: adjust: Residual 1\n")
-        self.check_all((command, {"WRITE_ROOM": 0}, refused) for command in HELD)
+        hint = "set 1, A: the greatest residual, above the limit of 0.000 mgon"
+        answer = (1, b"", refused("adjust: Residual 1", hint))
+        self.check_all((command, {"WRITE_ROOM": 0}, answer) for command in HELD)
 
     def test_a_table_that_fails_is_looked_at_after_its_station_was_found(self):
         for field, expected in [
             (FIELD.replace(b"410012", b"4100 2"), b"refused: block 12: Word 1\n"),
-            (FIELD.replace(b"S1", b"S2"), b"refused: no station\n"),
+            (FIELD.replace(b"S1", b"S2"), refused("no station", "the file has S2")),
             (FIELD.replace(b"0B", b"0C"), b"refused: table: Read\n"),
         ]:
             with self.subTest(expected):

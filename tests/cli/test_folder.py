@@ -1,6 +1,6 @@
 """examples/check_folder.py over a thousand files, some refused or missing: names, capitals or stations
-that could hide that a sheet is missing; tables in gon and in degrees; jobs without codes; what it
-may write over and remove; names that would control a terminal; pipes."""
+that could hide that a sheet is missing; tables in gon and in degrees, and of more columns; jobs
+without codes; what it may write over and remove; names that would control a terminal; pipes."""
 
 import os
 import shutil
@@ -10,6 +10,7 @@ import unittest
 
 from pages import tools
 from program import ROOT, ProgramTest
+from test_compare import told
 from worked import (
     ACCEPTED,
     DIFFERENCES,
@@ -66,6 +67,18 @@ IN_DEGREES = [
     b"A,0.000000\nB,45.000027\n",
     b"A,0-00-00.0\nB,45-00-00.1\n",
     "A,0°00'00.0\"\nB,45°00'00.1\"\n".encode(),
+]
+
+# Tables of the example that are told from sheets and read by options or by their columns: each with
+# its options, how far it is apart with its limit, and the numbers of its note.
+OF_MORE_FORMS = [
+    (b"A,0:00:00.0\nB,45:00:00.1\n", ["--degrees"], 1, 21, None),
+    ("A;0° 00′ 00.0″\nB;45° 00′ 00.1″\n".encode(), ["--degrees"], 1, 21, None),
+    (b"A,0.00000\nB,45.00001\n", ["--dmmss"], 1, 21, None),
+    (b"A 0.000000 gon\nB 50.000030 gon\n", [], 0, 10, (1, 2, 0, 0, 0, 2)),
+    (b"| A | 0.000000 |\n| B | 50.000030 |\n", [], 0, 10, (2, 4, 0, 0, 0, 0)),
+    (b'"","t","d"\n"1","A",0\n"2","B",50.00003\n', [], 0, 10, (2, 3, 1, 0, 0, 0)),
+    (b"A;7;0.00000\nB;8;50.00003\n", ["--columns=1,3"], 0, 10, (1, 3, 0, 0, 0, 0)),
 ]
 
 # The rows of the example that station_check prints or its page saves, and where they are from.
@@ -314,6 +327,23 @@ class FolderTest(ProgramTest):
         said = [f"job: {ACCEPTED_S1}", f"job.directions: {APART.format(1, 0)}"]
         self.assertEqual((1, said), (status, lines[:2]))
 
+    def test_tables_of_more_forms_and_columns(self):
+        """What is told of columns is printed, and an answer that begins with it is one of before."""
+        for table, options, within, limit, counts in OF_MORE_FORMS:
+            with self.subTest(table=table):
+                files = {"job.gsi": STATION, "job.csv": table}
+                lines = [f"job: {AGREES.format(within, limit)}"]
+                lines += [f"job: {told(counts).decode().rstrip()}"] if counts else []
+                lines.append(SUMMARY.format(1, 1, 0, 0, 0) + TABLES.format(1, 0, 0))
+                self.assertEqual((0, lines), self.answers(files, *options))
+        numbered = b"1;A;0\n2;B;50.00005\n"
+        lines = [f"job: {APART.format(10, 5)}", f"job: {told((2, 3, 0, 0, 0, 0)).decode().rstrip()}"]
+        lines += [f"job: {MISSING.format('S1')}", SUMMARY.format(0, 1, 0, 0, 0) + TABLES.format(0, 1, 0)]
+        files = {"job.gsi": STATION, "job.csv": numbered}
+        for _ in range(2):
+            self.assertEqual((1, lines), self.answers(files, "--within=5"))
+            files["job.answer"] = (self.folder / "files" / "job.answer").read_bytes()
+
     def test_a_job_without_codes_is_not_done_and_the_note_of_list_is_printed(self):
         note = "note: nothing was checked: 8 readings stand in no set; "
         note += "station_check mark puts codes into a copy"
@@ -495,7 +525,7 @@ class FolderTest(ProgramTest):
         self.assertEqual((2, []), (status, lines))
         self.assertIn(f"cannot write {long}.answer: File name too long", answer)
         mistakes = [["--residual=0.3"], ["--two-c=1", "--two-c=2"], ["--two-x=1"], ["more"], ["--within=x"]]
-        mistakes += [["--degrees", "--degrees"], ["--degrees=yes"]]
+        mistakes += [["--degrees", "--degrees"], ["--degrees=yes"], ["--columns=1"], ["--dmmss"] * 2]
         for options in mistakes:
             status, lines, answer = self.run_script(*options)
             self.assertEqual((2, []), (status, lines), options)

@@ -1,5 +1,6 @@
-"""`make install` and `make uninstall`: what they put and remove, the links of installed pages, the
-tools where documents are left out; the manual pages by groff and mandoc, and what they show."""
+"""`make install` and `make uninstall`: what they put and remove, what pkg-config says of a library, the
+links of installed pages, the tools where documents are left out; the version wherever it stands; the
+manual pages by groff and mandoc, and what they show."""
 
 import os
 import re
@@ -52,6 +53,7 @@ INSTALLED = ["bin/station_check", *SOURCES]
 # What is installed beside it where the library was made: from where, and the link to it.
 LIBRARY_SOURCES = {
     "include/station_check.h": "capi/station_check.h",
+    "lib/pkgconfig/station_check.pc": "capi/station_check.pc",
     "share/station_check/station_check.py": "capi/station_check.py",
 }
 LIBRARY_NAME, LIBRARY_LINK = "lib/libstation_check.so.1", "lib/libstation_check.so"
@@ -112,8 +114,21 @@ class InstallTest(ProgramTest):
         self.assertEqual(library.name, os.readlink(prefix / LIBRARY_LINK))
         for name, source in LIBRARY_SOURCES.items():
             self.assertEqual((ROOT / source).read_bytes(), (prefix / name).read_bytes())
+        self.check_pkg_config(prefix)
         self.make("uninstall", f"PREFIX={prefix}", library=library)
         self.assertEqual([], [path for path in prefix.rglob("*") if path.is_file() or path.is_symlink()])
+
+    def check_pkg_config(self, prefix):
+        """What pkg-config says of the library that was installed here."""
+        if not shutil.which("pkg-config"):
+            return
+        paths = {**os.environ, "PKG_CONFIG_PATH": str(prefix / "lib" / "pkgconfig")}
+        status, said, stderr = answer_to(["pkg-config", "--cflags", "--libs", "station_check"], env=paths)
+        self.assertEqual((0, b""), (status, stderr))
+        include, folder, name = said.decode().split()
+        self.assertTrue((Path(include.removeprefix("-I")) / "station_check.h").exists(), include)
+        self.assertTrue((Path(folder.removeprefix("-L")) / Path(LIBRARY_LINK).name).exists(), folder)
+        self.assertEqual("-lstation_check", name)
 
     def test_each_link_of_an_installed_page_leads_to_a_file_that_is_there(self):
         self.make("install", f"PREFIX={self.folder}")
@@ -180,6 +195,12 @@ class ManPageTest(ProgramTest):
     def test_the_version_is_that_of_the_first_heading_of_the_changes(self):
         version, _ = manuals.release()
         self.assertEqual(f"station_check {version}\n", answer_of(["--version"])[1].decode())
+        for name, line in [
+            ("station_check.py", '__version__ = "{}"'),
+            ("station_check.h", '#define STATION_CHECK_VERSION "{}"'),
+            ("station_check.pc", "Version: {}"),
+        ]:
+            self.assertIn(line.format(version), (ROOT / "capi" / name).read_text().splitlines(), name)
         self.assertTrue(worked.REPORT.startswith(f"station_check {version}: ".encode()))
 
     def test_its_examples_print_what_it_shows(self):

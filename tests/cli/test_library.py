@@ -1,25 +1,31 @@
 """The shared library, from Python and from C, gives the program's answers and shows its calls alone:
-the cases of conformance/; residuals beside the rows of reports; room that grows; what is out of its
-range; calls on several threads; the program of its page; the C example, and the header as C++ too;
-memory that is given back. Each export takes and says what its call does."""
+the cases of conformance/; residuals beside the rows of reports; rows as numbers; room that grows; files
+that are other buffers than bytes; what is out of its range, and what a mistake is told; calls on several
+threads; the program of its page; the C example, by pkg-config too, and the header as C++; memory that is
+given back. Each export takes and says what its call does."""
 
+import csv
 import hashlib
 import importlib.util
 import inspect
+import io
 import os
+import pickle
 import re
 import shutil
 import subprocess
 import sys
 import unittest
 from concurrent.futures import ThreadPoolExecutor
+from decimal import Decimal
 from pathlib import Path
 from random import Random
-from typing import Any, NamedTuple
+from typing import Any, Callable, Iterable, NamedTuple
 
+import model
 from generated import SEED, station_to_adjust
-from kinds import refusal_in
-from program import PROGRAM, ROOT, SWEEP, Answer, ProgramTest, answer_of, answer_to
+from kinds import refusal_in, without_hint
+from program import EXAMPLE, PROGRAM, ROOT, SWEEP, Answer, ProgramTest, answer_of, answer_to
 from rows import answer_of_residuals, as_call
 
 sys.path.insert(0, str(ROOT / "conformance"))
@@ -47,14 +53,21 @@ OPERANDS: dict[str, list[type]] = {
     "words": [bytes],
 }
 
-# Commands whose answer is one line, which the module has without its line feed.
-OF_ONE_LINE = {"check", "compare"}
+# Commands whose answer is one line, which the module has without its line feed; and those of a table,
+# whose answer has a note.
+OF_ONE_LINE, OF_TABLES = {"check", "compare"}, {"compare", "differences"}
+
+# Calls that answer several texts.
+OF_PARTS = {"list_rows", "station"}
 
 # The options that the module's functions have, each with its kind; a limit of residuals has one alone.
 OPTIONS: dict[str, type] = {
     **{"two-c": int, "two-i": int, "residual": int, "within": int, "decimals": int},
     **{"station": str, "station-code": str},
 }
+
+# The options that state how a table is to be read: its unit, and its columns.
+UNITS, COLUMNS = ["degrees", "dmmss"], "columns"
 OF_SHEETS = "check"
 
 # The options that state a number of each station, or as NAME=N that of one; and the flags.
@@ -68,10 +81,24 @@ BEYOND: list[tuple[str, dict[str, Any]]] = [
     ("check", {"two_c": 1 << 32}),
     ("check", {"residual": 2_001}),
     ("compare", {"within": 1_000_001}),
+    ("compare", {"unit": "rad"}),
+    ("compare", {"columns": (0, 1)}),
+    ("compare", {"columns": (1, 0)}),
+    ("compare", {"columns": (0, 0)}),
+    ("compare", {"columns": (1_000_000, 1)}),
+    ("compare", {"columns": (1, 1_000_000)}),
+    ("compare", {"columns": (1, -1)}),
+    ("compare", {"columns": (1 << 32, 1)}),
     ("differences", {"two_c": 1_000_001}),
+    ("differences", {"unit": "Gon"}),
+    ("differences", {"columns": (0, 2)}),
+    ("differences", {"columns": (1, 1_000_000)}),
     ("directions", {"decimals": 0}),
     ("directions", {"decimals": 9}),
     ("residuals", {"two_i": 1_000_001}),
+    ("list_rows", {"two_i": 1_000_001}),
+    ("station", {"two_c": 1_000_001}),
+    ("station", {"decimals": 0}),
     ("mark", {"station": ""}),
     ("mark", {"station": "SEVENTEEN LETTERS"}),
     ("mark", {"station": "P\u00e47"}),
@@ -88,13 +115,78 @@ BEYOND: list[tuple[str, dict[str, Any]]] = [
     ("mark", {"station_code": "20"}),
 ]
 GIVEN: dict[str, list[bytes | str]] = {
+    "list": [GSI.read_bytes()],
     "check": [GSI.read_bytes(), SHEET.read_bytes()],
     "compare": [GSI.read_bytes(), "P7", TABLE.read_bytes()],
     "differences": [GSI.read_bytes(), "P7", TABLE.read_bytes()],
     "directions": [GSI.read_bytes(), "P7"],
     "residuals": [GSI.read_bytes(), "P7"],
+    "list_rows": [GSI.read_bytes()],
+    "station": [GSI.read_bytes(), "P7", "field.gsi"],
     "mark": [JOB.read_bytes()],
 }
+
+# The call that takes each number that has a range, and how it is given to it.
+RANGED: dict[str, tuple[str, Callable[[int], Any]]] = {
+    "two_c": ("list", int),
+    "two_i": ("list", int),
+    "residual": ("check", int),
+    "within": ("compare", int),
+    "decimals": ("directions", int),
+    "columns": ("compare", lambda number: (number, 1)),
+    "sets": ("mark", lambda number: {"P7": number}),
+    "targets": ("mark", lambda number: {"P7": number}),
+}
+
+# Mistakes of a caller, and what he is told.
+MISTAKES: list[tuple[str, dict[str, Any], type[Exception], str]] = [
+    ("check", {"residual": 2001}, ValueError, "residual is 2001: state 0 to 2000, in units of 0.005 mgon"),
+    ("directions", {"decimals": 9}, ValueError, "decimals is 9: state 1 to 8"),
+    ("directions", {"decimals": 4.0}, TypeError, "decimals is 4.0: state a whole number"),
+    ("compare", {"within": True}, TypeError, "within is True: state a whole number"),
+    ("compare", {"unit": "deg"}, ValueError, "unit is 'deg': state one of gon, degrees, dmmss"),
+    ("compare", {"columns": (0, 2)}, ValueError, "columns is 0: state 1 to 999999"),
+    (
+        "compare",
+        {"columns": (1, 2, 3)},
+        ValueError,
+        "columns are two: that of the names and that of the directions, as (2, 6)",
+    ),
+    ("mark", {"sets": {}}, ValueError, "sets is empty: state a number, or None"),
+    ("mark", {"sets": "3"}, TypeError, "sets is '3': state a whole number"),
+    ("mark", {"sets": {"P1": 41}}, ValueError, "sets is 41: state 1 to 40"),
+    (
+        "mark",
+        {"station": ""},
+        ValueError,
+        "station is '': state 1 to 16 letters, digits and signs of ASCII",
+    ),
+    (
+        "mark",
+        {"targets": {"P1\nP2": 3}},
+        ValueError,
+        "targets is 'P1\\nP2': state 1 to 16 letters, digits and signs of ASCII",
+    ),
+    (
+        "mark",
+        {"station_code": "10"},
+        ValueError,
+        "state a code that is none of 10, 20 and 30, and one number of each station",
+    ),
+    ("mark", {"station": b"P7"}, TypeError, "a name or a line is a str, and not bytes"),
+]
+
+# Tables of the example's station, each with its unit and the columns that are stated.
+TABLES: list[tuple[str, tuple[int, int] | None, bytes]] = [
+    ("degrees", None, b"A 0-00-00\nB 45-00-00.1\n"),
+    ("dmmss", None, b"A,0.0000\nB,45.00001\n"),
+    ("gon", None, b"1;A;0\n2;B;50.00003\n"),
+    ("gon", None, b"1;A;0\n2;B;50.0010 gon\n"),
+    ("degrees", (3, 1), b"0-00-00;x;A\n45-00-00.1;y;B\n"),
+    ("gon", (1, 3), b"A;1;0\nB;2;50.00003\n"),
+    ("gon", None, b"A;1;0\nB;2;50.00003\n"),
+    ("gon", (999_999, 1), b"A;0\nB;50.00003\n"),
+]
 
 # So many generated stations have residuals, of up to the most sets and targets.
 STATIONS, MOST = 300 if SWEEP else 30, (40, 100)
@@ -118,7 +210,7 @@ LEAKS = r"""
 #include <string.h>
 #include <station_check.h>
 
-static char gsi[1 << 16], sheet[1 << 16], out[1 << 16], more[1 << 16];
+static char gsi[1 << 16], sheet[1 << 16], table[1 << 16], out[1 << 16], more[1 << 16];
 
 static size_t read_file(const char *path, char *bytes) {
     FILE *file = fopen(path, "rb");
@@ -128,13 +220,22 @@ static size_t read_file(const char *path, char *bytes) {
 }
 
 int main(int count, char **words) {
-    size_t length, second, taken = 0, n = read_file(words[1], gsi), m = read_file(words[2], sheet);
+    size_t length, second, taken = 0, noted = 0;
+    size_t n = read_file(words[1], gsi), m = read_file(words[2], sheet), k = read_file(words[3], table);
     setbuf(stdout, NULL);
     for (int turn = 0; turn < 20; turn++) {
         if (turn == 1) taken = mallinfo2().uordblks;
         station_check_check(gsi, n, sheet, m, 2000, 2000, 1, 2000, out, sizeof out, &length);
-        station_check_compare(gsi, n, sheet, m, "P7", 2, 2000, 2000, 0, 0, out, sizeof out, &length);
-        station_check_differences(gsi, n, sheet, m, "P7", 2, 2000, 2000, out, sizeof out, &length);
+        station_check_compare(gsi, n, table, k, "P7", 2, 2000, 2000, 0, 2, 3, 0, 0, out, sizeof out, &length,
+                              more, sizeof more, &second);
+        noted += second;
+        station_check_differences(gsi, n, table, k, "P7", 2, 2000, 2000, 0, 0, 0, out, sizeof out, &length,
+                                  more, sizeof more, &second);
+        noted += second;
+        station_check_differences(gsi, n, sheet, m, "P7", 2, 2000, 2000, 1, 0, 0, out, sizeof out, &length,
+                                  more, sizeof more, &second);
+        station_check_table(gsi, n, "gsi", 3, table, k, "csv", 3, "P7", 2, 2000, 2000, 0, 2, 3, 0, 0, out,
+                            sizeof out, &length, more, sizeof more, &second);
         station_check_directions(gsi, n, "P7", 2, 2000, 2000, 6, out, sizeof out, &length);
         station_check_residuals(gsi, n, "P7", 2, 2000, 2000, out, sizeof out, &length);
         station_check_report(gsi, n, "gsi", 3, "P7", 2, 2000, 2000, out, sizeof out, &length);
@@ -147,7 +248,7 @@ int main(int count, char **words) {
         station_check_digest(gsi, n, "gsi", 3, out, sizeof out, &length);
         station_check_explain("TwoC", 4, out, sizeof out, &length);
     }
-    printf("%d %zu\n", count, mallinfo2().uordblks - taken);
+    printf("%d %zu %d\n", count, mallinfo2().uordblks - taken, noted > 0);
     return 0;
 }
 """
@@ -160,7 +261,7 @@ STATED = r"""
 #include <stdlib.h>
 #include <station_check.h>
 
-static char gsi[1 << 16], other[1 << 16], out[1 << 16];
+static char gsi[1 << 16], other[1 << 16], out[1 << 16], note[STATION_CHECK_LINE];
 
 static size_t read_file(const char *path, char *bytes) {
     FILE *file = fopen(path, "rb");
@@ -170,7 +271,7 @@ static size_t read_file(const char *path, char *bytes) {
 }
 
 int main(int count, char **words) {
-    size_t length, n = read_file(words[1], gsi), m = read_file(words[2], other);
+    size_t length, noted, n = read_file(words[1], gsi), m = read_file(words[2], other);
     for (int at = 3; at < count; at++) {
         uint32_t is_stated = (uint32_t) strtoul(words[at], NULL, 10);
         station_check_check(gsi, n, other, m, 2000, 2000, is_stated, 0, out, sizeof out, &length);
@@ -179,12 +280,17 @@ int main(int count, char **words) {
     m = read_file("table", other);
     for (int at = 3; at < count; at++) {
         uint32_t is_stated = (uint32_t) strtoul(words[at], NULL, 10);
-        station_check_compare(gsi, n, other, m, "P7", 2, 2000, 2000, is_stated, 0, out, sizeof out, &length);
+        station_check_compare(gsi, n, other, m, "P7", 2, 2000, 2000, 0, 0, 0, is_stated, 0, out, sizeof out, &length,
+                              note, sizeof note, &noted);
         fwrite(out, 1, length, stdout);
     }
     return 0;
 }
 """
+
+
+# A field file of targets whose names need quotes in a row.
+QUOTED = GSI.read_bytes().replace(b"00P3 ", b'P,"3 ').replace(b"00P8 ", b"P, 8 ")
 
 
 class Call(NamedTuple):
@@ -193,6 +299,13 @@ class Call(NamedTuple):
     command: str
     operands: list[bytes | str]
     options: dict[str, Any]
+
+
+def row_of(cells: Iterable[str]) -> str:
+    """A row of these cells, as a program writes it."""
+    text = io.StringIO()
+    csv.writer(text, lineterminator="").writerow(cells)
+    return text.getvalue()
 
 
 def loaded() -> Any:
@@ -221,6 +334,11 @@ def call_of(case: run.Case) -> Call | None:
             operands.append(word)
         elif name in FLAGS:
             options[given] = True
+        elif name in UNITS:
+            # (where both are stated it is the second)
+            options["unit"] = max(options.get("unit", name), name, key=UNITS.index)
+        elif name == COLUMNS:
+            options[given] = tuple(map(int, (value or words.pop(0)).split(",")))
         elif name in NUMBERS:
             station, _, number = (value or words.pop(0)).rpartition("=")
             options.setdefault(given, {})[station or None] = int(number)
@@ -260,10 +378,14 @@ class LibraryTest(ProgramTest):
             self.assertEqual(refused.line, str(refused))
             if command == "mark":
                 return 1, b"", f"{refused.text}{refused.line}\n".encode()
-            return 1, refused.text.encode(), f"{refused.line}\n".encode()
+            told = "".join(f"{line}\n" for line in (refused.note, refused.line) if line)
+            return 1, refused.text.encode(), told.encode()
         if command == "mark":
             return 0, said.copy, said.notes.encode()
-        return 0, f"{said}\n".encode() if command in OF_ONE_LINE else said.encode(), b""
+        if command in OF_PARTS:
+            return 0, "".join(map(str, said)).encode(), b""
+        note = f"{said.note}\n".encode() if command in OF_TABLES and said.note else b""
+        return 0, f"{said}\n".encode() if command in OF_ONE_LINE else said.encode(), note
 
     def compiled(self, *words: str | Path) -> Path:
         """A program that was compiled with the library."""
@@ -284,7 +406,28 @@ class LibraryTest(ProgramTest):
         self.assertEqual(set(OPERANDS), answered)
         for case, call in calls:
             with self.subTest(case.name):
-                self.assertEqual(case.expected, self.answer(*call))
+                self.assertEqual(without_hint(case.expected), self.answer(*call))
+
+    def test_the_longest_note_of_a_table_has_room_for_a_line(self) -> None:
+        """Each number of a note is at most that of a table's bytes."""
+        note: str = self.module.compare(EXAMPLE.read_bytes(), "S1", b"1;A;0\n2;B;50.00003\n").note
+        longest = re.sub(r"\d+", str(model.LONGEST_TABLE), note) + "\n"
+        line = re.search(r"STATION_CHECK_LINE (\d+)", HEADER.read_text())
+        assert line
+        self.assertLessEqual(len(longest), int(line[1]))
+
+    def test_a_table_of_any_form_is_answered_as_by_the_model(self) -> None:
+        """With its note, at a refusal too."""
+        gsi, answered = EXAMPLE.read_bytes(), set[tuple[int, bool]]()
+        for unit, columns, table in TABLES:
+            stated = (b"%d" % columns[0], b"%d" % columns[1]) if columns else None
+            form, options = model.TableForm(unit, stated), {"unit": unit, "columns": columns}
+            for command, of_model in [("compare", model.compared), ("differences", model.differences)]:
+                expected = without_hint(of_model(gsi, b"S1", table, form=form))
+                answered.add((expected[0], expected[2].startswith(b"note: ")))
+                with self.subTest(command, table=table, **options):
+                    self.assertEqual(expected, self.answer(command, [gsi, "S1", table], options))
+        self.assertEqual({(0, True), (0, False), (1, True), (1, False)}, answered)
 
     @unittest.skipUnless(PROGRAM.exists(), "the program is not built")
     def test_residuals_are_columns_of_the_rows_of_a_report(self) -> None:
@@ -312,9 +455,120 @@ class LibraryTest(ProgramTest):
                 getattr(self.module, name)(*GIVEN[name], **options)
 
     def test_a_file_is_bytes(self) -> None:
-        for gsi in (GSI.read_text(), None, str(GSI)):
-            with self.assertRaises(TypeError):
+        for gsi in (GSI.read_text(), None, str(GSI), 7):
+            with self.assertRaisesRegex(TypeError, "^a file is bytes, .*; not "):
                 self.module.list(gsi)
+
+    def test_a_file_may_be_any_buffer_of_its_bytes(self) -> None:
+        kinds: list[Callable[[bytes], Any]] = [bytearray, memoryview]
+        for name, given in GIVEN.items():
+            for kind in kinds:
+                with self.subTest(name, kind=kind):
+                    others: list[Any] = [one if isinstance(one, str) else kind(one) for one in given]
+                    self.assertEqual(self.answer(name, given, {}), self.answer(name, others, {}))
+        every_second = memoryview(bytes(byte for byte in GSI.read_bytes() for _ in range(2)))[::2]
+        self.assertEqual(self.module.list(GSI.read_bytes()), self.module.list(every_second))
+
+    def takes(self, command: str, options: dict[str, Any]) -> bool:
+        """Whether a call takes what is stated."""
+        try:
+            self.answer(command, GIVEN[command], options)
+        except ValueError:
+            return False
+        return True
+
+    def test_the_ranges_are_those_of_the_library(self) -> None:
+        """Which refuses what is beyond them itself, where the module lets it through."""
+        ranges = self.module._RANGES
+        self.addCleanup(setattr, self.module, "_RANGES", ranges)
+        self.assertEqual({*RANGED}, {*ranges})
+        wide = {name: its._replace(least=0, most=(1 << 32) - 1) for name, its in ranges.items()}
+        for self.module._RANGES in (ranges, wide):
+            for name, its in ranges.items():
+                command, as_given = RANGED[name]
+                for number in (its.least, its.most, its.most + 1, max(its.least - 1, 0)):
+                    with self.subTest(name, number=number):
+                        taken = self.takes(command, {name: as_given(number)})
+                        self.assertEqual(its.least <= number <= its.most, taken)
+
+    def test_a_mistake_is_told_with_what_to_do(self) -> None:
+        for name, options, kind, told in MISTAKES:
+            with self.subTest(told), self.assertRaisesRegex(kind, f"^{re.escape(told)}$"):
+                getattr(self.module, name)(*GIVEN[name], **options)
+
+    def test_a_library_that_is_not_there_is_told_with_what_to_do(self) -> None:
+        words = {"STATION_CHECK_LIBRARY": str(self.folder / "missing"), "PYTHONDONTWRITEBYTECODE": "1"}
+        environment = {**os.environ, **words, "PYTHONPATH": str(CAPI)}
+        status, _, said = answer_to([sys.executable, "-c", "import station_check"], env=environment)
+        self.assertEqual(1, status)
+        line = said.decode().splitlines()[-1]
+        self.assertRegex(line, "^OSError: .*: install the library, or name one by STATION_CHECK_LIBRARY$")
+
+    def test_a_refusal_has_its_explanation(self) -> None:
+        with self.assertRaises(self.module.Refused) as apart:
+            self.module.compare(*GIVEN["compare"], within=0)
+        self.assertEqual(self.module.explain("Apart"), apart.exception.explanation())
+        with self.assertRaises(self.module.Refused) as unknown:
+            self.module.explain("Elephant")
+        self.assertEqual("", unknown.exception.explanation())
+        copy = pickle.loads(pickle.dumps(apart.exception))
+        self.assertEqual((apart.exception.line, "", ""), (copy.line, copy.text, copy.note))
+
+    @unittest.skipUnless(PROGRAM.exists(), "the program is not built")
+    def test_rows_are_the_numbers_of_the_program_s_rows(self) -> None:
+        """Each number has the digits that the program prints, of stations up to the largest too."""
+        field, met = self.folder / "field.gsi", 0
+        texts = [GSI.read_bytes(), QUOTED]
+        texts += [station_to_adjust(Random(f"{SEED} rows {n}"), *MOST) for n in range(STATIONS)]
+        for gsi in texts:
+            field.write_bytes(gsi)
+            listed = list(csv.reader(answer_of(["list", "--csv", field])[1].decode().splitlines()))[1:]
+            rows = self.module.observation_rows(self.module.list(gsi))
+            self.assertEqual(listed, [[str(cell) for cell in row] for row in rows])
+            station = listed[0][0]
+            _, said, refusal = answer_of(["report", "--csv", field, station])
+            if refusal:
+                continue
+            met += 1
+            reported = list(csv.reader(said.decode().splitlines()))[1:]
+            readings = self.module.reading_rows(said.decode())
+            self.assertEqual(reported, [[str(cell) for cell in row] for row in readings])
+            residuals = self.module.residual_rows(self.module.residuals(gsi, station))
+            found = [[str(cell) for cell in row] for row in residuals]
+            self.assertEqual([[row[place] for place in (1, 2, 5, 8, 9)] for row in reported], found)
+            table = self.module.directions(gsi, station)
+            directions = self.module.direction_rows(table)
+            self.assertEqual(table.splitlines(), [row_of([name, str(gon)]) for name, gon in directions.items()])
+            differences = self.module.differences(gsi, station, table.encode())
+            rows = self.module.difference_rows(differences)
+            self.assertEqual(differences.splitlines()[1:], [row_of(map(str, row)) for row in rows])
+            self.assertEqual(directions, {row.target: row.stated for row in rows})
+            self.assertTrue(all(isinstance(cell, Decimal) for row in rows for cell in row[1:]))
+        self.assertGreater(met, 10)
+
+    def test_an_agreement_is_the_numbers_of_its_line(self) -> None:
+        """With a name that looks like a part of the line too."""
+        said = "2 sets, 2 targets, within 0.001 mgon, limit 0.010 mgon, greatest residual 0.005 mgon"
+        table = b"A,0\nB,50.000031\n"
+        self.assertEqual(f"agrees S1: {said}", self.module.compare(EXAMPLE.read_bytes(), "S1", table))
+        numbers = [Decimal(number) for number in ("0.001", "0.010", "0.005")]
+        for name in ["S1", ": 1 sets, 1 targ"]:
+            found = self.module.agreement_numbers(f"agrees {name}: {said}")
+            self.assertEqual((name, 2, 2, *numbers), found)
+
+    def test_rows_of_another_text_are_a_value_error(self) -> None:
+        gsi = GSI.read_bytes()
+        for name, text in [
+            ("residual_rows", self.module.differences(gsi, "P7", TABLE.read_bytes())),
+            ("residual_rows", ""),
+            ("difference_rows", self.module.residuals(gsi, "P7")),
+            ("observation_rows", self.module.words(gsi)),
+            ("reading_rows", self.module.residuals(gsi, "P7")),
+            ("direction_rows", self.module.residuals(gsi, "P7")),
+            ("agreement_numbers", ACCEPTED),
+        ]:
+            with self.subTest(name), self.assertRaises(ValueError):
+                getattr(self.module, name)(text)
 
     @unittest.skipUnless(PROGRAM.exists(), "the program is not built")
     def test_each_refusal_is_explained_as_by_the_program(self) -> None:
@@ -336,11 +590,49 @@ class LibraryTest(ProgramTest):
         report = self.module.report(GSI.read_bytes(), "P7", "a file")
         self.assertIn("\nField file            a file\n", report)
         self.assertIn("\nLimit of residuals    10.000 mgon\n", report)
-        self.assertTrue(report.endswith(" mgon, of one two-face direction\n"))
+        self.assertIn(" mgon, of one two-face direction\n", report)
         of_control = self.module.report(GSI.read_bytes(), "P7", "a\x1bfile")
         self.assertIn("\nField file            \\a\\x1bfile\n", of_control)
         with self.assertRaisesRegex(self.module.Refused, "^refused: no station$"):
             self.module.report(GSI.read_bytes(), "P8", "a file")
+
+    @unittest.skipUnless(PROGRAM.exists(), "the program is not built")
+    def test_a_list_of_rows_is_that_of_the_program_with_the_number_of_its_note(self) -> None:
+        for path in (GSI, JOB):
+            status, rows, note = answer_of(["list", "--csv", path])
+            unchecked = re.findall(rb"\d+", note)[:1] or [b"0"]
+            self.assertEqual((0, rows.decode(), int(unchecked[0])), (status, *self.module.list_rows(path.read_bytes())))
+        with self.assertRaisesRegex(self.module.Refused, "^refused: block 1: "):
+            self.module.list_rows(SHEET.read_bytes())
+
+    @unittest.skipUnless(PROGRAM.exists(), "the program is not built")
+    def test_all_of_a_station_has_the_texts_of_the_commands(self) -> None:
+        gsi, path = GSI.read_bytes(), str(GSI)
+        whole = self.module.station(gsi, "P7", path, decimals=4)
+        self.assertEqual(self.module.directions(gsi, "P7", decimals=4), whole.directions)
+        self.assertEqual(answer_of(["report", "--csv", GSI, "P7"])[1].decode(), whole.rows)
+        self.assertEqual(answer_of(["report", GSI, "P7"])[1].decode(), whole.report)
+        self.assertRegex(whole.accuracy, r"^degrees,deviation\n\d+,\d+\.\d{3}\n$")
+        with self.assertRaisesRegex(self.module.Refused, "^refused: no station$"):
+            self.module.station(gsi, "P8", path)
+
+    @unittest.skipUnless(PROGRAM.exists(), "the program is not built")
+    def test_all_of_a_table_has_the_texts_of_the_commands(self) -> None:
+        gsi, table = GSI.read_bytes(), TABLE.read_bytes()
+        wrong = self.folder / "wrong.csv"
+        wrong.write_bytes(table.replace(b"278.86059", b"278.86065"))
+        # (in mgon, as the line of each has them)
+        agrees, apart = ("True", "0.004", "0.010", "0.320"), ("False", "0.030", "0.010", "None")
+        for path, verdict in (TABLE, agrees), (wrong, apart):
+            whole = self.module.table(gsi, "P7", path.read_bytes(), str(GSI), str(path))
+            _, out, err = answer_of(["compare", GSI, "P7", path])
+            self.assertEqual((out + err).decode(), f"{whole.line}\n")
+            self.assertEqual(verdict, tuple(map(str, whole.verdict)))
+            self.assertEqual(answer_of(["differences", GSI, "P7", path])[1].decode(), whole.differences)
+            self.assertEqual(answer_of(["report", f"--table={path}", GSI, "P7"])[1].decode(), whole.report)
+            self.assertEqual("", whole.note)
+        with self.assertRaisesRegex(self.module.Refused, "^refused: table row 1: Fields$"):
+            self.module.table(gsi, "P7", b"P3\n", "", "")
 
     def test_a_copy_has_just_the_stated_lines_changed(self) -> None:
         first, second, *rest = GSI.read_bytes().splitlines(keepends=True)
@@ -376,7 +668,10 @@ class LibraryTest(ProgramTest):
                 for one in signature.parameters.values()
             )
             self.assertEqual(plain, parameters)
-        self.assertEqual({*OPERANDS, "change", "digest", "explain", "report"}, {name for name, _ in rows})
+        of_files = {*OPERANDS, "change", "digest", "explain", "report", "list_rows", "station", "table"}
+        of_rows = {name for name in vars(self.module) if re.fullmatch("[a-z]+_(rows|numbers)", name)} - of_files
+        self.assertEqual(6, len(of_rows))
+        self.assertEqual(of_files | of_rows, {name for name, _ in rows})
 
     # ------------------------------------------------------------ C
 
@@ -389,6 +684,24 @@ class LibraryTest(ProgramTest):
         self.assertTrue(stderr.startswith(b"refused: kernel: "), stderr)
         self.assertEqual(2, answer_to([program, GSI, self.folder / "missing"])[0])
         self.assertEqual(2, answer_to([program])[0])
+
+    def test_the_example_compiles_by_pkg_config(self) -> None:
+        compiler = shutil.which("cc")
+        if not compiler or not shutil.which("pkg-config"):
+            self.skipTest("no C compiler is found, or no pkg-config")
+        for name in ("lib/pkgconfig", "include"):
+            (self.folder / name).mkdir(parents=True)
+        shutil.copy(CAPI / "station_check.pc", self.folder / "lib/pkgconfig")
+        shutil.copy(HEADER, self.folder / "include")
+        shutil.copy(LIBRARY, self.folder / "lib")
+        (self.folder / "lib/libstation_check.so").symlink_to(LIBRARY.name)
+        paths = {**os.environ, "PKG_CONFIG_PATH": str(self.folder / "lib/pkgconfig")}
+        paths["LD_LIBRARY_PATH"] = str(self.folder / "lib")
+        flags = answer_to(["pkg-config", "--cflags", "--libs", "station_check"], env=paths)[1].decode().split()
+        program = self.folder / "check"
+        built = answer_to([compiler, *STRICT, CAPI / "example.c", *flags, "-o", program])
+        self.assertEqual((0, b"", b""), built)
+        self.assertEqual((0, f"{ACCEPTED}\n".encode(), b""), answer_to([program, GSI, SHEET], env=paths))
 
     def test_the_header_is_c_plus_plus_too(self) -> None:
         compiler = shutil.which("c++")
@@ -419,13 +732,15 @@ class LibraryTest(ProgramTest):
         program = self.compiled("-D_GNU_SOURCE", source)
         # (what lies ready for a thread would count as taken)
         plain = {"GLIBC_TUNABLES": "glibc.malloc.tcache_count=0"}
-        self.assertEqual((0, b"3 0\n", b""), answer_to([program, GSI, SHEET], env=plain))
+        numbered = self.folder / "numbered.csv"
+        numbered.write_bytes(b"".join(b"%d,%s\n" % row for row in enumerate(TABLE.read_bytes().split(), 1)))
+        self.assertEqual((0, b"4 0 1\n", b""), answer_to([program, GSI, SHEET, numbered], env=plain))
 
     def test_the_library_shows_the_calls_of_its_header_alone(self) -> None:
         if not shutil.which("nm"):
             self.skipTest("no nm is found")
         declared = set(re.findall(r"^uint8_t (\w+)\(", HEADER.read_text(), re.MULTILINE))
-        self.assertEqual(13, len(declared))
+        self.assertEqual(16, len(declared))
         shown = subprocess.run(["nm", "-D", LIBRARY], check=True, capture_output=True, text=True).stdout
         kinds = {name.partition("@")[0]: kind for kind, name in re.findall(r"(?:[0-9a-f]{16}| {16}) (\w) (\S+)", shown)}
         self.assertEqual(declared, {name for name, kind in kinds.items() if kind == "T"})
@@ -446,7 +761,7 @@ class LibraryTest(ProgramTest):
             heads = re.findall(rf"^{name}(\w+)(\(.*?)^\{{$", sources, re.DOTALL | re.MULTILINE)
             said.append({call: re.sub(r"\s+|,(?=\s*\))", "", head) for call, head in heads})
         calls, exports = said
-        self.assertEqual(13, len(calls))
+        self.assertEqual(16, len(calls))
         self.assertEqual(calls, exports)
 
 

@@ -30,6 +30,7 @@ COMMANDS = {
     "compare --residual": ["compare", "--residual=1", "{field}", "S1", "{table}"],
     "differences": ["differences", "{field}", "S1", "{table}"],
     "mark": ["mark", "--station=S1", "{job}"],
+    "change": ["change", "--leave-out=1", "{job}"],
 }
 FILES = {"field": FIELD, "sheet": SHEET, "table": TABLE, "job": JOB}
 

@@ -1,6 +1,7 @@
 """What README.md, the guide and the pages beside it show is what the program does: each command that
 they show, in one copy of examples/; the faults and options of the guide's table of refusals; the
-numbers of the table of rounding, by `compare` itself; the bounds and the printed texts in the formats;
+numbers of the table of rounding, by `compare` itself; the bounds and the printed texts in the formats,
+and the bounds in other pages;
 the links of all pages; the picture of the crates, and the files to which a change goes; the limits of
 the library; the heads of tests. And that the proof of `find` alone opens the seal of what the solver
 said."""
@@ -47,6 +48,21 @@ DEGREE = Fraction(400_000, 360)
 SECOND = DEGREE / 3600
 ARCHITECTURE = ROOT / "docs" / "ARCHITECTURE.md"
 
+# Sentences of other pages that have bounds too, in units of their own; of the residual limit, 200 half
+# units are 1 mgon.
+SAID = [
+    ("GUIDE.md", "at most {LONGEST_FILE_MIB} MiB, with {MOST_STATIONS:,} stations of {MOST_SETS} sets and {MOST_TARGETS} targets"),
+    ("GUIDE.md", "the limit is {LARGEST_RESIDUAL_MGON} mgon, the largest"),
+    ("MARK.md", "the number of the set, 1 to {LARGEST_SET_NUMBER},"),
+    ("SHEETS.md", "denominators up to {LARGEST_DENOMINATOR:,} only"),
+    ("SHEETS.md", "if only the largest, {LARGEST_RESIDUAL_MGON} mgon"),
+    ("LIBRARY.md", "counted from 1 and at most {LARGEST_COLUMN:,}"),
+    ("LIBRARY.md", "a station with a residual above {LARGEST_RESIDUAL_MGON} mgon"),
+    ("TRUST.md", "none is above the limit, at most {LARGEST_RESIDUAL_MGON} mgon"),
+    ("../CHANGELOG.md", "up to {LONGEST_FILE_MIB} MiB, {MOST_STATIONS:,} stations, {MOST_SETS} sets and {MOST_TARGETS} targets"),
+    ("../capi/station_check.h", "define STATION_CHECK_LINE {LONGEST_VERDICT_LINE}"),
+]
+
 # A limit that a call of the library takes: its unit, and how many of them it has at most.
 LIMIT = re.compile(r"^\| `(\w+)`.* \| ([\d.]+) mgon.* \| ([\d,]+) \|$", re.MULTILINE)
 
@@ -63,6 +79,10 @@ OF_EACH_COPY = {"--help", "--why"}
 
 # The time of the gate on the first page; that of tests has it too, once it was measured.
 TIME_OF_GATE = r"^\| `make test` \| .* \| (\d+) minutes \|$"
+
+# That of the build, on both.
+TIME_OF_BUILD = r"^\| `make run`, the first time \| (\d+) min (\d+) s \|"
+MINUTES_OF_BUILD = r"^\| `make run` \| .* \| (\d+) minutes the first time \|$"
 
 # All pages whose links a reader follows.
 LINKED = [
@@ -176,6 +196,16 @@ class PagesTest(TimedTest):
                 forms = [str(bound), f"{bound:,}", *([f"10^{len(power[1]) + 1}"] if power else [])]
                 self.assertRegex(text, rf"(?<![\d,^])(?:{'|'.join(map(re.escape, forms))})(?!,?\d)")
 
+    def test_other_pages_have_the_bounds_of_the_code(self):
+        laws = "".join(path.read_text() for path in ROOT.glob("crates/*/src/laws.rt"))
+        bounds = {name: int(digits) for name, digits in BOUND.findall(laws)}
+        bounds["LONGEST_FILE_MIB"] = bounds["LONGEST_FILE"] >> 20
+        bounds["LARGEST_RESIDUAL_MGON"] = bounds["LARGEST_RESIDUAL_LIMIT"] // 200
+        for page, sentence in SAID:
+            said = sentence.format_map(bounds)
+            with self.subTest(page, said=said):
+                self.assertIn(said, (ROOT / "docs" / page).read_text())
+
     def test_the_formats_or_a_case_have_each_text_that_is_printed(self):
         cases = [path.read_text(errors="replace") for path in ROOT.glob("conformance/*/**/std[eo]*")]
         known = "".join([FORMATS.read_text(), *cases])
@@ -193,6 +223,12 @@ class PagesTest(TimedTest):
         if measured := gate.MEASURED.search(TESTS.read_text()):
             first = re.search(TIME_OF_GATE, (ROOT / "README.md").read_text(), re.MULTILINE)
             self.assertEqual(measured[1], first[1])
+
+    def test_the_time_of_the_build_is_one(self):
+        """In whole minutes on the first page, rounded up."""
+        minutes, seconds = map(int, re.search(TIME_OF_BUILD, TESTS.read_text(), re.MULTILINE).groups())
+        first = re.search(MINUTES_OF_BUILD, (ROOT / "README.md").read_text(), re.MULTILINE)
+        self.assertEqual(minutes + (seconds > 0), int(first[1]))
 
     def test_links_lead_to_files_and_headings_that_are_there(self):
         for page in LINKED:

@@ -47,8 +47,11 @@ uint8_t station_check_check(const void *gsi, size_t n, const void *sheet, size_t
                             char *text, size_t room, size_t *length) REFUSE
 uint8_t station_check_compare(const void *gsi, size_t n, const void *table, size_t m,
                               const char *station, size_t k,
-                              uint32_t two_c, uint32_t two_i, uint32_t is_stated, uint32_t within,
-                              char *text, size_t room, size_t *length) REFUSE
+                              uint32_t two_c, uint32_t two_i,
+                              uint32_t unit, uint32_t names, uint32_t directions,
+                              uint32_t is_stated, uint32_t within,
+                              char *text, size_t room, size_t *length,
+                              char *note, size_t more, size_t *other) { *other = 0; REFUSE }
 """
 
 

@@ -13,7 +13,7 @@ from program import ROOT, SWEEP, ProgramTest, Run, answer_of
 from rows import answer_of_residuals
 from test_directions import CHAIN, TWO_PARTS, both_faces, one_set, three_sets
 from test_means import largest
-from worked import AGREES, REPORT, STATION, TABLE, TABLE_15, edited, field_file, refused
+from worked import AGREES, PARTS, REPORT, STATION, TABLE, TABLE_15, edited, field_file, refused
 
 STATIONS = 300 if SWEEP else 30
 
@@ -68,11 +68,18 @@ HELD = [
 # that stands first.
 ORDER = [
     ("another unit", edited(STATION, (b"21.102", b"21.104")), TABLE, 0, 0, "block 3: Hz Unit"),
-    ("no station", edited(STATION, (b"S1", b"S2")), TABLE, 0, 0, "no station"),
+    ("no station", edited(STATION, (b"S1", b"S2")), TABLE, 0, 0, "no station\nthe file has S2"),
     ("a row", STATION, b"A,0\nB,x\n", 0, 0, "table row 2: Number"),
-    ("a target without a row", STATION, b"B,0\n", 0, 0, "table: Missing 1"),
-    ("two parts", TWO_PARTS, TABLE, 0, 0, "adjust: NotConnected"),
-    ("a residual, though the directions are apart", STATION, TABLE_15, 0, 14, "adjust: Residual 1"),
+    ("a target without a row", STATION, b"B,0\n", 0, 0, "table: Missing 1\nthe table lacks A"),
+    ("two parts", TWO_PARTS, TABLE, 0, 0, f"adjust: NotConnected\n{PARTS}"),
+    (
+        "a residual, though the directions are apart",
+        STATION,
+        TABLE_15,
+        0,
+        14,
+        "adjust: Residual 1\nset 1, A: the greatest residual, above the limit of 0.000 mgon",
+    ),
     (
         "directions that are apart",
         STATION,
@@ -86,6 +93,15 @@ ORDER = [
 
 def in_mgon(half_units):
     return "{}.{:03}mgon".format(*divmod(5 * half_units, 1_000))
+
+
+def hint_of(gsi, number, limit):
+    """Which observation it is whose residual is above a limit."""
+    station = model.survey_of(gsi, model.Limits())[0]
+    seen = station.observations[number - 1]
+    place = f"set {station.sets[seen.set]}, {station.targets[seen.target].decode()}"
+    most = in_mgon(limit).removesuffix("mgon")
+    return f"{place}: the greatest residual, above the limit of {most} mgon"
 
 
 class ResidualLimitsTest(ProgramTest):
@@ -117,7 +133,7 @@ class ResidualLimitsTest(ProgramTest):
                 for limit in [f"--residual={least - 1}", f"--residual={in_mgon(least - 1)}"]:
                     for command, answer in self.runs(gsi, station, limit):
                         with self.subTest(name, command=command, limit=limit):
-                            said = refused(f"adjust: Residual {number}")
+                            said = refused(f"adjust: Residual {number}", hint_of(gsi, number, least - 1))
                             self.assertEqual((1, b"", said), answer)
 
     def test_a_reading_that_is_6_mgon_off_once_agreed_without_a_word(self):
@@ -125,15 +141,16 @@ class ResidualLimitsTest(ProgramTest):
         args = ["compare", "{file}", "P7", "{sheet}"]
         printed = model.directions(MOVED, b"P7")[1]
         self.assertEqual(MOVED_TABLE, printed)
-        for limit, said in [
-            ("10mgon", None),
-            ("3.405mgon", None),
-            ("3.4mgon", "adjust: Residual 10"),
-            ("1mgon", "adjust: Residual 10"),
+        for limit, said, told in [
+            ("10mgon", None, None),
+            ("3.405mgon", None, None),
+            ("3.4mgon", "adjust: Residual 10", "3.400"),
+            ("1mgon", "adjust: Residual 10", "1.000"),
         ]:
             answer = {"stdout": MOVED_AGREES}
             if said:
-                answer = {"stderr": refused(said), "status": 1}
+                hint = f"set 2, P8: the greatest residual, above the limit of {told} mgon"
+                answer = {"stderr": refused(said, hint), "status": 1}
             words = [*args, f"--residual={limit}"]
             self.check([Run(limit, words, file=MOVED, sheet=MOVED_TABLE, **answer)])
         self.check([Run("no limit", args, file=MOVED, sheet=MOVED_TABLE, stdout=MOVED_AGREES)])

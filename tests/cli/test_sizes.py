@@ -84,7 +84,8 @@ def told(name, sets, targets, are_alike):
 
 def agrees(sets, targets):
     found = b"within 0.000 mgon, limit 0.010 mgon, greatest residual 0.000 mgon"
-    return b"agrees S1: %d sets, %d targets, %s\n" % (sets, targets, found)
+    counts = model.counted(sets, b"set"), model.counted(targets, b"target")
+    return b"agrees S1: %s, %s, %s\n" % (*counts, found)
 
 
 def accepted(sets, targets, name=b"S1"):

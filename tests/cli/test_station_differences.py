@@ -108,9 +108,9 @@ PRINTED = [
 # A field file, a table, and the fault that stands first.
 FAULTS = [
     ("the file before its table", STATION.replace(b"410012", b"4100 2"), b"", "block 12: Word 1"),
-    ("no station", STATION.replace(b"S1", b"S2"), b"", "no station"),
+    ("no station", STATION.replace(b"S1", b"S2"), b"", "no station\nthe file has S2"),
     ("the table", STATION, b"A,0\nC,1\n", "table row 2: Unknown"),
-    ("a target without a row", STATION, b"B,1\n", "table: Missing 1"),
+    ("a target without a row", STATION, b"B,1\n", "table: Missing 1\nthe table lacks A"),
 ]
 
 

@@ -1,11 +1,12 @@
 """The reports of stations: examples worked out by hand; the path and the limits as they were given; a
 table that agrees and one that is apart; a wrong direction that stands alone; digests beside those of
 `sha256sum`; paths that would add lines or control a terminal; readings across 0; the rows of `--csv`;
-generated stations and tables beside the model. No line is wider than 100 bytes but those that may
-be, and none ends in a blank."""
+generated stations and tables beside the model; what was typed. No line is wider than 78 bytes but
+those of paths, of notes and of what is missing, and none ends in a blank."""
 
 import subprocess
 import unittest
+from itertools import product
 from pathlib import Path
 from random import Random
 
@@ -29,9 +30,12 @@ from worked import (
 
 STATIONS = 300 if SWEEP else 30
 
-# No line is wider, but for those that begin so: of paths, and of an agreement.
-WIDEST = 100
-WIDER = b"Field file ", b"Table ", b"Comparison            agrees "
+# No line is wider, but for those that begin so: of paths.
+WIDEST = 78
+WIDER = b"Field file ", b"Table "
+
+# The zenith angles of a made reading, in both faces and as their mean.
+ZENITHS = b",100.000000,300.000000,100.000000"
 
 # What a report has of the table of P7 whose P8 is off.
 FROM_THE_MEDIAN = b"""\
@@ -86,6 +90,28 @@ class ReportTest(ProgramTest):
                 with self.subTest(path, two_c=two_c):
                     self.assertEqual(head, printed)
 
+    def test_what_was_typed_stands_in_the_head(self):
+        """As it was typed; but no note makes lines of its own, or moves what a terminal shows."""
+        keys = ["Project", "Ger\u00e4t", "K" * 21, "K" * 40, "a\nb", "\x1b[31m", " "]
+        texts = ["", "=", "Dam = north", "a\nSets                  9", "\\", "\u00e9" * 90, "\x7f"]
+        for key, text in product(keys, texts):
+            typed = [f"--note={key}={text}", f"--date={text}", f"--note={text or key}={key}", "--signature"]
+            found = answer_of(["report", *typed, EXAMPLE, "S1"])
+            lines = [note for note in typed if note.startswith("--note=")]
+            noted = [model.note_in(note.removeprefix("--note=").encode()) for note in lines]
+            with self.subTest(key=key, text=text):
+                if None in noted:
+                    self.assertEqual(2, found[0])
+                    continue
+                notes = model.ReportNotes(text.encode(), noted, True)
+                self.assertEqual(model.reported(STATION, bytes(EXAMPLE), b"S1", notes=notes), found)
+
+    def test_a_label_of_the_head_is_no_note(self):
+        for label in model.OWN_LABELS:
+            status, printed, said = answer_of(["report", b"--note=%s=x" % label, EXAMPLE, "S1"])
+            self.assertEqual((2, b""), (status, printed))
+            self.assertIn(b"invalid value '%s=x' for '--note <KEY=TEXT>'" % label, said)
+
     def test_the_first_fault_is_named(self):
         for name, file, station, fault in FAULTS:
             args = ["report", "{file}", station]
@@ -96,13 +122,16 @@ class ReportTest(ProgramTest):
             args = ["report", option, "{file}", "S1"]
             self.check([Run(option, args, file=STATION, stderr=refused(fault), status=1)])
 
-    def test_one_set_has_no_standard_deviation(self):
-        end = (
-            b"Greatest residual     0.000 mgon, set 1, target A\n"
-            b"Degrees of freedom    0\n"
-            b"Standard deviation    none\n"
-        )
-        self.assertTrue(self.report_of(one_set(("A", 123), ("B", 39_999_999))).endswith(end))
+    def test_where_no_angle_was_measured_twice_there_are_no_residuals(self):
+        """Of one set; of one target in two sets; of two sets that share one target."""
+        end = b"\n\nDegrees of freedom    0: no angle was measured twice, nothing to compare\n"
+        one, other, third = ("A", 123, 20_000_123), ("B", 39_999_999, 19_999_999), ("C", 7, 20_000_007)
+        for sets in [{1: [one, other]}, {1: [one], 2: [one]}, {1: [one, other], 2: [other, third]}]:
+            printed = self.report_of(field_file(sets))
+            with self.subTest(sets=sets):
+                self.assertTrue(printed.endswith(end))
+                self.assertNotIn(b"esidual", printed.partition(b"mgon\n\n")[2])
+                self.assertNotIn(b"deviation", printed)
 
     def test_readings_across_0(self):
         """Face I is read before 0 and face II after the half circle, and the other way round."""
@@ -113,8 +142,8 @@ class ReportTest(ProgramTest):
         rows = lines_of(self.report_of((codes + "".join(lines)).encode()), b"    1")
         self.assertEqual(
             [
-                b"    1  A                  399.99990   200.00010     0.000000       0.20       0.00",
-                b"    1  B                    0.00005   199.99989   399.999970      -0.16       0.00",
+                b"    1  A                 399.99990  200.00010     0.000000      0.20      0.00",
+                b"    1  B                   0.00005  199.99989   399.999970     -0.16      0.00",
             ],
             rows,
         )
@@ -131,8 +160,7 @@ class ReportTest(ProgramTest):
         table = self.folder / "table.csv"
         table.write_bytes(TABLE_15)
         section = SECTION.replace(b"0.055 mgon", b"0.014 mgon")
-        section = section.replace(b"agrees S1: 2 sets, 2 targets, within", b"apart S1: 2 targets, by")
-        section = section.replace(b", greatest residual 0.005 mgon", b"")
+        section = section.replace(b"agrees: 2 targets, within", b"apart: 2 targets, by")
         before, residuals, after = (REPORT % bytes(EXAMPLE)).partition(b"Residuals")
         expected = before + section % bytes(table) + residuals + after
         answer = answer_of(["report", "--within=14", "--table", table, EXAMPLE, "S1"])
@@ -156,8 +184,8 @@ class ReportTest(ProgramTest):
         table = self.folder / "table.csv"
         for text, station, fault in [
             (b"A,0\nC,1\n", "S1", "table row 2: Unknown"),
-            (b"B,1\n", "S1", "table: Missing 1"),
-            (b"B,1\n", "S2", "no station"),
+            (b"B,1\n", "S1", "table: Missing 1\nthe table lacks A"),
+            (b"B,1\n", "S2", "no station\nthe file has S1"),
         ]:
             table.write_bytes(text)
             answer = answer_of(["report", "--table", table, EXAMPLE, station])
@@ -167,7 +195,7 @@ class ReportTest(ProgramTest):
         for gsi in [STATION, widened(STATION)]:
             self.assertEqual(REPORT_ROWS, self.report_of(gsi, "--csv"))
         quoted = self.report_of(one_set(('A,"1', 7), ("B", 8)), "--csv").splitlines()
-        self.assertEqual(b'S1,1,"A,""1",0.000070,200.000070,0.000070,0.00,0.00,0.000070,0.000', quoted[1])
+        self.assertEqual(b'S1,1,"A,""1",0.000070,200.000070,0.000070,0.00,0.00,0.000070,0.000' + ZENITHS, quoted[1])
         for name, file, station, fault in FAULTS:
             args = ["report", "--csv", "{file}", station]
             self.check([Run(name, args, file=file, stderr=refused(fault), status=1)])
@@ -186,7 +214,7 @@ class ReportTest(ProgramTest):
     def test_degrees_without_a_table_are_a_mistake(self):
         status, printed, said = answer_of(["report", "--degrees", EXAMPLE, "S1"])
         self.assertEqual((2, b""), (status, printed))
-        self.assertIn(b"'--degrees' says in what a table is", said)
+        self.assertIn(b"'--degrees', '--dmmss' and '--columns' say how a table is read", said)
 
     def test_digests_stand_at_the_end_as_sha256sum_prints_them(self):
         """Of paths with and without bytes to escape, of a table that agrees and of one that is apart."""
@@ -210,7 +238,7 @@ class ReportTest(ProgramTest):
                     lines = subprocess.run(sums, check=True, capture_output=True).stdout
                     self.assertTrue(printed.endswith(lines))
         args = ["report", "--sha256", "--table", table, field, "S2"]
-        self.assertEqual((1, b"", refused("no station")), answer_of(args))
+        self.assertEqual((1, b"", refused("no station", "the file has S1")), answer_of(args))
 
     def test_no_path_adds_a_line_or_controls_a_terminal(self):
         """The names of both files; a digest's line is still one that `sha256sum` reads."""
@@ -246,10 +274,15 @@ class ReportTest(ProgramTest):
     def test_the_largest_station(self):
         _, sets, *_ = largest()
         printed = self.report_of(field_file(sets))
-        self.assertEqual(4, len(lines_of(printed, b"  Target      Set")))
-        self.assertEqual(500, len(lines_of(printed, *(b"  %d " % t for t in range(1, 101)))))
+        self.assertEqual(6, len(lines_of(printed, b"  Target      Set")))
+        self.assertEqual(700, len(lines_of(printed, *(b"  %d " % t for t in range(1, 101)))))
         self.assertIn(b"Degrees of freedom    3861\n", printed)
-        self.assertTrue(printed.endswith(b"Standard deviation    0.000 mgon, of one two-face direction\n"))
+        end = (
+            b"Sum of squares [vv]   0.000000 mgon^2\n"
+            b"Standard deviation    0.000 mgon, of one two-face direction\n"
+            b"Standard deviation    0.000 mgon, of each adjusted direction\n"
+        )
+        self.assertTrue(printed.endswith(end))
 
 
 class GeneratedTest(AgainstModel):
@@ -278,7 +311,7 @@ class GeneratedTest(AgainstModel):
                 printed += status == 0
                 for line in text.splitlines():
                     with self.subTest(place, line=line):
-                        if not line.startswith(WIDER):
+                        if not line.startswith(WIDER) and not line[22:].startswith(b"in set "):
                             self.assertLessEqual(len(line), WIDEST)
                         self.assertEqual(line.rstrip(), line)
         self.assertGreater(printed, STATIONS // 2)

@@ -1,8 +1,9 @@
 // The program's command line over the calls of the page: node program.mjs PAGE WORD..
 //
 // The worker's script and the module are taken out of the page as it is. Beside the program's commands,
-// `explain-bytes FILE` explains the bytes of a file, `digest FILE NAME` gives the line of its digest with
-// this name, `change FILE N..` the copy with changes, each `N` or `N=NAME`, and `time COMMAND WORD..` gives the milliseconds that the fastest of some runs takes. With
+// `station FILE NAME` gives all of a station, `table FILE NAME TABLE` all of a table, `list-rows FILE` a list as rows, `explain-bytes FILE` explains the bytes of a file,
+// `digest FILE NAME` gives the line of its digest with this name, `change FILE N..` the copy with changes,
+// each `N` or `N=NAME`, and `time COMMAND WORD..` the milliseconds that the fastest of some runs takes. With
 // `--room=N` each text has room for so many bytes, and a call is not made again with more; with `--left=N`
 // so many pages of memory are left to a call, of all that 32 bits address.
 import fs from 'node:fs';
@@ -11,8 +12,10 @@ import zlib from 'node:zlib';
 
 const DEFAULTS = {
   '--two-c': 2000, '--two-i': 2000, '--residual': null, '--within': null, '--decimals': 6, '--room': null,
-  '--left': null,
+  '--left': null, '--unit': 0,
 };
+/** The options by which a table has another unit than gon, and their numbers. */
+const UNITS = { '--degrees': 1, '--dmmss': 2 };
 const RUNS = 5, PAGE_BYTES = 65536, MOST_PAGES = 65536;
 
 const [page, ...words] = process.argv.slice(2);
@@ -32,6 +35,8 @@ const calls = vm.runInThisContext('calls');
 const core = await WebAssembly.compile(unpacked('module'));
 
 const options = { ...DEFAULTS }, operands = [];
+// The columns of a table that are stated, or none.
+let columns = [0, 0];
 // What is stated to `mark`: texts, of which each stands on a line, and flags.
 const stated = { '--station': [], '--station-code': [], '--sets': [], '--targets': [] };
 const flags = { '--same-set-up': false, '--again': false, '--others': false };
@@ -39,6 +44,8 @@ while (words.length > 0) {
   const whole = words.shift(), [, word = whole, value] = whole.match(/^(--[^=]*)(?:=([^]*))?$/) ?? [];
   if (word in stated) stated[word].push(value ?? words.shift());
   else if (word in flags) flags[word] = true;
+  else if (word in UNITS) options['--unit'] = Math.max(options['--unit'], UNITS[word]);
+  else if (word === '--columns') columns = (value ?? words.shift()).split(',').map(Number);
   else if (word in options) options[word] = Number(value ?? words.shift());
   else operands.push(word);
 }
@@ -59,21 +66,26 @@ if (options['--left'] !== null) {
 
 const bytesOf = file => new Uint8Array(fs.readFileSync(file));
 const nameOf = word => new TextEncoder().encode(word);
-const faces = [options['--two-c'], options['--two-i']];
+const faces = [options['--two-c'], options['--two-i']], form = [options['--unit'], ...columns];
 
 const answers = {
   check: (gsi, sheet) => calls.check(core, bytesOf(gsi), bytesOf(sheet), ...faces, options['--residual']),
   list: gsi => calls.list(core, bytesOf(gsi), ...faces),
+  'list-rows': gsi => calls.listRows(core, bytesOf(gsi), ...faces),
   means: (gsi, name) => calls.means(core, bytesOf(gsi), nameOf(name), ...faces),
   words: (gsi = 0) => calls.words(core, bytesOf(gsi)),
   directions: (gsi, name) =>
     calls.directions(core, bytesOf(gsi), nameOf(name), ...faces, options['--decimals']),
   residuals: (gsi, name) => calls.residuals(core, bytesOf(gsi), nameOf(name), ...faces),
   report: (gsi, name) => calls.report(core, bytesOf(gsi), nameOf(gsi), nameOf(name), ...faces),
-  compare: (gsi, name, table) =>
-    calls.compare(core, bytesOf(gsi), bytesOf(table), nameOf(name), ...faces, options['--within']),
+  station: (gsi, name) => calls.station(
+    core, bytesOf(gsi), nameOf(gsi), nameOf(name), ...faces, options['--decimals']),
+  compare: (gsi, name, table) => calls.compare(
+    core, bytesOf(gsi), bytesOf(table), nameOf(name), ...faces, ...form, options['--within']),
   differences: (gsi, name, table) =>
-    calls.differences(core, bytesOf(gsi), bytesOf(table), nameOf(name), ...faces),
+    calls.differences(core, bytesOf(gsi), bytesOf(table), nameOf(name), ...faces, ...form),
+  table: (gsi, name, table) => calls.table(core, bytesOf(gsi), nameOf(gsi), bytesOf(table), nameOf(table),
+    nameOf(name), ...faces, ...form, options['--within']),
   mark: gsi => {
     const texts = Object.values(stated).map(lines => nameOf(lines.join('\n')));
     return calls.mark(core, bytesOf(gsi), ...texts, ...Object.values(flags));
@@ -95,6 +107,11 @@ const answers = {
 
 const [command = 'words', ...rest] = operands;
 const { status, shown } = await answers[command](...rest);
-const streams = shown.length === 2 ? [1, 2] : [status === 0 ? 1 : 2];
-shown.forEach((bytes, nth) => fs.writeFileSync(streams[nth], bytes));
+if (['compare', 'differences'].includes(command) && status === 1) {
+  // The note of a table stands before the line of a refusal.
+  for (const bytes of [...shown].reverse()) fs.writeFileSync(2, bytes);
+} else {
+  const streams = shown.length === 2 ? [1, 2] : [status === 0 ? 1 : 2];
+  shown.forEach((bytes, nth) => fs.writeFileSync(streams[nth], bytes));
+}
 process.exitCode = status;

@@ -10,6 +10,7 @@ import io
 import math
 import os
 import random
+import re
 import shutil
 import signal
 import subprocess
@@ -20,9 +21,9 @@ from fractions import Fraction
 from pathlib import Path
 
 import model
-from kinds import refusal_in
+from kinds import refusal_in, without_hint
 from program import EXAMPLE, PROGRAM, ROOT, SWEEP, TimedTest, answer_to
-from rows import answer_of_residuals, as_call
+from rows import answer_of_residuals, as_call, residuals_in
 
 sys.path[:0] = [str(ROOT / name) for name in ("conformance", "page")]
 import build  # noqa: E402
@@ -38,6 +39,9 @@ COMMAND_LINE = Path(__file__).with_name("program.mjs")
 EXAMPLES = [ROOT / "examples" / f"station_p7{end}" for end in (".gsi", ".csv", "_directions.csv")]
 JOB = ROOT / "examples" / "job.gsi"
 
+# A case of a table that is read by a pair of its columns, so that its answer has a note.
+OF_COLUMNS = ROOT / "conformance" / "answered" / "compare" / "compare_of_a_table_of_bars"
+
 RT = os.environ.get("RT", "rt")
 
 # Half units of a full circle, and units of 0.001 mgon in one.
@@ -46,6 +50,9 @@ TURN, HALF_UNIT = 80_000_000, 5
 # The smallest module whose memory has addresses of 64 bits.
 PROBE = "new WebAssembly.Module(new Uint8Array([0,97,115,109,1,0,0,0,5,3,1,4,1]))"
 FLAGS = [[], ["--experimental-wasm-memory64"]]
+
+# The calls that hand out a note beside their text.
+NOTED = {"mark", "compare", "differences"}
 
 # What a call answers that has too little room, and hands out nothing; and one that is refused memory.
 NO_ROOM = (3, b"", b"")
@@ -64,6 +71,39 @@ NO_TEXTS = [
     ("Zwölf".encode(), "no such fault"),
     ("\U0010ffff".encode(), "no such fault"),
     (b"\0", "no such fault"),
+]
+
+# Tables of station S1 of the example, each with its unit and the columns that are stated: gon, degrees
+# and D.MMSS, by two columns, by a pair that is found or stated, near the directions and apart from
+# them; then some that are refused, one of them only where no columns are stated.
+TABLES = [
+    ("gon", None, b"A;0\nB;50.00003\n"),
+    ("degrees", None, b"A;0-00-00\nB;45-00-00.1\n"),
+    ("degrees", None, "A;0\u00b0 00\u2032 00\u2033\nB;45\u00b0 00\u2032 00.1\u2033\n".encode()),
+    ("dmmss", None, b"A;0.0000\nB;45.00001\n"),
+    ("gon", None, b"1;A;0\n2;B;50.00003\n"),
+    ("gon", None, b"Job 7\n1;A;0\n\n2;B;50.0010 gon\nsum;;50.0010\n"),
+    ("degrees", None, b"1;A;0-00-00\n2;B;45-00-00.1\n"),
+    ("degrees", (2, 3), b"1;A;0-00-00\n2;B;45-00-01\n"),
+    ("dmmss", (3, 1), b"0.0000;1;A\n45.00001;2;B\n"),
+    ("gon", (3, 1), b"0;1;A\n50.00003;2;B\n"),
+    ("gon", (1, 3), b"A;1;0\nB;2;50.00003\n"),
+    ("gon", None, b"A;1;0\nB;2;50.00003\n"),
+    ("gon", (999_999, 1), b"A;0\nB;50.00003\n"),
+    ("gon", (1, 999_999), b"A;0\nB;50.00003\n"),
+    ("gon", None, b"A;0-00-00\nB;45-00-00.1\n"),
+]
+
+# How no table can be read: by a unit that there is not, and by columns of which one is not stated, or
+# is beyond the largest, or by both.
+BEYOND_FORMS = [
+    ["--unit=3"],
+    ["--unit=4294967295"],
+    ["--columns=0,1"],
+    ["--columns=1,0"],
+    ["--columns=1000000,1"],
+    ["--columns=1,1000000"],
+    ["--columns=4294967295,4294967295"],
 ]
 
 # Lengths of files beside the ends of SHA-256's blocks of 64 bytes, of which 9 end a file.
@@ -85,6 +125,31 @@ CHANGED = 400 if SWEEP else 40
 REFUSED = 12
 
 
+# The numbers of a line of a comparison, by the columns of the row of its verdict.
+LINES = [
+    r"agrees .*: (?P<sets>\d+) sets?, (?P<targets>\d+) targets?, within (?P<apart>\S+) mgon, limit (?P<limit>\S+) mgon, "
+    r"greatest residual (?P<greatest>\S+) mgon\n",
+    r"refused: compare: (?P<verdict>Apart) (?P<apart>\S+) mgon, limit (?P<limit>\S+) mgon\n",
+    r"refused: table (?P<place>row) (?P<first>\d+): (?P<verdict>\w+)\n",
+    r"refused: (?P<place>block) (?P<first>\d+): (?P<verdict>\w+).*\n",
+    r"refused: table: (?P<verdict>Columns) (?P<first>\d+) (?P<second>\d+)\n",
+    r"refused: table: (?P<verdict>Missing) (?P<first>\d+)\n",
+    r"refused: adjust: (?P<verdict>Residual) (?P<first>\d+)\n",
+    r"refused: (?:\w+: )?(?P<verdict>[\w ]+)\n",
+]
+OF_FAULT = {"Columns": "columns", "Missing": "target", "Residual": "observation"}
+TITLES = ["verdict", "sets", "targets", "apart", "limit", "greatest", "place", "first", "second"]
+OF_DISTANCE = ["apart", "limit", "greatest"]
+
+
+def row_in(line):
+    """The row of the verdict that a line of a comparison says, with distances in units of 0.001 mgon."""
+    found = next(found for pattern in LINES if (found := re.fullmatch(pattern, line)))
+    row = {title: "" for title in TITLES} | {"verdict": "agrees"} | found.groupdict()
+    row["place"] = row["place"] or OF_FAULT.get(row["verdict"], "")
+    return row | {title: row[title] and str(int(1000 * Fraction(row[title]))) for title in OF_DISTANCE}
+
+
 def is_lowered():
     """Whether the page that was made has a module with 32-bit memory."""
     return LOWERED.exists()
@@ -104,15 +169,22 @@ def node():
     return ["node", "--no-warnings"] if is_lowered() else node_of_64_bits()
 
 
+# What the program alone can be told: flags, and the beginnings of options with a text.
+OF_PROGRAM = "--csv", "--all", "--decimal-comma", "--signature"
+NAMED_BY_PROGRAM = "--table", "--note", "--date"
+
+
 def is_of_page(case):
     """Whether the files of a case can be handed in: they are there, and none is a folder. What the
-    program notes beside an empty list is its own, and so are the rows of a list, tables in degrees,
-    reports with a table, limits in mgon, and a limit of residuals but of a sheet."""
+    program notes beside an empty list is its own, and so are rows, all stations at once, reports with
+    a table or with notes, how changes of lines are stated and told, limits in mgon, and a limit of residuals but of a
+    sheet."""
     paths = [case.folder / word for word in case.args if "." in word]
     is_noted = case.args[:1] == ["list"] and case.expected[0] == 0 and case.expected[2]
-    is_stated = any(word in ("--csv", "--degrees") or word.startswith("--table") for word in case.args)
+    is_stated = any(word in OF_PROGRAM or word.startswith(NAMED_BY_PROGRAM) for word in case.args)
     is_held = case.args[:1] != ["check"] and any(word.startswith("--residual") for word in case.args)
     is_own = is_noted or is_stated or is_held or any(word.endswith("mgon") for word in case.args)
+    is_own = is_own or case.args[:1] == ["change"]
     return not is_own and case.expected[0] < 2 and all(path.is_file() for path in paths)
 
 
@@ -182,6 +254,15 @@ def changes_of(data, chance):
     return [(number, chance.choice(names)) for number in numbers]
 
 
+def parts_of(text):
+    """The parts of a text: before each stands a line of its title and of how many bytes it has."""
+    while text:
+        line, _, rest = text.partition(b"\n")
+        title, count = line.decode().split(" ")
+        yield title, rest[: int(count)]
+        text = rest[int(count) :]
+
+
 class PageCallsTest(TimedTest):
     maxDiff = None
 
@@ -210,7 +291,7 @@ class PageCallsTest(TimedTest):
         self.assertIn("residuals", {case.args[0] for case in cases if case.expected[0] == 0 and case.args})
         for case in cases:
             with self.subTest(case.name):
-                self.assertEqual(case.expected, run.answer(self.command(), case))
+                self.assertEqual(without_hint(case.expected), run.answer(self.command(), case))
 
     def test_the_module_with_64_bit_memory_answers_as_each_case_says(self):
         if not (is_lowered() and (node := node_of_64_bits())):
@@ -218,7 +299,7 @@ class PageCallsTest(TimedTest):
         command = [*node, str(COMMAND_LINE), str(self.other_page("page64.html", MODULE))]
         for case in cases_of_page()[::EACH]:
             with self.subTest(case.name):
-                self.assertEqual(case.expected, run.answer(command, case))
+                self.assertEqual(without_hint(case.expected), run.answer(command, case))
 
     def test_memory_that_is_nearly_used_is_refused_or_enough(self):
         """Of 32 bits: no call goes beyond what they address."""
@@ -237,12 +318,20 @@ class PageCallsTest(TimedTest):
             ["check", "--two-c=1000001", gsi, sheet],
             ["check", "--residual=2001", gsi, sheet],
             ["list", "--two-i=1000001", gsi],
+            ["list-rows", "--two-c=1000001", gsi],
             ["compare", "--within=1000001", gsi, "P7", table],
+            *(
+                [command, *stated, gsi, "P7", table]
+                for command in ("compare", "differences")
+                for stated in BEYOND_FORMS
+            ),
             ["directions", "--two-c=1000001", gsi, "P7"],
             ["directions", "--decimals=0", gsi, "P7"],
             ["directions", "--decimals=9", gsi, "P7"],
             ["residuals", "--two-i=1000001", gsi, "P7"],
             ["report", "--two-i=1000001", gsi, "P7"],
+            ["station", "--two-i=1000001", gsi, "P7"],
+            ["station", "--decimals=9", gsi, "P7"],
             ["differences", "--two-c=1000001", gsi, "P7", table],
             ["mark", "--station=SEVENTEEN LETTERS", gsi],
             ["mark", "--station=P\u00e47", gsi],
@@ -258,6 +347,25 @@ class PageCallsTest(TimedTest):
         ]:
             with self.subTest(words):
                 self.assertEqual((2, b"", b""), answer_to([*self.command(), *words]))
+
+    def test_a_table_of_any_form_is_answered_as_by_the_model(self):
+        """With its note, which stands before the line of a refusal too."""
+        gsi, answered = EXAMPLE.read_bytes(), []
+        with tempfile.TemporaryDirectory() as folder:
+            path = Path(folder) / "table.csv"
+            for unit, columns, table in TABLES:
+                path.write_bytes(table)
+                words = [] if unit == "gon" else [f"--{unit}"]
+                words += [f"--columns={columns[0]},{columns[1]}"] if columns else []
+                stated = tuple(b"%d" % column for column in columns) if columns else None
+                form = model.TableForm(unit, stated)
+                for command, of_model in [("compare", model.compared), ("differences", model.differences)]:
+                    expected = without_hint(of_model(gsi, b"S1", table, form=form))
+                    answered.append((expected[0], expected[2].startswith(b"note: ")))
+                    with self.subTest(command, words=words, table=table):
+                        words_of_call = [*self.command(), command, *words, EXAMPLE, "S1", path]
+                        self.assertEqual(expected, answer_to(words_of_call))
+        self.assertEqual({(0, True), (0, False), (1, True), (1, False)}, set(answered))
 
     @unittest.skipUnless(PROGRAM.exists(), "the program is not built")
     def test_each_refusal_is_explained_as_by_the_program(self):
@@ -288,38 +396,45 @@ class PageCallsTest(TimedTest):
 
     def test_a_text_is_handed_out_whole_or_its_lack_of_room_is_the_status(self):
         (gsi, sheet, table), job = map(str, EXAMPLES), str(JOB)
+        noted = [str(OF_COLUMNS / "field.gsi"), "S1", str(OF_COLUMNS / "table.csv")]
         for words in [
             ["check", gsi, sheet],
             ["list", gsi],
+            ["list-rows", gsi],
             ["means", EXAMPLE, "S1"],
             ["words", gsi],
             ["directions", gsi, "P7"],
             ["residuals", gsi, "P7"],
             ["report", gsi, "P7"],
+            ["station", gsi, "P7"],
             ["compare", gsi, "P7", table],
             ["differences", gsi, "P7", table],
+            ["compare", *noted],
+            ["differences", *noted],
             ["explain", "TwoC"],
             ["mark", job],
             ["digest", gsi, "two\\lines\n"],
             # The same of a refusal; of words it stands beside the words, of which there are none here.
             ["check", gsi, table],
             ["list", sheet],
+            ["list-rows", sheet],
             ["means", gsi, "P7"],
             ["words", sheet],
             ["directions", gsi, "P8"],
             ["residuals", gsi, "P8"],
             ["report", gsi, "P8"],
+            ["station", gsi, "P8"],
             ["compare", gsi, "P7", sheet],
             ["differences", gsi, "P7", sheet],
             ["explain", "Elephant"],
             ["mark", gsi],
         ]:
             usual = answer_to([*self.command(), *words])
-            # The copy of a job and its notes have a room each.
-            length = (max if words[0] == "mark" else sum)(map(len, usual[1:]))
+            # The copy of a job and its notes have a room each, and so have an answer of a table and its note.
+            length = (max if words[0] in NOTED else sum)(map(len, usual[1:]))
             self.assertGreater(length, 0)
-            is_copy = words[0] == "mark" and usual[1]
-            short = (*NO_ROOM[:2], usual[2]) if is_copy else NO_ROOM
+            shorter = [text if len(text) < length else b"" for text in usual[1:]]
+            short = (NO_ROOM[0], *shorter) if words[0] in NOTED else NO_ROOM
             for room, expected in [(length, usual), (length - 1, short), (0, NO_ROOM)]:
                 with self.subTest(words, room=room):
                     answer = answer_to([*self.command(), f"--room={room}", *words])
@@ -355,11 +470,12 @@ class PageCallsTest(TimedTest):
                     self.assertEqual(expected, answer_to([*self.command(), "change", path, *said]))
 
     def test_what_is_no_change_has_a_status_of_its_own(self):
-        for said in ["x", "1=", "4294967296", "00000000001", "1=\x7f", "-1", "1 ", "1=12345678901234567"]:
+        none = ["x", "1=", "4294967296", "00000000001", "1=\x7f", "-1", "1 ", "1=12345678901234567"]
+        for said in [*none, "=P7", "1\n", "1=P7\n\n2"]:
             with self.subTest(said):
                 self.assertEqual((2, b"", b""), answer_to([*self.command(), "change", JOB, said]))
-        # No digits are line 0, which no file has.
-        for said in ["=P7", "1\n", "1=P7\n\n2"]:
+        # No file has a line 0.
+        for said in ["0", "0=P7", "1=P7\n0"]:
             with self.subTest(said):
                 expected = 1, b"", b"refused: block 0: change: LineOrder\n"
                 self.assertEqual(expected, answer_to([*self.command(), "change", JOB, said]))
@@ -378,6 +494,65 @@ class PageCallsTest(TimedTest):
             ours = {(row["set"], row["target"]): int(1000 * Fraction(row["residual"])) for row in rows}
             with self.subTest(sheet):
                 self.assertEqual((0, sheet_residuals(sheet)), (status, ours))
+
+    def test_a_list_of_rows_is_that_of_each_case_with_the_number_of_its_note(self):
+        cases = [case for case in run.cases() if case.args[:1] == ["list"] and "--csv" in case.args]
+        self.assertEqual({0, 1}, {case.expected[0] for case in cases})
+        for case in cases:
+            field = next(word for word in case.args if "." in word)
+            status, rows, said = answer_to([*self.command(), "list-rows", case.folder / field])
+            with self.subTest(case.name):
+                if status:
+                    self.assertEqual(case.expected, (status, rows, said))
+                    continue
+                parts, unchecked = dict(parts_of(rows)), re.findall(rb"\d+", case.expected[2])[:1] or [b"0"]
+                self.assertEqual({"rows": case.expected[1], "unchecked": unchecked[0] + b"\n"}, parts)
+
+    def test_all_of_a_station_has_the_texts_that_are_handed_out_alone(self):
+        """Of each station of a case; at a refusal it has the line of that."""
+        deviation = rb"\nSum of squares .*\nStandard deviation +(\S+) mgon, of one"
+        accuracy = re.compile(rb"\nDegrees of freedom +(\d+)(?:" + deviation + rb"|: )")
+        asked = {(case.folder / case.args[-2], case.args[-1]) for case in cases_of_page() if case.args[:1] == ["report"]}
+        found = set()
+        for gsi, name in sorted(asked):
+            answers = [answer_to([*self.command(), word, gsi, name]) for word in ("directions", "residuals", "report")]
+            status, whole, said = answer_to([*self.command(), "station", gsi, name])
+            found.add(status)
+            with self.subTest(gsi, name=name):
+                if status:
+                    self.assertEqual([(status, whole, said)] * 3, answers)
+                    continue
+                (_, directions, _), (_, residuals, _), (_, report, _) = answers
+                parts = dict(parts_of(whole))
+                self.assertEqual(["directions", "rows", "accuracy", "report"], list(parts))
+                self.assertEqual(directions, parts["directions"])
+                self.assertEqual(residuals, residuals_in(parts["rows"]))
+                self.assertEqual(report, parts["report"])
+                self.assertEqual(b"degrees,deviation\n%s,%s\n" % accuracy.search(report).groups(b""), parts["accuracy"])
+        self.assertEqual({0, 1}, found)
+
+    def test_all_of_a_table_has_the_texts_that_are_handed_out_alone(self):
+        """Of each case of a comparison; the row of the verdict has what its line says."""
+        cases = [case for case in cases_of_page() if case.args[:1] == ["compare"]]
+        found = set()
+        for case in cases:
+            command, *words = case.args
+            words = [case.folder / word if (case.folder / word).is_file() else word for word in words]
+            compared, (_, differences, _) = (
+                answer_to([*self.command(), one, *words]) for one in (command, "differences")
+            )
+            status, whole, note = answer_to([*self.command(), "table", *words])
+            with self.subTest(case.name):
+                parts = dict(parts_of(whole))
+                line = parts["line"]
+                self.assertEqual(compared, (status, b"", note + line) if status else (status, line, note))
+                [row] = csv.DictReader(io.StringIO(parts["verdict"].decode()))
+                found.add(row["verdict"])
+                self.assertEqual(row_in(line.decode()), row)
+                if "differences" in parts:
+                    self.assertEqual(differences, parts["differences"])
+                    self.assertIn(b"\nComparison            ", parts["report"])
+        self.assertLessEqual({"agrees", "Apart", "Columns", "Missing", "Residual"}, found)
 
     @unittest.skipUnless(PROGRAM.exists(), "the program is not built")
     def test_changed_files_have_the_answers_of_the_program(self):

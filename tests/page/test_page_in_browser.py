@@ -22,13 +22,14 @@ from xml.etree import ElementTree
 
 import books
 import browser
+import model
 from program import ROOT, TimedTest
-from rows import residuals_in
 from test_page_calls import PAGE, RT, make_page
 
-sys.path[:0] = [str(ROOT / "bench"), str(ROOT / "tools")]
+sys.path[:0] = [str(ROOT / "bench"), str(ROOT / "tools"), str(ROOT / "tests" / "cli")]
 import bench  # noqa: E402
 import manuals  # noqa: E402
+from test_copies import sights_of  # noqa: E402
 
 EXAMPLES = ROOT / "examples"
 FIELD, SHEET, TABLE = (EXAMPLES / f"station_s1{end}" for end in (".gsi", ".csv", "_directions.csv"))
@@ -305,6 +306,111 @@ class PageInBrowserTest(TimedTest):
         self.assertEqual(whole, page.saved("Save the changed copy", "umlaut_changed.gsi"))
         self.assertEqual([], page.complaints())
 
+    def test_a_last_set_that_was_broken_off_is_proposed_line_by_line_and_left_out(self):
+        whole = P7_FIELD.read_bytes().splitlines(keepends=True)
+        left, gone = b"".join(whole[:37]), whole[37:46]
+        page = self.page(self.file("rain.gsi", left + b"".join(gone)))
+        self.assertEqual("refused: block 47: OneFace", page.text(".answer samp"))
+        self.assertIn("Proposed by the page, which is not proved", page.text(".proposal .where"))
+        lines = [line.decode().strip() for line in gone]
+        self.assertEqual(lines, page.texts(".proposal .content"))
+        numbers = [str(nth) for nth in range(38, 47)]
+        self.assertEqual(numbers, page.texts(".proposal .number"))
+        button = "Leave out the last set"
+        self.assertEqual([button], page.texts("form.change button"))
+        page.press(button)
+        self.assertIn("reason", page.text("form.change [role=status]"))
+        self.changed(page, button, "rain, book p. 14")
+        together = "blocks 38\u201346 left out, of the last set: rain, book p. 14"
+        said = [f"block {nth} left out, of the last set: rain, book p. 14" for nth in numbers]
+        each = [f"{one} Take back{line}" for one, line in zip(said, lines, strict=True)]
+        self.assertEqual([f"{together} Take backLine by line"], page.texts(".changes > li"))
+        page.js("document.querySelector('.changes summary').click()")
+        page.wait("document.querySelector('.changes li li') !== null")
+        self.assertEqual(each, page.texts(".changes li li"))
+        self.assertEqual(["Read without a fault: 3 sets, 6 targets, 16 directions."], page.texts(".headline"))
+        self.assertEqual(left, page.saved("Save the changed copy", "rain_changed.gsi"))
+        log = page.saved("Save the log", "rain_changed.gsi.log").decode()
+        for one, line in zip(said, lines, strict=True):
+            self.assertIn(f"\n{one}\n< {line}\n", log)
+        page.js("onbeforeprint()")
+        self.assertIn(together, page.texts("#protocol .facts dd div"))
+        with page.answered():
+            page.js("document.querySelector('.changes li li button').click()")
+        self.assertEqual([f"{together.replace('38', '39')} Take backLine by line"], page.texts(".changes > li"))
+        self.assertEqual("refused: block 39: EmptySet", page.text(".answer samp"))
+        with page.answered():
+            page.press("Take back")
+        self.assertEqual([["rain.gsi"], []], [page.texts("#inputs .name"), page.texts(".changes li")])
+        self.assertEqual([], page.complaints())
+
+    def test_closing_sights_are_proposed_beside_the_line_of_a_job_without_codes(self):
+        page = self.page(self.file("closed.gsi", sights_of("|ABCAacbaABCAacba")))
+        self.assertEqual("refused: block 9: mark: ReadTwice", page.text(".exact samp"))
+        buttons = ["Leave this line out", "Rename", "Leave out the closing sights"]
+        self.assertEqual(buttons, page.texts("form.change button"))
+        self.assertEqual(["5", "9", "13", "17"], page.texts(".proposal .number"))
+        self.changed(page, buttons[-1], "horizon closed")
+        said = "blocks 5, 9, 13, 17 left out, closing sights: horizon closed "
+        self.assertEqual([said], page.js("[...document.querySelectorAll('.changes > li')].map(one => one.firstChild.data)"))
+        self.assertEqual(["read", "Station P7"], self.cards(page)[0][:2])
+        self.assertEqual([], page.complaints())
+
+    def test_what_else_was_changed_stays_and_lines_have_the_numbers_of_the_field_file(self):
+        """A reading that was cut short, and then a last set that was broken off."""
+        first, *others = sights_of("|ABCcbaABCc").splitlines(keepends=True)
+        page = self.page(self.file("two.gsi", b"".join([first, others[0].replace(b"+1", b"+"), *others])))
+        self.assertRegex(page.text(".exact samp"), "^refused: block 2: ")
+        self.changed(page, "Leave this line out", "cut short")
+        self.assertEqual("refused: block 11: mark: FaceMissing", page.text(".exact samp"))
+        self.assertEqual(["9", "10", "11", "12"], page.texts(".proposal .number"))
+        self.changed(page, "Leave out the last set", "rain")
+        said = ["block 2 left out: cut short ", "blocks 9\u201312 left out, of the last set: rain "]
+        self.assertEqual(said, page.js("[...document.querySelectorAll('.changes > li')].map(one => one.firstChild.data)"))
+        self.assertEqual(["read", "Station P7"], self.cards(page)[0][:2])
+
+    def test_the_log_says_where_it_cuts_a_line(self):
+        reading = b"110001+0000000A 21.102+00000000 22.102+10000000"
+        long = reading + 15_000 * b" "
+        page = self.page(self.file("long.gsi", long + b"\n" + FIELD.read_bytes()))
+        self.changed(page, "Leave this line out", "too long")
+        log = page.saved("Save the log", "long_changed.gsi.log").decode()
+        shown = long[:1024].decode()
+        self.assertIn(f"\n< {shown} .. (cut here: the line has {len(long)} bytes)\n", log)
+
+    def test_a_changed_line_that_is_another_on_disk_is_no_longer_changed(self):
+        """A line was put in above it."""
+        field = self.file("wrong.gsi", FIELD.read_bytes().replace(b"25000010 22.102+30000000", b"2500001X 22.102+30000000"))
+        page = self.page()
+        page.drop(field)
+        self.assertEqual("refused: block 5: Hz Digits", page.text(".answer samp"))
+        self.changed(page, "Leave this line out", "a typing error")
+        self.assertEqual(["block 5 left out: a typing error Take back"], page.texts(".changes li"))
+        field.write_bytes(b"410000+00000005 42....+0000000X\r\n" + field.read_bytes())
+        with page.answered():
+            page.js("$('read-again').click()")
+        self.assertEqual([[], ["wrong.gsi"]], [page.texts(".changes li"), page.texts("#inputs .name")])
+        self.assertEqual("refused: block 6: Hz Digits", page.text(".answer samp"))
+
+    def test_a_changed_line_stays_changed_only_where_it_is_still_the_same(self):
+        """After the file was changed on disk and is read again: a line of the same number may be another."""
+        line = b"110004+0000000B 21.102+05000000 22.102+10000000\r\n"
+        twice = FIELD.read_bytes().replace(line, 2 * line)
+        field, page = self.file("double.gsi", twice), self.page()
+        page.drop(field)
+        self.changed(page, "Leave this line out", "read twice")
+        told = ["block 5 left out: read twice Take back"]
+        self.assertEqual(told, page.texts(".changes li"))
+        # What follows the line may change; lines above give it another number.
+        for data, changes in [(twice + b"\r\n", told), (2 * b"410000+00000099\r\n" + twice, [])]:
+            field.write_bytes(data)
+            with page.answered():
+                page.js("$('read-again').click()")
+            self.assertEqual(changes, page.texts(".changes li"))
+        self.assertEqual("refused: block 7: FaceTwice", page.text(".answer samp"))
+        self.assertEqual(["double.gsi"], page.texts("#inputs .name"))
+        self.assertEqual([], page.complaints())
+
     def file(self, name, data):
         path = self.folder / name
         path.write_bytes(data)
@@ -324,7 +430,7 @@ class PageInBrowserTest(TimedTest):
             page.js(
                 "{ const item = [...document.querySelectorAll('#inputs li')]"
                 f".find(one => one.querySelector('.name').textContent === {json.dumps(file)});"
-                " const s = item.querySelector('select');"
+                " const s = item.querySelector('select.station');"
                 f" s.value = [...s.options].find(one => one.textContent === {json.dumps(place)}).value; s.onchange() }}"
             )
 
@@ -404,11 +510,11 @@ class PageInBrowserTest(TimedTest):
         self.assertIn(said, page.texts(".results .quiet"))
         report = page.saved("Save report (TXT)", "P7_report.txt").decode()
         self.assertIn("Field file            station_p7.gsi\n", report)
-        self.assertTrue(report.endswith(f"Standard deviation    {deviation:.3f} mgon, of one two-face direction\n"))
+        self.assertIn(f"\nStandard deviation    {deviation:.3f} mgon, of one two-face direction\n", report)
 
     def test_where_there_is_no_adjustment_it_is_said_once(self):
         case = ROOT / "conformance" / "refused" / "adjustment" / "fault_adjust_residual_for_report_rows"
-        line = (case / "stderr").read_text().rstrip("\n")
+        line = (case / "stderr").read_text().splitlines()[0]
         page = self.page(case / "field.gsi")
         self.assertEqual([line], page.texts(".results samp"))
         self.assertEqual(["Adjusted directions", "Face differences"], page.texts(".results h3"))
@@ -429,7 +535,7 @@ class PageInBrowserTest(TimedTest):
     def residuals(self, page):
         """The residuals that are saved: of each its set, its target and its size, as it is written."""
         saved = page.saved("Save residuals (CSV)", "P7_residuals.csv").decode().splitlines()
-        return [(number, target, residual) for number, target, _, _, residual in csv.reader(saved[1:])]
+        return [(row["set"], row["target"], row["residual"]) for row in csv.DictReader(saved)]
 
     def test_the_picture_has_a_strip_for_each_target_and_each_set(self):
         page = self.page()
@@ -819,9 +925,9 @@ class PageInBrowserTest(TimedTest):
     def test_of_many_stations_a_choice_is_filled_when_it_is_turned_to(self):
         fields = [self.file(f"{nth}.gsi", FIELD.read_bytes()) for nth in range(21)]
         page = self.page(*fields, self.file("odd.csv", b"X,0\nY,1\n"))
-        options = "document.querySelector('#inputs select').length"
+        options = "document.querySelector('#inputs select.station').length"
         self.assertEqual(1, page.js(options))
-        page.js("document.querySelector('#inputs select').focus()")
+        page.js("document.querySelector('#inputs select.station').focus()")
         self.assertEqual(22, page.js(options))
         self.choose(page, "odd.csv", "7.gsi: S1")
         self.assertEqual("refused: table row 1: Unknown", page.text(".exact samp"))
@@ -957,15 +1063,79 @@ class PageInBrowserTest(TimedTest):
         for text in ("A,0.5", "A;0,5", "A\t0.5", '"A","0.5"', "A   0.5", "A,0.5,", "A,0.5 gon", '"A","0.5gon"', "Ziel;Richtung\nA;0,5\n"):
             self.assertEqual("table", page.js(f"kindOf('a.txt', new TextEncoder().encode({json.dumps(text)}))"), text)
         titles = "Job 7\nDate 12.3.26\nZiel Richtung\n"
-        for text in (f"{titles}P1 0.5\nP2 1.5\n", "P 1\t0,5\t0,3\n", "TOWER 0.5000 0.3\n"):
+        printed = ("   4    P8 dir.    212.757150    212.757221\n", "| P8 | 212.757150 |\n", "P8 dir. 59-04-09.18\n")
+        degrees = ("A;59 04 09.18\n", "A;59:04:09.18\n", "A;59\u00b0 04\u2032 09.18\u2033\n", "A,5.684341886080802e-14\n")
+        for text in (f"{titles}P1 0.5\nP2 1.5\n", "P 1\t0,5\t0,3\n", "TOWER 0.5000 0.3\n", *printed, *degrees):
             self.assertEqual("table", page.js(f"kindOf('a.txt', new TextEncoder().encode({json.dumps(text)}))"), text)
         page.give(FIELD, self.file("sheet.csv", SHEET.read_bytes().replace(b",", b";")))
         self.assertEqual("sheet of S1", page.texts("#inputs .kind")[1])
         self.assertEqual("refused: sheet row 1: Fields", page.text(".exact samp"))
         page.empty()
         page.give(P7_FIELD, self.file("gon.csv", FOUR_DECIMALS.replace(b"\n", b" gon\n")))
-        self.assertEqual("refused: table row 1: Number", page.text(".exact samp"))
-        self.assertIn("Leave out the unit", page.text(".explanation"))
+        self.assertEqual("good", self.cards(page)[0][0])
+        self.assertTrue(page.text(".columns").endswith("Units passed over: 6."), page.text(".columns"))
+
+    def test_it_is_told_by_which_columns_a_table_was_read(self):
+        """Beside the answer, beside a refusal of a table that is apart, and on paper."""
+        rows = [b"%d;%s;%s" % (nth, *row.split(b",")) for nth, row in enumerate(FOUR_DECIMALS.split(), 1)]
+        table = b"Station P7\n\n" + b" gon\n".join(rows) + b" gon\nsum;;1240.6397 gon\n"
+        for text, mood in [(table, "good"), (table.replace(b"278.8606", b"278.8616"), "bad")]:
+            page = self.page(P7_FIELD, self.file("printed.txt", text))
+            self.assertEqual([mood], [card[0] for card in self.cards(page)])
+            _, said, told = model.compared(P7_FIELD.read_bytes(), b"P7", text)
+            note, line = sorted((said + told).decode().splitlines(), key=lambda one: not one.startswith("note: "))
+            self.assertEqual([line, note], page.texts(".answer .exact samp"))
+            lefts = page.js("[...document.querySelectorAll('.exact dd')].map(one => one.getBoundingClientRect().left)")
+            self.assertEqual(1, len(set(lefts)), lefts)
+            read = (
+                "Read: targets in column 2, directions in column 3. Rows passed over: 1 before the targets, 0 among them, "
+                "1 after them. Units passed over: 6."
+            )
+            self.assertEqual([read], page.texts(".answer .columns"))
+            printed = self.printed_text(page)
+            self.assertIn(read, printed)
+            self.assertIn(note, printed)
+        # Of two columns nothing is told.
+        page = self.page(P7_FIELD, P7_TABLE)
+        self.assertEqual([], page.texts(".answer .columns"))
+        self.assertEqual(1, len(page.texts(".answer .exact samp")))
+
+    def test_columns_are_stated_where_more_fit(self):
+        table = b"A;1;0\nB;2;50.00003\n"
+        page = self.page(FIELD, self.file("columns.csv", table))
+        refused = "refused: table: Columns 2 3"
+        self.assertEqual(refused, page.text(".exact samp"))
+        self.assertEqual("Columns 2 and 3 both fit.", page.text(".answer form span"))
+        with page.answered():
+            page.js(
+                "{ const form = document.querySelector('.answer form'), [names, directions] = form.querySelectorAll('input');"
+                " names.value = '1'; directions.value = '3'; form.requestSubmit() }"
+            )
+        form = model.TableForm(columns=(b"1", b"3"))
+        _, said, told = model.compared(FIELD.read_bytes(), b"S1", table, form=form)
+        self.assertEqual((said + told).decode().splitlines(), page.texts(".exact samp"))
+        self.assertEqual("station_check compare --columns 1,3 station_s1.gsi S1 columns.csv", page.text(".exact code"))
+        self.assertEqual(["1", "3"], page.js("[...document.querySelectorAll('.answer form input')].map(one => one.value)"))
+        with page.answered():
+            page.press("Find the columns")
+        self.assertEqual([refused], page.texts(".exact samp"))
+
+    def test_the_unit_of_a_table_is_chosen_beside_it(self):
+        stated = [(name, Fraction(gon) * 9 / 10) for name, gon in csv.reader(P7_TABLE.read_text().splitlines())]
+        degrees = "".join(f"{name},{float(angle):.6f}\n" for name, angle in stated).encode()
+        page = self.page(P7_FIELD, self.file("degrees.csv", degrees))
+        self.assertTrue(page.text(".exact samp").startswith("refused: compare: Apart "), page.text(".exact samp"))
+        self.assertEqual(["gon", "degrees (360\u00b0)", "degrees as D.MMSS"], page.texts("#inputs select.unit option"))
+        for place, unit in [(1, "degrees"), (2, "dmmss"), (0, "gon")]:
+            with page.answered():
+                page.js(f"{{ const unit = document.querySelector('#inputs select.unit'); unit.selectedIndex = {place}; unit.onchange() }}")
+            status, said, told = model.compared(P7_FIELD.read_bytes(), b"P7", degrees, form=model.TableForm(unit))
+            with self.subTest(unit):
+                self.assertEqual(["good" if status == 0 else "bad"], [card[0] for card in self.cards(page)])
+                self.assertEqual((said + told).decode().strip(), page.text(".exact samp"))
+                option = "" if unit == "gon" else f"--{unit} "
+                self.assertEqual(f"station_check compare {option}station_p7.gsi P7 degrees.csv", page.text(".exact code"))
+                self.assertEqual(place, page.js("document.querySelector('#inputs select.unit').selectedIndex"))
 
     def test_what_belongs_together_is_found_by_name_and_by_station(self):
         page = self.page(P7_FIELD, FIELD, P7_TABLE, TABLE, P7_SHEET, SHEET)
@@ -1314,7 +1484,7 @@ class PageInBrowserTest(TimedTest):
                 "[[...document.querySelectorAll('.card details.results')].map(one => one.open),"
                 " document.querySelector('.card form input').value,"
                 " document.activeElement === document.querySelector('.card form input'),"
-                " [...document.querySelectorAll('#inputs select')].map(one => one.selectedIndex)]"
+                " [...document.querySelectorAll('#inputs select.station')].map(one => one.selectedIndex)]"
             )
 
         before = look()
@@ -1449,7 +1619,7 @@ class PageInBrowserTest(TimedTest):
             with self.subTest(name):
                 self.assertEqual((CASES / case / "stdout").read_bytes(), page.saved(button, name))
         rows = (CASES / "report" / "report_as_rows" / "stdout").read_bytes()
-        self.assertEqual(residuals_in(rows), page.saved("Save residuals (CSV)", "S1_residuals.csv"))
+        self.assertEqual(rows, page.saved("Save residuals (CSV)", "S1_residuals.csv"))
         faces = "set,target,2c mgon,2i mgon\n1,A,0.06,-0.02\n1,B,0.10,0.00\n"
         self.assertTrue(page.saved("Save 2c and 2i (CSV)", "S1_faces.csv").decode().startswith(faces))
         page.empty()
@@ -1560,8 +1730,8 @@ class PageInBrowserTest(TimedTest):
         """Each row, set by set, the greatest 2c and 2i marked; in the window they are folded."""
         page = self.page(P7_FIELD, P7_SHEET)
         report = page.saved("Save report (TXT)", "P7_report.txt").decode()
-        rows = report.partition("2c         2i\n")[2].partition("\nAdjusted")[0].splitlines()
-        expected = [row.split() for row in rows if row]
+        rows = report.partition(" 2c        2i\n")[2].partition("\nAdjusted")[0].splitlines()
+        expected = [row.split() for row in rows if row[:5].strip().isdigit()]
         self.assertEqual(22, len(expected))
         page.js("onbeforeprint()")
         read = (

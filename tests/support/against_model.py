@@ -30,6 +30,9 @@ class Case(NamedTuple):
     within: int | None = None
     degrees: bool = False
     stated: model.StatedSets = model.StatedSets()  # of `mark`
+    decimal_comma: bool = False
+    left_out: tuple[int, ...] = ()  # of `change`: the numbers of lines
+    names: tuple[tuple[int, str], ...] = ()  # of `change`: numbers of lines, and names of points
 
     def expected(
         self, gsi: Path = Path("field.gsi"), sheet: Path = Path("table.csv")
@@ -40,31 +43,38 @@ class Case(NamedTuple):
         if self.command == "mark":
             stated_name = None if self.station is None else name
             return model.marked(self.gsi, stated_name, stated=self.stated)
+        if self.command == "change":
+            names = [(number, name.encode()) for number, name in self.names]
+            return model.changed(self.gsi, self.left_out, names)
         if self.command == "words":
             return model.words(self.gsi)
         if self.command == "list":
             return model.listed(self.gsi, limits)
         if self.command == "list --csv":
-            return model.listed_rows(self.gsi, limits)
+            return model.listed_rows(self.gsi, limits, decimal_comma=self.decimal_comma)
         if self.command == "means":
             return model.means(self.gsi, name, limits)
+        formed = {"residual": residual, "decimal_comma": self.decimal_comma}
         if self.command == "directions":
-            return model.directions(self.gsi, name, limits, self.decimals, residual=residual)
+            return model.directions(self.gsi, name, limits, self.decimals, **formed)
         if self.command == "differences":
-            given = self.sheet, limits, self.degrees
-            return model.differences(self.gsi, name, *given, residual=residual)
+            return model.differences(self.gsi, name, self.sheet, limits, self.form(), **formed)
         if self.command == "report":
             return model.reported(self.gsi, bytes(gsi), name, limits, residual=residual)
         if self.command == "report --csv":
-            return model.reported_rows(self.gsi, name, limits, residual=residual)
+            return model.reported_rows(self.gsi, name, limits, **formed)
         if self.command == "report --table":
-            table = model.ReportTable(bytes(sheet), self.sheet, self.within, self.degrees)
+            table = model.ReportTable(bytes(sheet), self.sheet, self.within, self.form())
             path = bytes(gsi)
             return model.reported(self.gsi, path, name, limits, table=table, residual=residual)
         if self.command == "compare":
-            units = self.within, self.degrees
+            units = self.within, self.form()
             return model.compared(self.gsi, name, self.sheet, limits, *units, residual=residual)
         return model.check(self.gsi, self.sheet, limits, residual=residual)
+
+    def form(self) -> model.TableForm:
+        """How its table is read."""
+        return model.TableForm("degrees" if self.degrees else "gon")
 
     def args(self, gsi: Path, sheet: Path) -> list:
         """The words of its command line, over these paths."""
@@ -78,9 +88,15 @@ class Case(NamedTuple):
             options.append(f"--within={in_mgon(self.within, model.TABLE_UNIT)}")
         if self.degrees:
             options.append("--degrees")
+        if self.decimal_comma:
+            options.append("--decimal-comma")
         if self.command == "mark":
             named = [] if self.station is None else [f"--station={self.station}"]
             return ["mark", *named, *self.stated.options(), gsi]
+        if self.command == "change":
+            left_out = [f"--leave-out={number}" for number in self.left_out]
+            names = [f"--rename={number}={name}" for number, name in self.names]
+            return ["change", *left_out, *names, gsi]
         return {
             "words": ["words", gsi],
             "list": ["list", *options, gsi],

@@ -700,6 +700,20 @@ def cases_of_jobs(place: int) -> Iterator[Case]:
         yield Case(f"{place}: job {nth}", "mark", text, station=name, stated=stated)
 
 
+def change_of(random: Random, name: str, field: bytes) -> Case:
+    """A run that changes lines: some that are there, and now and then one that isn't, or a name that
+    can't be."""
+    last = len(field.splitlines()) + 1
+    lines = random.sample(range(1, last + 1), min(last, random.randint(1, 3)))
+    if random.random() < 0.2:
+        lines.append(random.choice([*lines, last + 100]))
+    named = lines[random.randint(0, len(lines)) :]
+    names = ["A", "P8", "12345678", "123456789", "0", "07"]
+    renamed = tuple((number, random.choice(names)) for number in named)
+    left_out = tuple(lines[: len(lines) - len(named)])
+    return Case(name, "change", field, left_out=left_out, names=renamed)
+
+
 def cases_of(place: int) -> Iterator[Case]:
     """The runs over one generated file, and over sheets of its stations."""
     random, of_residuals = Random(f"{SEED} {place}"), Random(f"residuals {SEED} {place}")
@@ -710,6 +724,7 @@ def cases_of(place: int) -> Iterator[Case]:
         return {"residual": of_residuals.choice([None, None, None, 0, 1, 20, 200, 2_000])}
 
     yield Case(f"{place}: words", "words", field)
+    yield change_of(Random(f"changes {SEED} {place}"), f"{place}: changes", field)
     yield Case(f"{place}: list", "list", field, limits=limits)
     yield Case(f"{place}: rows of the list", "list --csv", field, limits=limits)
     try:

@@ -30,17 +30,22 @@ MARK_FAULTS = [
     *["PairAfter", "OtherTargets", "SightsItself", "StationTwice", "ByTargets", "SetCount", "TargetCount"],
 ]
 
+# Of changes of lines.
+CHANGE_FAULTS = ["LineOrder", "NoSuchLine", "NameTooLong", "ZeroBefore", "NoPoint"]
+
 WRITTEN = ["accepted", "agrees", "written", "nothing to write"]
 
 # The refusals that files of any size can have.
 REFUSALS = [
     *[f"block n: {fault}" for fault in BLOCK_FAULTS],
     *[f"block n: mark: {fault}" for fault in MARK_FAULTS],
+    *[f"block n: change: {fault}" for fault in CHANGE_FAULTS],
     *[f"sheet row n: {fault}" for fault in ROW_FAULTS],
     *[f"kernel: {fault}" for fault in KERNEL_FAULTS],
     *["no station", "means: Incomplete"],
     *[f"table row n: {fault}" for fault in TABLE_ROW_FAULTS],
-    *["table: Missing n", "adjust: NotConnected", "adjust: Residual n", "compare: Apart n mgon, limit n mgon"],
+    *["table: Columns n n", "table: Missing n", "adjust: NotConnected", "adjust: Residual n"],
+    "compare: Apart n mgon, limit n mgon",
 ]
 
 # Those of files, sheets and tables with too much of something, and of reads that fail.
@@ -49,16 +54,27 @@ OF_COUNTS = [
     *["block n: mark: TooManyTargets", "block n: mark: TooManySets"],
     *["block n: mark: TooManyStations", "sheet row n: TooMany"],
 ]
-OF_BYTES = ["block n: FileTooLong", "sheet: TooLong", "table: TooLong"]
-OF_READS = ["block n: Read", "sheet: Read", "table: Read"]
+OF_BYTES = ["block n: FileTooLong", "field file: FileTooLong", "sheet: TooLong", "table: TooLong"]
+OF_READS = ["block n: Read", "field file: Read", "sheet: Read", "table: Read"]
 
 # Those that no run is known to have.
 NEVER_MET = ["adjust: NotFound"]
 
 
 def refusal_in(stderr: bytes) -> str:
-    """The line of a refusal, before which may stand what is told of stations."""
-    return stderr.decode().splitlines()[-1]
+    """The line of a refusal; before it may stand what is told of stations or of a table, after it
+    what its numbers stand for."""
+    lines = stderr.decode().splitlines()
+    return next((line for line in lines if line.startswith("refused: ")), lines[-1])
+
+
+def without_hint(answer: tuple[int, bytes, bytes]) -> tuple[int, bytes, bytes]:
+    """An answer without what is told after the line of a refusal: the library and the page, which
+    name targets and sets in their own words, leave it out."""
+    status, stdout, stderr = answer
+    lines = stderr.splitlines(keepends=True)
+    refusals = [place for place, line in enumerate(lines) if line.startswith(b"refused: ")]
+    return status, stdout, b"".join(lines[: refusals[0] + 1] if refusals else lines)
 
 
 def kind_of(answer: tuple[int, bytes, bytes]) -> str:
@@ -71,4 +87,4 @@ def kind_of(answer: tuple[int, bytes, bytes]) -> str:
     reason = refusal_in(stderr).removeprefix("refused: ")
     reason = re.sub(r"^(block|sheet row|table row) \d+", r"\1 n", reason)
     reason = re.sub(r"\d+\.\d{3} mgon", "n mgon", reason)
-    return reason if "WordTwice" in reason else re.sub(r" \d+$", " n", reason)
+    return reason if "WordTwice" in reason else re.sub(r" \d+(?= \d+$|$)", " n", reason)

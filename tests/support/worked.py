@@ -70,19 +70,25 @@ Station               S1
 Sets                  2
 Targets               2
 Two-face directions   4
+Missing directions    0
 Limit of 2c           20.00 mgon
 Limit of 2i           20.00 mgon
 Limit of residuals    10.000 mgon
 
-Readings in gon, mean of both faces counted from the first row of the set, 2c and 2i in mgon
+Readings in gon, mean of both faces counted from the first row of the set,
+2c and 2i in mgon
 
-  Set  Target                Face I     Face II         Mean         2c         2i
+  Set  Target               Face I    Face II         Mean        2c        2i
 
-    1  A                    0.00000   200.00006     0.000000       0.06      -0.02
-    1  B                   50.00000   250.00010    50.000020       0.10       0.00
+    1  A                   0.00000  200.00006     0.000000      0.06     -0.02
+    1  B                  50.00000  250.00010    50.000020      0.10      0.00
 
-    2  A                  100.00000   300.00004     0.000000       0.04       0.00
-    2  B                  150.00004   350.00008    50.000040       0.04       0.00
+    2  A                 100.00000  300.00004     0.000000      0.04      0.00
+    2  B                 150.00004  350.00008    50.000040      0.04      0.00
+
+  Mean                                                          0.06      0.00
+  Half of the mean: collimation and index error                 0.03      0.00
+  Spread: the greatest less the least                           0.06      0.02
 
 Adjusted directions in gon, by least squares, counted from the first target
 
@@ -100,21 +106,24 @@ Residuals in mgon: adjusted direction less two-face direction
 
 Greatest residual     -0.005 mgon, set 1, target A
 Degrees of freedom    1
+Sum of squares [vv]   0.000100 mgon^2
 Standard deviation    0.010 mgon, of one two-face direction
+Standard deviation    0.007 mgon, of each adjusted direction
 """
 
 REPORT_ROWS = b"""\
-station,set,target,face one,face two,direction,2c,2i,adjusted,residual
-S1,1,A,0.000000,200.000060,0.000030,0.06,-0.02,0.000025,-0.005
-S1,1,B,50.000000,250.000100,50.000050,0.10,0.00,50.000055,0.005
-S1,2,A,100.000000,300.000040,100.000020,0.04,0.00,100.000025,0.005
-S1,2,B,150.000040,350.000080,150.000060,0.04,0.00,150.000055,-0.005
+station,set,target,face one,face two,direction,2c,2i,adjusted,residual,zenith one,zenith two,zenith mean
+S1,1,A,0.000000,200.000060,0.000030,0.06,-0.02,0.000025,-0.005,100.000000,299.999980,100.000010
+S1,1,B,50.000000,250.000100,50.000050,0.10,0.00,50.000055,0.005,100.000000,300.000000,100.000000
+S1,2,A,100.000000,300.000040,100.000020,0.04,0.00,100.000025,0.005,100.000000,300.000000,100.000000
+S1,2,B,150.000040,350.000080,150.000060,0.04,0.00,150.000055,-0.005,100.000000,300.000000,100.000000
 """
 
 # What stands in the report, before the residuals, of a table whose path is put in. Each of its two
 # directions is 15 units off after one rotation.
 SECTION = b"""\
-Stated directions in gon, differences in mgon: stated less adjusted, after the best rotation
+Stated directions in gon, differences in mgon: stated less adjusted,
+after the best rotation
 
   Target                      Stated    Difference    From the median
 
@@ -123,7 +132,7 @@ Stated directions in gon, differences in mgon: stated less adjusted, after the b
 
 Table                 %s
 Limit of differences  0.055 mgon
-Comparison            agrees S1: 2 sets, 2 targets, within 0.015 mgon, limit 0.055 mgon, greatest residual 0.005 mgon
+Comparison            agrees: 2 targets, within 0.015 mgon
 
 """
 
@@ -134,8 +143,15 @@ TABLE_15 = b"B,150.0001\nA,100.0001\n"
 ZENITHS = (10_000_000, 30_000_000)
 
 
-def refused(reason: str) -> bytes:
-    return f"refused: {reason}\n".encode()
+def refused(reason: str, hint: str = "") -> bytes:
+    """The line of a refusal, and what is told after it."""
+    return f"refused: {reason}\n".encode() + (f"{hint}\n".encode() if hint else b"")
+
+
+# What is told of a station that is not held together.
+PARTS = (
+    "the sets fall into parts without a common target: read a target of one part in a set of another"
+)
 
 
 def edited(text: bytes, *edits: tuple[bytes, bytes]) -> bytes:

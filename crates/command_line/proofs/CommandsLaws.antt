@@ -50,6 +50,8 @@ is_simple_rule : (a : Argument) → (rule_for a).is_simple ≡ true
 is_simple_rule argument.FieldFile = refl
 is_simple_rule argument.Copy = refl
 is_simple_rule argument.Station = refl
+is_simple_rule argument.OptionalStation = refl
+is_simple_rule argument.All = refl
 is_simple_rule argument.Sheet = refl
 is_simple_rule argument.Table = refl
 is_simple_rule argument.Fault = refl
@@ -58,9 +60,12 @@ is_simple_rule argument.TwoI = refl
 is_simple_rule argument.Residual = refl
 is_simple_rule argument.Within = refl
 is_simple_rule argument.Degrees = refl
+is_simple_rule argument.MinutesAfterPoint = refl
+is_simple_rule argument.Columns = refl
 is_simple_rule argument.Decimals = refl
 is_simple_rule argument.Digests = refl
 is_simple_rule argument.Rows = refl
+is_simple_rule argument.DecimalComma = refl
 is_simple_rule argument.StatedTable = refl
 is_simple_rule argument.StatedName = refl
 is_simple_rule argument.SameSetUp = refl
@@ -69,6 +74,11 @@ is_simple_rule argument.StationCode = refl
 is_simple_rule argument.StatedSets = refl
 is_simple_rule argument.StatedTargets = refl
 is_simple_rule argument.Others = refl
+is_simple_rule argument.LeaveOut = refl
+is_simple_rule argument.Rename = refl
+is_simple_rule argument.Date = refl
+is_simple_rule argument.Note = refl
+is_simple_rule argument.Signature = refl
 
 -- A command of this name with the first of these arguments, so many of them.
 abbrev pub command_with : Text → List Argument → ℕ → App
@@ -107,6 +117,7 @@ is_plain_command command.Report = refl
 is_plain_command command.Check = refl
 is_plain_command command.Means = refl
 is_plain_command command.Mark = refl
+is_plain_command command.Change = refl
 is_plain_command command.List = refl
 is_plain_command command.Words = refl
 is_plain_command command.Explain = refl

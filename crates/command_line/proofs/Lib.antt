@@ -2,3 +2,4 @@ pub mod CommandsLaws
 pub mod NamingLaws
 pub mod LimitLaws
 pub mod MistakeLaws
+pub mod RowLaws

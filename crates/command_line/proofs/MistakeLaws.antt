@@ -1,14 +1,12 @@
 -- The mistakes that are looked for, one after the other.
-use Rattle.std.proofs.Common.{◌≡◌, ◌+◌, ◌≤◌, ◌<◌, ℕ, arith, get_or, inl, inr, lit<, lit≤, refl}
+use Rattle.std.proofs.Common.{◌≡◌, ◌+◌, ◌≤◌, ◌<◌, ℕ, arith, get_or, lit<, lit≤, refl}
 use Rattle.std.proofs.Common.{subst}
-use Rattle.std.proofs.lemmas.Bool.{cases_lt}
 use borrow.Author.Count.{below_more}
 use Rattle.clap.specs.declared.parser.matches.Found.{Found}
 use Rattle.job_statements.specs.declared.stated.StatedNumber.{StatedNumber}
 use Rattle.command_line.specs.CountOptions.{count_largest, count_name}
 use Rattle.command_line.specs.LimitOptions.{option_largest, place}
-use Rattle.command_line.specs.Mistakes.{HasRightCounts, IsMistakeAmong, IsMistakeFrom}
-use Rattle.command_line.specs.Mistakes.{IsRightLimit, NoneIsBefore, rank}
+use Rattle.command_line.specs.Mistakes.{HasRightCounts, IsRightLimit}
 use Rattle.command_line.specs.StatedNumbers.{texts_of}
 use Rattle.command_line.specs.declared.count_option.CountOption.{CountOption}
 use Rattle.command_line.specs.declared.count_option.CountOption.TheVariants.{Sets, Targets}
@@ -16,7 +14,6 @@ use Rattle.command_line.specs.declared.limit_option.LimitOption.{LimitOption}
 use Rattle.command_line.specs.declared.limit_option.LimitOption.TheVariants.{TwoC, TwoI, Residual}
 use Rattle.command_line.specs.declared.limit_option.LimitOption.TheVariants.{Within}
 use Rattle.command_line.specs.declared.limit_option.TheConstants.{LIMIT_OPTIONS}
-use Rattle.command_line.specs.declared.mistakes.Mistake.{Mistake}
 use Rattle.job_statements.specs.StatedNumbers.{IsStatedBy}
 use Rattle.job_statements.proofs.NumberLaws.{no_numbers}
 
@@ -77,14 +74,3 @@ right-counts found option stated is =
     λ text why wrong.
     no_numbers (count_largest option) (texts_of found (count_name option)) text why
     (small-count option) wrong is.0 is.1
-
--- The first mistake from a place on is the first of all, where none is before that place.
-pub first-of-all : (place : ℕ) (found : Found) (mistake : Mistake) → NoneIsBefore place found
-    → IsMistakeFrom place found mistake → IsMistakeAmong found mistake
-first-of-all place found mistake none is = record {
-  there = is.there;
-  first = λ other before. elim (cases_lt (rank other) place) [
-    | inl early ↦ none other early
-    | inr late ↦ is.first other late before
-  ];
-}

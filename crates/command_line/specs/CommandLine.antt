@@ -1,10 +1,11 @@
 -- What the words of a command line ask for, or why they are answered with an error.
-use Rattle.std.specs.Prelude.{◌≡◌, ◌≢◌, ◌⊎◌, ℕ, List, [], Option, Some, None, codes}
+use Rattle.std.specs.Prelude.{◌≡◌, ◌≢◌, ◌⊎◌, ℕ, true, false, List, [], Option, Some, None, codes}
 use Rattle.std.specs.Prelude.{option_map}
 use Rattle.std.specs.Borrow.{Bor}
 use Rattle.std.specs.List.{join_by}
-use Rattle.clap.specs.Words.{first_value, matched_of, raw_values, kind_of, fault_of, HasKind, Row, Text}
-use Rattle.clap.specs.Words.{subcommand_of, rows_of}
+use Rattle.changed_lines.specs.declared.change.Change.{Change}
+use Rattle.clap.specs.Words.{first_value, matched_of, raw_values, kind_of, fault_of, HasKind, Row}
+use Rattle.clap.specs.Words.{Text, subcommand_of, rows_of}
 use Rattle.clap.specs.declared.error.Error.{Error}
 use Rattle.clap.specs.declared.error.kind.ErrorKind.TheVariants.{InvalidValue, OutOfMemory}
 use Rattle.clap.specs.declared.error.kind.ErrorKind.TheVariants.{ValueValidation}
@@ -12,26 +13,38 @@ use Rattle.clap.specs.declared.parser.matches.Found.{Found}
 use Rattle.job_statements.specs.declared.beginnings.Beginnings.{Beginnings}
 use Rattle.job_statements.specs.declared.stated.Stated.{Stated}
 use Rattle.station_book.specs.Limits.{FaceLimits}
+use Rattle.station_book.specs.declared.result_limits.ResultLimits.{ResultLimits}
 use Rattle.station_explain.specs.Naming.{Names, IsMeant, IsNoNameInAnyCase}
 use Rattle.station_explain.specs.Table.{Explanation}
 use Rattle.command_line.specs.Commands.{the_program}
+use Rattle.command_line.specs.Mistakes.{StandsBesideAll}
 use Rattle.command_line.specs.Stated.{HoldsResiduals, IsGiven, IsMissing, StatesDigests, StatesForm}
 use Rattle.command_line.specs.Stated.{StatesBeginnings, StatesFlag, StatesLimits}
-use Rattle.command_line.specs.Stated.{StatesNoBeginnings, StatesNoLimits, StatesNoNumber}
+use Rattle.command_line.specs.Stated.{IsStatedForm, StatesNoBeginnings, StatesNoColumns}
+use Rattle.command_line.specs.Stated.{StatesNoLimits, StatesNoNumber}
 use Rattle.command_line.specs.Stated.{StatesNoResidual, StatesNoWithin, StatesNumber}
-use Rattle.command_line.specs.Stated.{StatesResidual, StatesUnit, StatesWithin}
+use Rattle.command_line.specs.Stated.{StatesResidual, StatesRowForm, StatesTableForm}
+use Rattle.command_line.specs.Stated.{StatesWithin}
+use Rattle.command_line.specs.Stated.{IsCommaAlone}
+use Rattle.command_line.specs.StatedChanges.{StatesChanges, StatesNoChanges}
+use Rattle.command_line.specs.StatedNotes.{SpeaksOfNotes, StatesNoNotes, StatesNotes}
 use Rattle.command_line.specs.StatedNumbers.{StatesNoNumbers, StatesNumbers}
 use Rattle.command_line.specs.declared.request.Digests.TheVariants.{Omitted, Printed}
 use Rattle.command_line.specs.declared.request.FieldStation.{FieldStation}
+use Rattle.command_line.specs.declared.request.FieldStations.{FieldStations}
 use Rattle.command_line.specs.declared.request.ListForm.TheVariants.{Lines, Rows}
 use Rattle.command_line.specs.declared.request.Request.{Request}
 use Rattle.command_line.specs.declared.request.Request.TheVariants as request
 use Rattle.command_line.specs.declared.request.SheetCheck.{SheetCheck}
 use Rattle.command_line.specs.declared.request.StationText.{StationText}
 use Rattle.command_line.specs.declared.request.StationText.TheVariants as text
+use Rattle.command_line.specs.declared.request.StationsText.{StationsText}
+use Rattle.command_line.specs.declared.request.StationsText.TheVariants as texts
 use Rattle.command_line.specs.declared.request.TableText.{TableText}
 use Rattle.command_line.specs.declared.request.TableText.TheVariants as table_text
-use Rattle.direction_table.specs.declared.unit.AngleUnit.TheVariants.{Gon, Degrees}
+use Rattle.direction_table.specs.TableRows.{unstated}
+use Rattle.direction_table.specs.declared.form.TableForm.{TableForm}
+use Rattle.direction_table.specs.declared.unit.AngleUnit.TheVariants.{Gon}
 
 -- What is asked for, with the paths of its files.
 abbrev pub Asked : Type 0
@@ -45,44 +58,72 @@ pub record AsksOfStation (found : Found) (gsi station : List ℕ) (limits : Face
   pub of_station : IsGiven found (codes "STATION") station
   pub of_limits : StatesLimits found limits
 
--- The adjustment of a station is asked for: the station with the limits of its face differences,
--- and the limit of its residuals, which is the largest where none is stated.
-pub record AsksForResult (found : Found) (asked : FieldStation (Bor (List ℕ))) : Type 0 where
-  pub station_of : AsksOfStation found asked.gsi.now asked.name.now asked.limits.faces
-  pub of_residuals : HoldsResiduals found asked.limits.residual
+-- A result is held to these limits: to those of face differences, and to that of residuals, which
+-- is the largest where none is stated.
+pub record HoldsResult (found : Found) (limits : ResultLimits) : Type 0 where
+  pub of_faces : StatesLimits found limits.faces
+  pub of_residuals : HoldsResiduals found limits.residual
 
--- No table is stated, and nothing that speaks of one: no limit of a comparison, and no unit but
--- gon.
+-- The adjustment of a station is asked for: the path of the field file, the station's name, and the
+-- limits of the result.
+pub record AsksForResult (found : Found) (asked : FieldStation (Bor (List ℕ))) : Type 0 where
+  pub field_file : IsGiven found (codes "GSI") asked.gsi.now
+  pub of_station : IsGiven found (codes "STATION") asked.name.now
+  pub of_limits : HoldsResult found asked.limits
+
+-- The adjustments of all stations are asked for: the path of the field file, and the limits of the
+-- results; and nothing that is of one station stands beside that.
+pub record AsksForAll (found : Found) (asked : FieldStations (Bor (List ℕ))) : Type 0 where
+  pub field_file : IsGiven found (codes "GSI") asked.gsi.now
+  pub of_limits : HoldsResult found asked.limits
+  pub alone : ¬ (StandsBesideAll found)
+
+-- No table is stated, and nothing that speaks of one: no limit of a comparison, no unit but gon,
+-- and no columns.
 pub record IsWithoutTable (found : Found) : Type 0 where
   pub no_table : IsMissing found (codes "table")
   pub no_within : StatesWithin found None
-  pub no_degrees : StatesUnit found Gon
+  pub no_form : StatesTableForm found (unstated Gon)
 
--- Which text of a station is asked for: by `directions` the table of its directions, with so many
--- decimals; by `report`, where no table is stated, the report, with digests or without, or its
--- rows, which have none.
+-- Which text of a station is asked for, where all are not: by `directions` the table of its
+-- directions in a form, with so many decimals; by `report`, where no table is stated, the report,
+-- with digests or without and with its notes, or its rows in a form, which have none.
 abbrev pub AsksForText : Text → Found → StationText → Type 0
-AsksForText name found (text.Directions decimals) =
+AsksForText name found (text.Directions decimals form) =
     (name ≡ codes "directions") × StatesNumber found (codes "decimals") decimals
-AsksForText name found (text.Report digests) =
+    × StatesRowForm found form
+AsksForText name found (text.Report digests notes) =
     (name ≡ codes "report") × IsWithoutTable found × StatesDigests found digests
-    × StatesForm found Lines
-AsksForText name found text.ReportRows =
+    × StatesForm found Lines × StatesNotes found notes
+AsksForText name found (text.ReportRows form) =
     (name ≡ codes "report") × IsWithoutTable found × StatesDigests found Omitted
-    × StatesForm found Rows
+    × StatesForm found (Rows form) × ¬ SpeaksOfNotes found
+
+-- Which text of all stations is asked for: the same, but that reports have no digests.
+abbrev pub AsksForTexts : Text → Found → StationsText → Type 0
+AsksForTexts name found (texts.Directions decimals form) =
+    (name ≡ codes "directions") × StatesNumber found (codes "decimals") decimals
+    × StatesRowForm found form
+AsksForTexts name found (texts.Reports notes) =
+    (name ≡ codes "report") × StatesForm found Lines × StatesNotes found notes
+AsksForTexts name found (texts.ReportRows form) =
+    (name ≡ codes "report") × StatesForm found (Rows form) × ¬ SpeaksOfNotes found
 
 -- Which text of a station and of the table of this path: by `compare` the comparison, with its
--- limit or none, and with digests or without; by `differences` the differences; by `report` the
--- report with the table of its option, and all else as for `compare`.
+-- limit or none, and with digests or without; by `differences` the differences in a form; by
+-- `report`, where all stations are not asked for, the report with the table of its option and with
+-- its notes, and all else as for `compare`.
 abbrev pub AsksForTableText : Text → Found → List ℕ → TableText → Type 0
 AsksForTableText name found table (table_text.Comparison within digests) =
     (name ≡ codes "compare") × IsGiven found (codes "TABLE") table × StatesWithin found within
     × StatesDigests found digests
-AsksForTableText name found table table_text.Differences =
+AsksForTableText name found table (table_text.Differences form) =
     (name ≡ codes "differences") × IsGiven found (codes "TABLE") table
-AsksForTableText name found table (table_text.Report within digests) =
+    × StatesRowForm found form
+AsksForTableText name found table (table_text.Report within digests notes) =
     (name ≡ codes "report") × IsGiven found (codes "table") table × StatesWithin found within
-    × StatesDigests found digests × StatesForm found Lines
+    × StatesDigests found digests × StatesForm found Lines × StatesNotes found notes
+    × StatesFlag found (codes "all") false
 
 -- What `check` asks for: its two paths, the limits of face differences, the residual limit or none,
 -- and whether digests are printed.
@@ -107,19 +148,32 @@ pub record AsksToMark (found : Found) (gsi : List ℕ) (copy : Option (List ℕ)
   pub of_again : StatesFlag found (codes "again") stated.again
   pub of_others : StatesFlag found (codes "others") stated.others
 
+-- What `change` asks for: the path of the field file, that of its copy or none, and the changes of
+-- lines.
+pub record AsksToChange (found : Found) (gsi : List ℕ) (copy : Option (List ℕ))
+    (changes : List Change) : Type 0 where
+  pub field_file : IsGiven found (codes "GSI") gsi
+  pub of_copy : first_value found (codes "COPY") ≡ copy
+  pub of_changes : StatesChanges found changes
+
 -- What a subcommand of this name asks for, by what is found of the words after it.
 abbrev pub AsksFor : Text → Found → Asked → Type 0
 AsksFor name found (request.Check asked) = (name ≡ codes "check") × AsksToCheck found asked
 AsksFor name found (request.Means gsi station limits) =
     (name ≡ codes "means") × AsksOfStation found gsi.now station.now limits
 AsksFor name found (request.Station station text) =
-    AsksForResult found station × AsksForText name found text
+    AsksForResult found station × AsksForText name found text × StatesFlag found (codes "all") false
+AsksFor name found (request.Stations stations text) =
+    AsksForAll found stations × AsksForTexts name found text × StatesFlag found (codes "all") true
 AsksFor name found (request.Table beside text) =
-    AsksForResult found beside.station × StatesUnit found beside.unit
+    AsksForResult found beside.station × StatesTableForm found beside.form
     × AsksForTableText name found beside.file.now text
 AsksFor name found (request.Mark gsi copy beginnings stated) =
     (name ≡ codes "mark")
     × AsksToMark found gsi.now (option_map (λ path. path.now) copy) beginnings stated
+AsksFor name found (request.Change gsi copy changes) =
+    (name ≡ codes "change")
+    × AsksToChange found gsi.now (option_map (λ path. path.now) copy) changes.items
 AsksFor name found (request.List gsi limits form) =
     (name ≡ codes "list") × IsGiven found (codes "GSI") gsi.now
     × StatesLimits found limits × StatesForm found form
@@ -133,43 +187,67 @@ abbrev pub LacksStation : Found → Type 0
 LacksStation found =
     IsMissing found (codes "GSI") ⊎ IsMissing found (codes "STATION") ⊎ StatesNoLimits found
 
--- No result of a station can be asked for: no station can be, or a residual limit is stated that
--- may not be.
+-- A result can be held to no limits: none of face differences, or of residuals, is stated that may
+-- be.
+abbrev pub LacksLimits : Found → Type 0
+LacksLimits found = StatesNoLimits found ⊎ StatesNoResidual found
+
+-- No result of a station can be asked for: the field file or the name is missing, or its limits.
 abbrev pub LacksResult : Found → Type 0
-LacksResult found = LacksStation found ⊎ StatesNoResidual found
+LacksResult found =
+    IsMissing found (codes "GSI") ⊎ IsMissing found (codes "STATION") ⊎ LacksLimits found
+
+-- The results of all stations can't be: the field file is missing, or their limits, or something
+-- that is of one station stands beside that.
+abbrev pub LacksAll : Found → Type 0
+LacksAll found =
+    IsMissing found (codes "GSI") ⊎ StandsBesideAll found ⊎ LacksLimits found
+
+-- Neither can those of one, where all are not asked for, nor of all, where they are.
+abbrev pub LacksResults : Found → Type 0
+LacksResults found =
+    (StatesFlag found (codes "all") false × LacksResult found)
+    ⊎ (StatesFlag found (codes "all") true × LacksAll found)
 
 -- What `compare` needs isn't found.
 abbrev pub LacksToCompare : Found → Type 0
 LacksToCompare found =
-    LacksResult found ⊎ IsMissing found (codes "TABLE") ⊎ StatesNoWithin found
+    LacksResult found ⊎ IsMissing found (codes "TABLE") ⊎ StatesNoColumns found
+    ⊎ StatesNoWithin found
 
 -- What `differences` needs isn't found.
 abbrev pub LacksForDifferences : Found → Type 0
-LacksForDifferences found = LacksResult found ⊎ IsMissing found (codes "TABLE")
+LacksForDifferences found =
+    LacksResult found ⊎ IsMissing found (codes "TABLE") ⊎ StatesNoColumns found
 
 -- What `directions` needs isn't found.
 abbrev pub LacksForDirections : Found → Type 0
-LacksForDirections found = LacksResult found ⊎ StatesNoNumber found (codes "decimals") 1 8
+LacksForDirections found = LacksResults found ⊎ StatesNoNumber found (codes "decimals") 1 8
 
--- A limit of a comparison is stated, or that a table is in degrees, and no table.
+-- How a table is read is stated: in another unit than gon, or by columns.
+abbrev pub SpeaksOfForm : Found → Type 0
+SpeaksOfForm found = (form : TableForm) × StatesTableForm found form × IsStatedForm form
+
+-- A limit of a comparison is stated, or how a table is read, and no table.
 abbrev pub SpeaksOfNoTable : Found → Type 0
 SpeaksOfNoTable found =
     IsMissing found (codes "table")
-    × (((within : ℕ) × StatesWithin found (Some within)) ⊎ StatesUnit found Degrees)
+    × (((within : ℕ) × StatesWithin found (Some within)) ⊎ SpeaksOfForm found)
 
 -- A report is to be of rows, and something beside them is stated: a table, a limit of a comparison,
--- that a table is in degrees, or that digests be printed.
+-- how one is read, that digests be printed, or what a report notes.
 abbrev pub HasMoreThanRows : Found → Type 0
 HasMoreThanRows found =
-    StatesForm found Rows
+    StatesFlag found (codes "csv") true
     × (((table : List ℕ) × IsGiven found (codes "table") table)
-    ⊎ ((within : ℕ) × StatesWithin found (Some within)) ⊎ StatesUnit found Degrees
-    ⊎ StatesDigests found Printed)
+    ⊎ ((within : ℕ) × StatesWithin found (Some within)) ⊎ SpeaksOfForm found
+    ⊎ StatesDigests found Printed ⊎ SpeaksOfNotes found)
 
 -- What `report` needs isn't found, or what it has doesn't go together.
 abbrev pub LacksToReport : Found → Type 0
 LacksToReport found =
-    LacksResult found ⊎ StatesNoWithin found ⊎ SpeaksOfNoTable found ⊎ HasMoreThanRows found
+    LacksResults found ⊎ StatesNoWithin found ⊎ StatesNoColumns found ⊎ SpeaksOfNoTable found
+    ⊎ HasMoreThanRows found ⊎ IsCommaAlone found ⊎ StatesNoNotes found
 
 -- What `check` needs isn't found.
 abbrev pub LacksToCheck : Found → Type 0
@@ -181,9 +259,14 @@ abbrev pub LacksToMark : Found → Type 0
 LacksToMark found = IsMissing found (codes "GSI") ⊎ StatesNoBeginnings found
     ⊎ StatesNoNumbers found (codes "sets") 40 ⊎ StatesNoNumbers found (codes "targets") 100
 
--- What `list` needs isn't found.
+-- What `change` needs isn't found.
+abbrev pub LacksToChange : Found → Type 0
+LacksToChange found = IsMissing found (codes "GSI") ⊎ StatesNoChanges found
+
+-- What `list` needs isn't found, or what it has doesn't go together.
 abbrev pub LacksForList : Found → Type 0
-LacksForList found = IsMissing found (codes "GSI") ⊎ StatesNoLimits found
+LacksForList found =
+    IsMissing found (codes "GSI") ⊎ StatesNoLimits found ⊎ IsCommaAlone found
 
 -- What a subcommand of this name needs isn't found of the words after it.
 pub data Lacks (name : Text) (found : Found) : Type 0 where
@@ -194,13 +277,14 @@ pub data Lacks (name : Text) (found : Found) : Type 0 where
   of_check : name ≡ codes "check" → LacksToCheck found → Lacks name found
   of_means : name ≡ codes "means" → LacksStation found → Lacks name found
   of_mark : name ≡ codes "mark" → LacksToMark found → Lacks name found
+  of_change : name ≡ codes "change" → LacksToChange found → Lacks name found
   of_list : name ≡ codes "list" → LacksForList found → Lacks name found
   of_words : name ≡ codes "words" → IsMissing found (codes "GSI") → Lacks name found
   -- No subcommand of another name can be done.
   of_other_name : (name ≢ codes "compare") × (name ≢ codes "differences")
       × (name ≢ codes "directions") × (name ≢ codes "report") × (name ≢ codes "check")
-      × (name ≢ codes "means") × (name ≢ codes "mark") × (name ≢ codes "list")
-      × (name ≢ codes "words")
+      × (name ≢ codes "means") × (name ≢ codes "mark") × (name ≢ codes "change")
+      × (name ≢ codes "list") × (name ≢ codes "words")
       → Lacks name found
 
 -- The words of `explain` have this name of a fault: they make one line, with a blank between each

@@ -55,17 +55,33 @@ decimals_rule = record (text_rule (codes "decimals")) {
   defaults = codes "6" ∷ [];
 }
 
--- An option `--id N` or `--id NAME=N`, any number of times.
-abbrev pub numbers_rule : Text → Rule
-numbers_rule id = record (text_rule id) { action = Some Append }
+-- An option `--id TEXT`, any number of times.
+abbrev pub texts_rule : Text → Rule
+texts_rule id = record (text_rule id) { action = Some Append }
 
 -- The option `--sets`: how many sets were read to the end.
 abbrev pub sets_rule : Rule
-sets_rule = numbers_rule (codes "sets")
+sets_rule = texts_rule (codes "sets")
 
 -- The option `--targets`: how many targets they have.
 abbrev pub targets_rule : Rule
-targets_rule = numbers_rule (codes "targets")
+targets_rule = texts_rule (codes "targets")
+
+-- The option `--leave-out`: the lines that are left out.
+abbrev pub leave_out_rule : Rule
+leave_out_rule = texts_rule (codes "leave-out")
+
+-- The option `--rename`: the lines whose points have other names.
+abbrev pub rename_rule : Rule
+rename_rule = texts_rule (codes "rename")
+
+-- The option `--date TEXT`, which may be left out: the date of a report.
+abbrev pub date_rule : Rule
+date_rule = text_rule (codes "date")
+
+-- The option `--note KEY=TEXT`: what the head of a report notes.
+abbrev pub note_rule : Rule
+note_rule = texts_rule (codes "note")
 
 -- A flag `--id`.
 abbrev pub flag_rule : Text → Rule
@@ -82,6 +98,14 @@ others_rule = flag_rule (codes "others")
 -- The flag `--csv`: rows are printed, as CSV.
 abbrev pub csv_rule : Rule
 csv_rule = flag_rule (codes "csv")
+
+-- The flag `--decimal-comma`: rows have semicolons between cells and commas in numbers.
+abbrev pub decimal_comma_rule : Rule
+decimal_comma_rule = flag_rule (codes "decimal-comma")
+
+-- The flag `--signature`: a report ends with lines for a signature.
+abbrev pub signature_rule : Rule
+signature_rule = flag_rule (codes "signature")
 
 -- The option `--station NAME`, which may be left out: the name of the file's one station.
 abbrev pub stated_name_rule : Rule
@@ -103,17 +127,29 @@ station_code_rule = text_rule (codes "station-code")
 abbrev pub stated_table_rule : Rule
 stated_table_rule = record (text_rule (codes "table")) { parser = Some NonEmptyString }
 
+-- An argument that may be left out: one word.
+abbrev pub optional_rule : Text → Rule
+optional_rule id = record (new_rule id) { action = Some Set }
+
 -- The path of the field file.
 abbrev pub field_file_rule : Rule
 field_file_rule = path_rule (codes "GSI")
 
 -- The path of the copy of a field file, which may be left out: one word, and not the empty one.
 abbrev pub copy_rule : Rule
-copy_rule = record (new_rule (codes "COPY")) { action = Some Set; parser = Some NonEmptyString }
+copy_rule = record (optional_rule (codes "COPY")) { parser = Some NonEmptyString }
 
 -- The name of the station.
 abbrev pub station_rule : Rule
 station_rule = given_rule (codes "STATION")
+
+-- The name of the station, which is left out where all are asked for.
+abbrev pub optional_station_rule : Rule
+optional_station_rule = optional_rule (codes "STATION")
+
+-- The flag `--all`: all stations of the file are asked for.
+abbrev pub all_rule : Rule
+all_rule = flag_rule (codes "all")
 
 -- The path of the sheet.
 abbrev pub sheet_rule : Rule
@@ -127,6 +163,14 @@ table_rule = path_rule (codes "TABLE")
 abbrev pub degrees_rule : Rule
 degrees_rule = flag_rule (codes "degrees")
 
+-- The flag `--dmmss`: its degrees have minutes and seconds after the point.
+abbrev pub dmmss_rule : Rule
+dmmss_rule = flag_rule (codes "dmmss")
+
+-- The option `--columns TARGET,DIRECTION`, which may be left out: the columns of a table.
+abbrev pub columns_rule : Rule
+columns_rule = text_rule (codes "columns")
+
 -- The words of a fault: any number of them.
 abbrev pub fault_rule : Rule
 fault_rule = record (new_rule (codes "FAULT")) {
@@ -139,6 +183,8 @@ abbrev pub rule_for : Argument → Rule
 rule_for argument.FieldFile = field_file_rule
 rule_for argument.Copy = copy_rule
 rule_for argument.Station = station_rule
+rule_for argument.OptionalStation = optional_station_rule
+rule_for argument.All = all_rule
 rule_for argument.Sheet = sheet_rule
 rule_for argument.Table = table_rule
 rule_for argument.Fault = fault_rule
@@ -147,9 +193,12 @@ rule_for argument.TwoI = two_i_rule
 rule_for argument.Residual = residual_rule
 rule_for argument.Within = within_rule
 rule_for argument.Degrees = degrees_rule
+rule_for argument.MinutesAfterPoint = dmmss_rule
+rule_for argument.Columns = columns_rule
 rule_for argument.Decimals = decimals_rule
 rule_for argument.Digests = digests_rule
 rule_for argument.Rows = csv_rule
+rule_for argument.DecimalComma = decimal_comma_rule
 rule_for argument.StatedTable = stated_table_rule
 rule_for argument.StatedName = stated_name_rule
 rule_for argument.SameSetUp = same_set_up_rule
@@ -158,6 +207,11 @@ rule_for argument.StationCode = station_code_rule
 rule_for argument.StatedSets = sets_rule
 rule_for argument.StatedTargets = targets_rule
 rule_for argument.Others = others_rule
+rule_for argument.LeaveOut = leave_out_rule
+rule_for argument.Rename = rename_rule
+rule_for argument.Date = date_rule
+rule_for argument.Note = note_rule
+rule_for argument.Signature = signature_rule
 
 -- A command of this name, with these arguments and options.
 abbrev pub of_rules : Text → List Rule → Shape
@@ -170,27 +224,28 @@ alone s = record { top = s; subs = [] }
 -- `compare GSI STATION TABLE`
 abbrev pub compare_words : Shape
 compare_words = of_rules (codes "compare")
-    (field_file_rule ∷ station_rule ∷ table_rule ∷ degrees_rule
+    (field_file_rule ∷ station_rule ∷ table_rule ∷ degrees_rule ∷ dmmss_rule ∷ columns_rule
     ∷ two_c_rule ∷ two_i_rule ∷ residual_rule ∷ within_rule ∷ digests_rule ∷ [])
 
 -- `differences GSI STATION TABLE`
 abbrev pub differences_words : Shape
 differences_words = of_rules (codes "differences")
-    (field_file_rule ∷ station_rule ∷ table_rule ∷ degrees_rule
-    ∷ two_c_rule ∷ two_i_rule ∷ residual_rule ∷ [])
+    (field_file_rule ∷ station_rule ∷ table_rule ∷ degrees_rule ∷ dmmss_rule ∷ columns_rule
+    ∷ two_c_rule ∷ two_i_rule ∷ residual_rule ∷ decimal_comma_rule ∷ [])
 
--- `directions GSI STATION`
+-- `directions GSI STATION`, or `directions --all GSI`
 abbrev pub directions_words : Shape
 directions_words = of_rules (codes "directions")
-    (field_file_rule ∷ station_rule
-    ∷ two_c_rule ∷ two_i_rule ∷ residual_rule ∷ decimals_rule ∷ [])
+    (field_file_rule ∷ optional_station_rule ∷ all_rule
+    ∷ two_c_rule ∷ two_i_rule ∷ residual_rule ∷ decimals_rule ∷ decimal_comma_rule ∷ [])
 
--- `report GSI STATION`
+-- `report GSI STATION`, or `report --all GSI`
 abbrev pub report_words : Shape
 report_words = of_rules (codes "report")
-    (field_file_rule ∷ station_rule
+    (field_file_rule ∷ optional_station_rule ∷ all_rule
     ∷ two_c_rule ∷ two_i_rule ∷ residual_rule
-    ∷ stated_table_rule ∷ degrees_rule ∷ within_rule ∷ digests_rule ∷ csv_rule ∷ [])
+    ∷ stated_table_rule ∷ degrees_rule ∷ dmmss_rule ∷ columns_rule ∷ within_rule ∷ date_rule
+    ∷ note_rule ∷ digests_rule ∷ signature_rule ∷ csv_rule ∷ decimal_comma_rule ∷ [])
 
 -- `check GSI SHEET`
 abbrev pub check_words : Shape
@@ -209,10 +264,15 @@ mark_words = of_rules (codes "mark")
     (field_file_rule ∷ copy_rule ∷ stated_name_rule ∷ same_set_up_rule ∷ again_rule
     ∷ station_code_rule ∷ sets_rule ∷ targets_rule ∷ others_rule ∷ [])
 
+-- `change GSI`, or `change GSI COPY`
+abbrev pub change_words : Shape
+change_words = of_rules (codes "change")
+    (field_file_rule ∷ copy_rule ∷ leave_out_rule ∷ rename_rule ∷ [])
+
 -- `list GSI`
 abbrev pub list_words : Shape
-list_words =
-    of_rules (codes "list") (field_file_rule ∷ two_c_rule ∷ two_i_rule ∷ csv_rule ∷ [])
+list_words = of_rules (codes "list")
+    (field_file_rule ∷ two_c_rule ∷ two_i_rule ∷ csv_rule ∷ decimal_comma_rule ∷ [])
 
 -- `words GSI`
 abbrev pub words_words : Shape
@@ -231,6 +291,7 @@ words_of command.Report = report_words
 words_of command.Check = check_words
 words_of command.Means = means_words
 words_of command.Mark = mark_words
+words_of command.Change = change_words
 words_of command.List = list_words
 words_of command.Words = words_words
 words_of command.Explain = explain_words
@@ -247,5 +308,5 @@ abbrev pub the_program : App
 the_program = record {
   top = record program_alone.top { is_leaf = false };
   subs = compare_words ∷ differences_words ∷ directions_words ∷ report_words ∷ check_words
-      ∷ means_words ∷ mark_words ∷ list_words ∷ words_words ∷ explain_words ∷ [];
+      ∷ means_words ∷ mark_words ∷ change_words ∷ list_words ∷ words_words ∷ explain_words ∷ [];
 }

@@ -25,5 +25,5 @@ count_is_not_in Targets = codes " is not in 1..=100"
 
 -- The place of an option in the order in which mistakes are told.
 abbrev pub count_place : CountOption → ℕ
-count_place Sets = 7
-count_place Targets = 8
+count_place Sets = 9
+count_place Targets = 10

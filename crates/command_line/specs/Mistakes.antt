@@ -1,14 +1,20 @@
 -- What is mistaken in words that the grammar takes, by what is found of them, and what is told.
-use Rattle.std.specs.Prelude.{◌++◌, ◌<◌, ◌≤◌, ◌⊎◌, ℕ, IsSome, List, ⊤, codes}
+use Rattle.std.specs.Prelude.{◌++◌, ◌<◌, ◌≤◌, ◌⊎◌, ℕ, IsSome, List, true, ⊤, codes}
 use Rattle.clap.specs.Words.{matched_of}
 use Rattle.clap.specs.declared.parser.matches.Found.{Found}
 use Rattle.command_line.specs.CountOptions.{count_is_not_in, count_largest, count_may_be}
 use Rattle.command_line.specs.CountOptions.{count_name, count_place}
 use Rattle.command_line.specs.LimitOptions.{option_largest, option_limits, option_name, option_unit}
 use Rattle.command_line.specs.LimitOptions.{place}
-use Rattle.command_line.specs.Stated.{IsGiven, NoLimitIsStated, StatesDigests, StatesForm}
-use Rattle.command_line.specs.Stated.{StatesNoCode, StatesUnit}
+use Rattle.command_line.specs.Stated.{IsCommaAlone, IsGiven, NoLimitIsStated, StatesDigests}
+use Rattle.command_line.specs.Stated.{StatesFlag}
+use Rattle.command_line.specs.Stated.{StatesNoCode, StatesNoColumns, StatesUnit}
+use Rattle.changed_lines.specs.Stated.{IsFirstUnsaid}
+use Rattle.changed_lines.specs.declared.stated.EditKind.{EditKind}
+use Rattle.command_line.specs.StatedChanges.{change_form, change_name, change_place, change_why}
+use Rattle.command_line.specs.StatedNotes.{SpeaksOfNotes}
 use Rattle.command_line.specs.StatedNumbers.{texts_of}
+use Rattle.report_notes.specs.Stated.{IsFirstUnnoted}
 use Rattle.job_statements.specs.WrongTexts.{IsFirstWrong}
 use Rattle.command_line.specs.declared.count_option.CountOption.{CountOption}
 use Rattle.command_line.specs.declared.limit_option.LimitOption.{LimitOption}
@@ -17,8 +23,7 @@ use Rattle.command_line.specs.declared.mistakes.Mistake.TheVariants as mistake
 use Rattle.job_statements.specs.declared.numbers.CountFault.{CountFault}
 use Rattle.job_statements.specs.declared.numbers.CountFault.TheVariants as fault
 use Rattle.command_line.specs.declared.request.Digests.TheVariants.{Printed}
-use Rattle.command_line.specs.declared.request.ListForm.TheVariants.{Rows}
-use Rattle.direction_table.specs.declared.unit.AngleUnit.TheVariants.{Degrees}
+use Rattle.direction_table.specs.declared.unit.AngleUnit.TheVariants.{Gon}
 
 -- This is the text of the option, and no limit up to the option's largest is stated there.
 abbrev pub IsNoLimit : Found → LimitOption → List ℕ → Type 0
@@ -37,11 +42,27 @@ AreRightLimits found = (option : LimitOption) → IsRightLimit found option
 abbrev pub HasOption : Found → List ℕ → Type 0
 HasOption found name = IsSome (matched_of found name)
 
--- What may not stand beside rows is stated: a table, a limit of a comparison, that a table is in
--- degrees, or that digests be printed.
+-- It is stated how a table is read: in another unit than gon, or by columns.
+unfoldable pub HasForm : Found → Type 0
+HasForm found = ¬ (StatesUnit found Gon) ⊎ HasOption found (codes "columns")
+
+-- What only the report of one station can have is stated: a table, a limit of a comparison, how a
+-- table is read, or that digests be printed.
+abbrev pub IsOfOneReport : Found → Type 0
+IsOfOneReport found = HasOption found (codes "table") ⊎ HasOption found (codes "within")
+    ⊎ HasForm found ⊎ StatesDigests found Printed
+
+-- What may not stand beside rows is stated: that, or what a report notes.
 abbrev pub StandsBesideRows : Found → Type 0
-StandsBesideRows found = HasOption found (codes "table") ⊎ HasOption found (codes "within")
-    ⊎ StatesUnit found Degrees ⊎ StatesDigests found Printed
+StandsBesideRows found = IsOfOneReport found ⊎ SpeaksOfNotes found
+
+-- What is of one station is stated: its name, or what only its report can have.
+abbrev pub StandsBesideAll : Found → Type 0
+StandsBesideAll found = HasOption found (codes "STATION") ⊎ IsOfOneReport found
+
+-- This is stated as the columns of a table, and no columns are stated so.
+abbrev pub IsWrongColumns : Found → List ℕ → Type 0
+IsWrongColumns found text = IsGiven found (codes "columns") text × StatesNoColumns found
 
 -- This text of the option is the first that can't stand where it does, for this reason.
 abbrev pub IsWrongCount : Found → CountOption → List ℕ → CountFault → Type 0
@@ -57,32 +78,56 @@ HasRightCounts found option =
 abbrev pub IsWrongCode : Found → List ℕ → Type 0
 IsWrongCode found text = IsGiven found (codes "station-code") text × StatesNoCode found
 
--- This mistake is there: the text of an option is no limit; rows are asked for, and something
--- beside them; the limit of a comparison, or that a table is in degrees, is stated without a table;
--- a text of an option that states numbers can't stand where it does; the code of the stations is
--- none that may be. That no station can have the name is told where no other mistake is there: no
--- more is said of it.
+-- This text of the option is the first that says no change of its kind.
+abbrev pub IsWrongChange : Found → EditKind → List ℕ → Type 0
+IsWrongChange found kind text = IsFirstUnsaid kind (texts_of found (change_name kind)) text
+
+-- This text of the option is the first that states no note.
+abbrev pub IsWrongNote : Found → List ℕ → Type 0
+IsWrongNote found text = IsFirstUnnoted (texts_of found (codes "note")) text
+
+-- This mistake is there: the text of an option is no limit; a text states no columns; rows are asked
+-- for, and something beside them; the limit of a comparison, or how a table is read, is stated
+-- without a table; a decimal comma is stated, and no rows; a text of an option that states numbers
+-- can't stand where it does; the code of the stations is none that may be; a text of an option that
+-- states changes of lines says none; a text of `--note` states no note; all stations are asked for,
+-- and something that is of one; a name is stated for a station. That no station is named, and not all
+-- are asked for, is told where no other mistake is there: no more is said of it.
 abbrev pub IsThere : Found → Mistake → Type 0
 IsThere found (mistake.Limit option text) = IsNoLimit found option text.now
-IsThere found mistake.Rows = StatesForm found Rows × StandsBesideRows found
+IsThere found (mistake.Columns text) = IsWrongColumns found text.now
+IsThere found mistake.Rows = StatesFlag found (codes "csv") true × StandsBesideRows found
 IsThere found mistake.Within =
     ¬ (HasOption found (codes "table")) × HasOption found (codes "within")
-IsThere found mistake.Degrees = ¬ (HasOption found (codes "table")) × StatesUnit found Degrees
+IsThere found mistake.Form = ¬ (HasOption found (codes "table")) × HasForm found
+IsThere found mistake.DecimalComma = IsCommaAlone found
 IsThere found (mistake.Count option text fault) = IsWrongCount found option text.now fault
 IsThere found (mistake.Code text) = IsWrongCode found text.now
-IsThere found mistake.Name = ⊤
+IsThere found (mistake.Change kind text) = IsWrongChange found kind text.now
+IsThere found (mistake.Note text) = IsWrongNote found text.now
+IsThere found mistake.All = StatesFlag found (codes "all") true × StandsBesideAll found
+IsThere found mistake.Name = HasOption found (codes "station")
+IsThere found mistake.NoStation = ⊤
 
 -- The place of a mistake in the order in which mistakes are told: wrong limits by the places of
--- their options, then rows, then what is stated without a table, then numbers, a code, and a name
--- last.
+-- their options, then columns, then rows, then what is stated without a table, a decimal comma,
+-- numbers, a code, changes of lines, notes, all stations beside one, a name, and that none is named
+-- last. Texts come before what doesn't go together: only `report` has an option of a table, and all
+-- others that read one would lack it.
 abbrev pub rank : Mistake → ℕ
 rank (mistake.Limit option text) = place option
-rank mistake.Rows = 4
-rank mistake.Within = 5
-rank mistake.Degrees = 6
+rank (mistake.Columns text) = 4
+rank mistake.Rows = 5
+rank mistake.Within = 6
+rank mistake.Form = 7
+rank mistake.DecimalComma = 8
 rank (mistake.Count option text fault) = count_place option
-rank (mistake.Code text) = 9
-rank mistake.Name = 10
+rank (mistake.Code text) = 11
+rank (mistake.Change kind text) = change_place kind
+rank (mistake.Note text) = 14
+rank mistake.All = 15
+rank mistake.Name = 16
+rank mistake.NoStation = 17
 
 -- No mistake that is told before this place is there.
 abbrev pub NoneIsBefore : ℕ → Found → Type 0
@@ -92,6 +137,11 @@ NoneIsBefore place found = (other : Mistake) → rank other < place → ¬ (IsTh
 pub record IsMistakeAmong (found : Found) (mistake : Mistake) : Type 0 where
   pub there : IsThere found mistake
   pub first : NoneIsBefore (rank mistake) found
+
+-- No mistake from a place on and before another one is there.
+abbrev pub NoneIsBetween : ℕ → ℕ → Found → Type 0
+NoneIsBetween from to found =
+    (other : Mistake) → from ≤ rank other → rank other < to → ¬ (IsThere found other)
 
 -- The same of the mistakes from a place on.
 pub record IsMistakeFrom (place : ℕ) (found : Found) (mistake : Mistake) : Type 0 where
@@ -114,21 +164,47 @@ abbrev pub code_why : List ℕ
 code_why = codes "a code has 1 to 16 characters of ASCII, and is none of 10, 20 and 30, "
     ++ codes "which 'mark' puts in"
 
+-- What is told of a text that states no columns of a table.
+abbrev pub columns_why : List ℕ
+columns_why = codes "two numbers of columns from 1, with a comma between, as 2,6"
+
+-- What is told of a text that states no note.
+abbrev pub note_why : List ℕ
+note_why = codes "state KEY=TEXT, where KEY is not empty, and no label that the head has of its own, "
+    ++ codes "as 'Station'"
+
 -- The text of a mistake.
 abbrev pub mistake_text : Mistake → List ℕ
 mistake_text (mistake.Limit option text) =
     codes "invalid value '" ++ text.now ++ codes "' for '--" ++ option_name option
     ++ codes " <LIMIT>': " ++ option_limits option
 mistake_text mistake.Rows =
-    codes "'--csv' prints rows alone: not with '--table', '--degrees', '--within' or '--sha256'"
+    codes "'--csv' prints rows alone: not with '--table', how it is read, '--within', '--sha256', "
+    ++ codes "or what a report notes"
 mistake_text mistake.Within =
     codes "'--within <LIMIT>' limits how far a table may be off: name it with '--table <TABLE>'"
-mistake_text mistake.Degrees =
-    codes "'--degrees' says in what a table is: name it with '--table <TABLE>'"
+mistake_text mistake.Form =
+    codes "'--degrees', '--dmmss' and '--columns' say how a table is read: "
+    ++ codes "name it with '--table <TABLE>'"
+mistake_text (mistake.Columns text) =
+    codes "invalid value '" ++ text.now ++ codes "' for '--columns <TARGET,DIRECTION>': "
+    ++ columns_why
+mistake_text mistake.DecimalComma =
+    codes "'--decimal-comma' says how rows are written: print rows with '--csv'"
 mistake_text (mistake.Count option text fault) =
     codes "invalid value '" ++ text.now ++ codes "' for '--" ++ count_name option
     ++ codes " <N>': " ++ count_why option fault
 mistake_text (mistake.Code text) =
     codes "invalid value '" ++ text.now ++ codes "' for '--station-code <N>': " ++ code_why
+mistake_text (mistake.Change kind text) =
+    codes "invalid value '" ++ text.now ++ codes "' for '--" ++ change_form kind ++ codes "': "
+    ++ change_why kind
+mistake_text (mistake.Note text) =
+    codes "invalid value '" ++ text.now ++ codes "' for '--note <KEY=TEXT>': " ++ note_why
+mistake_text mistake.All =
+    codes "'--all' is of all stations: not with a STATION, '--table', how it is read, '--within' or "
+    ++ codes "'--sha256'"
 mistake_text mistake.Name =
     codes "the name of a station has 1 to 16 characters of ASCII, from the blank to '~'"
+mistake_text mistake.NoStation =
+    codes "no station is named: name a STATION, or ask for all of them with '--all'"

@@ -13,12 +13,17 @@ use Rattle.limit_texts.specs.Limits.{StatesLimit}
 use Rattle.limit_texts.specs.declared.limit.LimitUnit.{LimitUnit}
 use Rattle.limit_texts.specs.declared.limit.LimitUnit.TheVariants.{Hundredth, HalfUnit, Thousandth}
 use Rattle.station_book.specs.Limits.{AreLimits, FaceLimits}
+use Rattle.direction_table.specs.StatedColumns.{stated_columns}
+use Rattle.direction_table.specs.declared.form.ColumnPair.{ColumnPair}
+use Rattle.direction_table.specs.declared.form.TableForm.{TableForm}
 use Rattle.direction_table.specs.declared.unit.AngleUnit.{AngleUnit}
-use Rattle.direction_table.specs.declared.unit.AngleUnit.TheVariants.{Gon, Degrees}
+use Rattle.direction_table.specs.declared.unit.AngleUnit.TheVariants.{Gon, Degrees, PackedDegrees}
 use Rattle.command_line.specs.declared.request.Digests.{Digests}
 use Rattle.command_line.specs.declared.request.Digests.TheVariants.{Printed, Omitted}
 use Rattle.command_line.specs.declared.request.ListForm.{ListForm}
 use Rattle.command_line.specs.declared.request.ListForm.TheVariants.{Lines, Rows}
+use Rattle.row_forms.specs.declared.form.RowForm.{RowForm}
+use Rattle.row_forms.specs.declared.form.RowForm.TheVariants.{Commas, Semicolons}
 
 -- The first value of this id writes this number: in decimal digits, of which it has one at least,
 -- after a plus or none.
@@ -94,21 +99,56 @@ abbrev pub StatesDigests : Found → Digests → Type 0
 StatesDigests found Printed = one_text found (codes "sha256") ≡ Some (codes "true")
 StatesDigests found Omitted = one_text found (codes "sha256") ≢ Some (codes "true")
 
--- A result is printed as rows where the flag stands, and only there: its value is then the text
--- `true`.
-abbrev pub StatesForm : Found → ListForm → Type 0
-StatesForm found Rows = one_text found (codes "csv") ≡ Some (codes "true")
-StatesForm found Lines = one_text found (codes "csv") ≢ Some (codes "true")
-
--- A table states degrees where the flag stands, and only there: its value is then the text `true`.
-abbrev pub StatesUnit : Found → AngleUnit → Type 0
-StatesUnit found Degrees = one_text found (codes "degrees") ≡ Some (codes "true")
-StatesUnit found Gon = one_text found (codes "degrees") ≢ Some (codes "true")
-
 -- The flag of this id stands, or doesn't: where it stands, its value is the text `true`.
 abbrev pub StatesFlag : Found → List ℕ → Bool → Type 0
 StatesFlag found id true = one_text found id ≡ Some (codes "true")
 StatesFlag found id false = one_text found id ≢ Some (codes "true")
+
+-- Rows have semicolons between cells and commas in numbers where the flag of a decimal comma
+-- stands, and only there.
+abbrev pub StatesRowForm : Found → RowForm → Type 0
+StatesRowForm found Semicolons = StatesFlag found (codes "decimal-comma") true
+StatesRowForm found Commas = StatesFlag found (codes "decimal-comma") false
+
+-- A result is printed as rows where their flag stands, and else as lines, of which no decimal comma
+-- is stated.
+abbrev pub StatesForm : Found → ListForm → Type 0
+StatesForm found (Rows form) = StatesFlag found (codes "csv") true × StatesRowForm found form
+StatesForm found Lines =
+    StatesFlag found (codes "csv") false × StatesFlag found (codes "decimal-comma") false
+
+-- A decimal comma is stated, and no rows.
+abbrev pub IsCommaAlone : Found → Type 0
+IsCommaAlone found =
+    StatesFlag found (codes "csv") false × StatesFlag found (codes "decimal-comma") true
+
+-- A table states degrees with minutes and seconds after the point where the flag of these stands;
+-- else degrees where that of degrees stands; and else gon.
+abbrev pub StatesUnit : Found → AngleUnit → Type 0
+StatesUnit found PackedDegrees = StatesFlag found (codes "dmmss") true
+StatesUnit found Degrees =
+    StatesFlag found (codes "dmmss") false × StatesFlag found (codes "degrees") true
+StatesUnit found Gon =
+    StatesFlag found (codes "dmmss") false × StatesFlag found (codes "degrees") false
+
+-- These columns of a table are stated, or none.
+abbrev pub StatesColumns : Found → Option ColumnPair → Type 0
+StatesColumns found None = IsMissing found (codes "columns")
+StatesColumns found (Some pair) = (text : List ℕ) × IsGiven found (codes "columns") text
+    × (stated_columns text ≡ Some pair)
+
+-- A text of columns is stated, and states none.
+abbrev pub StatesNoColumns : Found → Type 0
+StatesNoColumns found = (text : List ℕ) × IsGiven found (codes "columns") text
+    × (stated_columns text ≡ None)
+
+-- A table is to be read so.
+abbrev pub StatesTableForm : Found → TableForm → Type 0
+StatesTableForm found form = StatesUnit found form.unit × StatesColumns found form.columns
+
+-- That isn't how a table is read of which nothing is stated: in gon, and by no stated columns.
+abbrev pub IsStatedForm : TableForm → Type 0
+IsStatedForm form = (form.unit ≢ Gon) ⊎ IsSome form.columns
 
 -- This name of a station is stated, or none.
 abbrev pub StatesName : Found → Option (List ℕ) → Type 0

@@ -2,8 +2,8 @@
 
 ghost use Rattle.std.specs.Prelude.{◌≡◌};
 ghost use Rattle.clap.specs.Words.{rule_of};
-ghost use Rattle.command_line.specs.Commands.{copy_rule, decimals_rule, numbers_rule};
-ghost use Rattle.command_line.specs.Commands.{face_limit_rule};
+ghost use Rattle.command_line.specs.Commands.{copy_rule, decimals_rule, texts_rule};
+ghost use Rattle.command_line.specs.Commands.{face_limit_rule, optional_rule};
 ghost use Rattle.command_line.specs.Commands.{fault_rule};
 ghost use Rattle.command_line.specs.Commands.{flag_rule, given_rule, path_rule, rule_for};
 ghost use Rattle.command_line.specs.Commands.{stated_table_rule, text_rule};
@@ -29,6 +29,9 @@ pub(crate) const TABLE: &str = "TABLE";
 /// The name of the station.
 pub(crate) const STATION: &str = "STATION";
 
+/// The flag that asks for all stations.
+pub(crate) const ALL: &str = "all";
+
 /// The words of a fault.
 pub(crate) const FAULT: &str = "FAULT";
 
@@ -47,6 +50,12 @@ pub(crate) const WITHIN: &str = "within";
 /// The flag that says that a table states degrees.
 pub(crate) const DEGREES: &str = "degrees";
 
+/// The flag that says that it has minutes and seconds after the point.
+pub(crate) const DMMSS: &str = "dmmss";
+
+/// The option of the columns of a table.
+pub(crate) const COLUMNS: &str = "columns";
+
 /// The option of how many decimals a direction is written with.
 pub(crate) const DECIMALS: &str = "decimals";
 
@@ -55,6 +64,9 @@ pub(crate) const SHA256: &str = "sha256";
 
 /// The flag that prints rows.
 pub(crate) const CSV: &str = "csv";
+
+/// The flag that prints semicolons between cells and commas in numbers.
+pub(crate) const DECIMAL_COMMA: &str = "decimal-comma";
 
 /// The option of the path of a table.
 pub(crate) const STATED_TABLE: &str = "table";
@@ -80,6 +92,21 @@ pub(crate) const TARGETS: &str = "targets";
 /// The flag that leaves stations with a fault outside.
 pub(crate) const OTHERS: &str = "others";
 
+/// The option of the lines that are left out.
+pub(crate) const LEAVE_OUT: &str = "leave-out";
+
+/// The option of the lines whose points have other names.
+pub(crate) const RENAME: &str = "rename";
+
+/// The option of the date of a report.
+pub(crate) const DATE: &str = "date";
+
+/// The option of the notes of a report.
+pub(crate) const NOTE: &str = "note";
+
+/// The flag that ends a report with lines for a signature.
+pub(crate) const SIGNATURE: &str = "signature";
+
 /// The limit of a face difference that no option states.
 const USUAL_LIMIT: &str = "20mgon";
 
@@ -97,6 +124,12 @@ pub(crate) enum Argument {
 
     /// The name of the station.
     Station,
+
+    /// The name of the station, where not all are asked for.
+    OptionalStation,
+
+    /// That all stations are asked for.
+    All,
 
     /// The path of the sheet.
     Sheet,
@@ -122,6 +155,12 @@ pub(crate) enum Argument {
     /// That a table states degrees.
     Degrees,
 
+    /// That its degrees have minutes and seconds after the point.
+    MinutesAfterPoint,
+
+    /// Which columns of a table are read.
+    Columns,
+
     /// How many decimals a direction is written with.
     Decimals,
 
@@ -130,6 +169,9 @@ pub(crate) enum Argument {
 
     /// That rows are printed.
     Rows,
+
+    /// That rows have semicolons between cells and commas in numbers.
+    DecimalComma,
 
     /// The path of a table, as an option.
     StatedTable,
@@ -154,6 +196,21 @@ pub(crate) enum Argument {
 
     /// That stations with a fault stay outside.
     Others,
+
+    /// The lines that are left out.
+    LeaveOut,
+
+    /// The lines whose points have other names.
+    Rename,
+
+    /// The date of a report.
+    Date,
+
+    /// What the head of a report notes.
+    Note,
+
+    /// That a report ends with lines for a signature.
+    Signature,
 }
 
 impl Argument {
@@ -174,6 +231,8 @@ impl Argument {
             Argument::FieldFile => path(alloc, GSI),
             Argument::Copy => copy_path(alloc),
             Argument::Station => given(alloc, STATION),
+            Argument::OptionalStation => optional(alloc, STATION),
+            Argument::All => flag(alloc, ALL),
             Argument::Sheet => path(alloc, SHEET),
             Argument::Table => path(alloc, TABLE),
             Argument::Fault => words_of_fault(alloc),
@@ -182,17 +241,25 @@ impl Argument {
             Argument::Residual => text_option(alloc, RESIDUAL, "LIMIT"),
             Argument::Within => text_option(alloc, WITHIN, "LIMIT"),
             Argument::Degrees => flag(alloc, DEGREES),
+            Argument::MinutesAfterPoint => flag(alloc, DMMSS),
+            Argument::Columns => text_option(alloc, COLUMNS, "TARGET,DIRECTION"),
             Argument::Decimals => decimals(alloc),
             Argument::Digests => flag(alloc, SHA256),
             Argument::Rows => flag(alloc, CSV),
+            Argument::DecimalComma => flag(alloc, DECIMAL_COMMA),
             Argument::StatedTable => stated_table(alloc),
             Argument::StatedName => text_option(alloc, STATED_NAME, "NAME"),
             Argument::SameSetUp => flag(alloc, SAME_SET_UP),
             Argument::Again => flag(alloc, AGAIN),
             Argument::StationCode => text_option(alloc, STATION_CODE, "N"),
-            Argument::StatedSets => numbers(alloc, SETS),
-            Argument::StatedTargets => numbers(alloc, TARGETS),
+            Argument::StatedSets => many_texts(alloc, SETS, "N"),
+            Argument::StatedTargets => many_texts(alloc, TARGETS, "N"),
             Argument::Others => flag(alloc, OTHERS),
+            Argument::LeaveOut => many_texts(alloc, LEAVE_OUT, "N"),
+            Argument::Rename => many_texts(alloc, RENAME, "N=NAME"),
+            Argument::Date => text_option(alloc, DATE, "TEXT"),
+            Argument::Note => many_texts(alloc, NOTE, "KEY=TEXT"),
+            Argument::Signature => flag(alloc, SIGNATURE),
         }
     }
 
@@ -201,7 +268,8 @@ impl Argument {
         match self {
             Argument::FieldFile => "The field file, in GSI-8, GSI-16 or both",
             Argument::Copy => "The file that the copy goes to, where none is yet",
-            Argument::Station => "The name of the station",
+            Argument::Station | Argument::OptionalStation => "The name of the station",
+            Argument::All => "Answer all stations, in the order of the file, in the place of one",
             Argument::Sheet => "The sheet, comma-separated text",
             Argument::Table => help::TABLE_HELP,
             Argument::Fault => "The name of the fault, or the line of the refusal",
@@ -210,9 +278,14 @@ impl Argument {
             Argument::Residual => help::RESIDUAL_HELP,
             Argument::Within => help::WITHIN_HELP,
             Argument::Degrees => "Read the directions of the table in degrees, and not in gon",
+            Argument::MinutesAfterPoint => {
+                "Read degrees with minutes and seconds after the point, as 59.040918"
+            }
+            Argument::Columns => "Read these columns of the table, by number, as 2,6",
             Argument::Decimals => "How many decimals of a gon a direction is written with: 1 to 8",
             Argument::Digests => "Print the SHA-256 digests of what was read, after the answer",
             Argument::Rows => "Print rows for other programs, as CSV",
+            Argument::DecimalComma => help::DECIMAL_COMMA_HELP,
             Argument::StatedTable => {
                 "A table of directions, which stands beside the adjusted ones"
             }
@@ -225,20 +298,29 @@ impl Argument {
             Argument::StatedTargets => help::TARGETS_HELP,
             Argument::Others =>
                 "Leave stations that are not recognized outside, and mark the others",
+            Argument::LeaveOut => "Leave out line N: once for each line",
+            Argument::Rename => "Give the point of line N this name: once for each line",
+            Argument::Date => "Print this date in the head of the report",
+            Argument::Note => "Print a line KEY with TEXT in the head of the report: once a line",
+            Argument::Signature => "End the report with lines for a place, a date and a signature",
         }
     }
 
     /// What `--help` says of it.
     fn long_help(self) -> &'static str {
         match self {
+            Argument::All => help::ALL_LONG_HELP,
             Argument::TwoC => help::TWO_C_LONG_HELP,
             Argument::TwoI => help::TWO_I_LONG_HELP,
             Argument::Residual => help::RESIDUAL_LONG_HELP,
             Argument::Within => help::WITHIN_LONG_HELP,
             Argument::Degrees => help::DEGREES_LONG_HELP,
+            Argument::MinutesAfterPoint => help::DMMSS_LONG_HELP,
+            Argument::Columns => help::COLUMNS_LONG_HELP,
             Argument::Decimals => help::DECIMALS_LONG_HELP,
             Argument::Digests => help::SHA256_LONG_HELP,
             Argument::Rows => help::CSV_LONG_HELP,
+            Argument::DecimalComma => help::DECIMAL_COMMA_LONG_HELP,
             Argument::StatedTable => help::STATED_TABLE_LONG_HELP,
             Argument::Copy => help::COPY_LONG_HELP,
             Argument::StatedName => help::STATION_LONG_HELP,
@@ -248,11 +330,17 @@ impl Argument {
             Argument::StatedSets => help::SETS_LONG_HELP,
             Argument::StatedTargets => help::TARGETS_LONG_HELP,
             Argument::Others => help::OTHERS_LONG_HELP,
+            Argument::LeaveOut => help::LEAVE_OUT_LONG_HELP,
+            Argument::Rename => help::RENAME_LONG_HELP,
+            Argument::Date => help::DATE_LONG_HELP,
+            Argument::Note => help::NOTE_LONG_HELP,
             Argument::FieldFile
             | Argument::Station
+            | Argument::OptionalStation
             | Argument::Sheet
             | Argument::Table
-            | Argument::Fault => self.help(),
+            | Argument::Fault
+            | Argument::Signature => self.help(),
         }
     }
 }
@@ -270,9 +358,14 @@ fn words_of_fault<'a>(alloc: Global) -> Arg<'a>
 fn copy_path<'a>(alloc: Global) -> Arg<'a>
     ensures { rule_of result ≡ copy_rule }
 {
-    Arg::new(alloc, COPY)
-        .action(ArgAction::Set)
-        .value_parser(ValueParser::NonEmptyString)
+    optional(alloc, COPY).value_parser(ValueParser::NonEmptyString)
+}
+
+/// An argument that may be left out.
+fn optional<'a>(alloc: Global, name: &'a str) -> Arg<'a>
+    ensures { rule_of result ≡ optional_rule name.entry.now }
+{
+    Arg::new(alloc, name).action(ArgAction::Set)
 }
 
 /// A path that must be given, and is not empty.
@@ -312,11 +405,11 @@ fn decimals<'a>(alloc: Global) -> Arg<'a>
         .default_value(USUAL_DECIMALS)
 }
 
-/// The option of numbers of stations, each with its own `--name`.
-fn numbers<'a>(alloc: Global, name: &'a str) -> Arg<'a>
-    ensures { rule_of result ≡ numbers_rule name.entry.now }
+/// An option with any number of texts, each with its own `--name`.
+fn many_texts<'a>(alloc: Global, name: &'a str, value_name: &'a str) -> Arg<'a>
+    ensures { rule_of result ≡ texts_rule name.entry.now }
 {
-    text_option(alloc, name, "N").action(ArgAction::Append)
+    text_option(alloc, name, value_name).action(ArgAction::Append)
 }
 
 /// An option without a value.

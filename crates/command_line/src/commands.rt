@@ -21,6 +21,7 @@ enum Subcommand {
     Check,
     Means,
     Mark,
+    Change,
     List,
     Words,
     Explain,
@@ -52,6 +53,7 @@ impl Subcommand {
             Subcommand::Check => "check",
             Subcommand::Means => "means",
             Subcommand::Mark => "mark",
+            Subcommand::Change => "change",
             Subcommand::List => "list",
             Subcommand::Words => "words",
             Subcommand::Explain => "explain",
@@ -70,6 +72,7 @@ impl Subcommand {
             Subcommand::Check => &CHECK,
             Subcommand::Means => &MEANS,
             Subcommand::Mark => &MARK,
+            Subcommand::Change => &CHANGE,
             Subcommand::List => &LIST,
             Subcommand::Words => &WORDS,
             Subcommand::Explain => &EXPLAIN,
@@ -114,6 +117,11 @@ impl Subcommand {
                 long_about: help::MARK_LONG_ABOUT,
                 after: help::MARK_EXAMPLE,
             },
+            Subcommand::Change => Texts {
+                about: help::CHANGE_ABOUT,
+                long_about: help::CHANGE_LONG_ABOUT,
+                after: help::CHANGE_EXAMPLE,
+            },
             Subcommand::List => Texts {
                 about: "Lists the stations of a field file and their two-face directions",
                 long_about: help::LIST_LONG_ABOUT,
@@ -134,7 +142,7 @@ impl Subcommand {
 }
 
 /// The commands, in the order in which help lists them.
-const SUBCOMMANDS: [Subcommand; 10] = [
+const SUBCOMMANDS: [Subcommand; 11] = [
     Subcommand::Compare,
     Subcommand::Differences,
     Subcommand::Directions,
@@ -142,17 +150,20 @@ const SUBCOMMANDS: [Subcommand; 10] = [
     Subcommand::Check,
     Subcommand::Means,
     Subcommand::Mark,
+    Subcommand::Change,
     Subcommand::List,
     Subcommand::Words,
     Subcommand::Explain,
 ];
 
 /// The arguments and options of `compare`.
-const COMPARE: [Argument; 9] = [
+const COMPARE: [Argument; 11] = [
     Argument::FieldFile,
     Argument::Station,
     Argument::Table,
     Argument::Degrees,
+    Argument::MinutesAfterPoint,
+    Argument::Columns,
     Argument::TwoC,
     Argument::TwoI,
     Argument::Residual,
@@ -161,38 +172,50 @@ const COMPARE: [Argument; 9] = [
 ];
 
 /// The arguments and options of `differences`.
-const DIFFERENCES: [Argument; 7] = [
+const DIFFERENCES: [Argument; 10] = [
     Argument::FieldFile,
     Argument::Station,
     Argument::Table,
     Argument::Degrees,
+    Argument::MinutesAfterPoint,
+    Argument::Columns,
     Argument::TwoC,
     Argument::TwoI,
     Argument::Residual,
+    Argument::DecimalComma,
 ];
 
 /// The arguments and options of `directions`.
-const DIRECTIONS: [Argument; 6] = [
+const DIRECTIONS: [Argument; 8] = [
     Argument::FieldFile,
-    Argument::Station,
+    Argument::OptionalStation,
+    Argument::All,
     Argument::TwoC,
     Argument::TwoI,
     Argument::Residual,
     Argument::Decimals,
+    Argument::DecimalComma,
 ];
 
 /// The arguments and options of `report`.
-const REPORT: [Argument; 10] = [
+const REPORT: [Argument; 17] = [
     Argument::FieldFile,
-    Argument::Station,
+    Argument::OptionalStation,
+    Argument::All,
     Argument::TwoC,
     Argument::TwoI,
     Argument::Residual,
     Argument::StatedTable,
     Argument::Degrees,
+    Argument::MinutesAfterPoint,
+    Argument::Columns,
     Argument::Within,
+    Argument::Date,
+    Argument::Note,
     Argument::Digests,
+    Argument::Signature,
     Argument::Rows,
+    Argument::DecimalComma,
 ];
 
 /// The arguments and options of `check`.
@@ -226,12 +249,21 @@ const MARK: [Argument; 9] = [
     Argument::Others,
 ];
 
+/// The arguments and options of `change`.
+const CHANGE: [Argument; 4] = [
+    Argument::FieldFile,
+    Argument::Copy,
+    Argument::LeaveOut,
+    Argument::Rename,
+];
+
 /// The arguments and options of `list`.
-const LIST: [Argument; 4] = [
+const LIST: [Argument; 5] = [
     Argument::FieldFile,
     Argument::TwoC,
     Argument::TwoI,
     Argument::Rows,
+    Argument::DecimalComma,
 ];
 
 /// The arguments and options of `words`.

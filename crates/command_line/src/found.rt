@@ -4,26 +4,31 @@ ghost use Rattle.std.specs.Prelude.{◌≤◌, ◌<◌, ◌^◌, ℕ, IfErr, IfO
 ghost use Rattle.clap.specs.Words.{found_of};
 ghost use Rattle.command_line.specs.CountOptions.{count_largest, count_name};
 ghost use Rattle.command_line.specs.Stated.{LimitIsStated, StatesBeginnings, StatesCode};
+ghost use Rattle.command_line.specs.Stated.{StatesColumns, StatesNoColumns, StatesTableForm};
 ghost use Rattle.command_line.specs.Stated.{StatesDigests, StatesFlag, StatesForm, StatesLimits};
 ghost use Rattle.command_line.specs.Stated.{StatesName, StatesNoBeginnings, StatesNoCode};
 ghost use Rattle.command_line.specs.Stated.{StatesNoLimits, StatesNoName, StatesNoNumber};
 ghost use Rattle.command_line.specs.Stated.{StatesNoResidual, StatesNoWithin, StatesNumber};
 ghost use Rattle.command_line.specs.Stated.{StatesResidual, StatesUnit, StatesWithin};
+ghost use Rattle.command_line.specs.Stated.{IsCommaAlone, StatesRowForm};
 ghost use Rattle.command_line.specs.StatedNumbers.{StatesNoNumbers, StatesNumbers, texts_of};
 ghost use Rattle.job_statements.specs.StatedNumbers.{IsStatedBy};
 ghost use Rattle.job_statements.specs.WrongTexts.{IsUnstated};
 
 use crate::arguments::{
-    CSV, DECIMALS, DEGREES, RESIDUAL, SAME_SET_UP, SHA256, STATED_NAME, STATION_CODE, TWO_C, TWO_I,
-    WITHIN,
+    COLUMNS, CSV, DECIMAL_COMMA, DECIMALS, DEGREES, DMMSS, RESIDUAL, SAME_SET_UP, SHA256,
+    STATED_NAME, STATION_CODE, TWO_C, TWO_I, WITHIN,
 };
 use crate::count_option::CountOption;
 use crate::request::{Digests, ListForm};
 use adjust_kernel::{Name, ResidualLimit};
 use clap::ArgMatches;
-use direction_table::{AngleUnit, Decimals, LARGEST_WITHIN, MOST_WRITTEN};
+use direction_table::{
+    AngleUnit, ColumnPair, Decimals, LARGEST_WITHIN, MOST_WRITTEN, TableForm, stated_columns,
+};
 use job_statements::{Beginnings, StatedNumber, Unstated, numbers_of, station_code};
 use limit_texts::{LimitUnit, limit_stated};
+use row_forms::RowForm;
 use station_book::Limits;
 use std::alloc::{AllocError, Global};
 
@@ -158,19 +163,54 @@ pub(crate) fn within_of(found: &ArgMatches<'_>) -> Option<Option<u32>>
 pub(crate) fn unit_of(found: &ArgMatches<'_>) -> AngleUnit
     ensures { StatesUnit (found_of found.now) result }
 {
-    match found.get_one(DEGREES) {
-        Some(true) => AngleUnit::Degrees,
-        _ => AngleUnit::Gon,
+    match (has_flag(found, DMMSS), has_flag(found, DEGREES)) {
+        (true, _) => AngleUnit::PackedDegrees,
+        (false, true) => AngleUnit::Degrees,
+        (false, false) => AngleUnit::Gon,
     }
 }
 
-/// The form in which stations are listed.
-pub(crate) fn form_of(found: &ArgMatches<'_>) -> ListForm
-    ensures { StatesForm (found_of found.now) result }
+/// The columns of a table that are stated, or that none are, unless the text states none.
+pub(crate) fn columns_of(found: &ArgMatches<'_>) -> Option<Option<ColumnPair>>
+    ensures stated { IfSome result (StatesColumns (found_of found.now)) }
+    ensures none { IfNone result (StatesNoColumns (found_of found.now)) }
 {
-    match found.get_one(CSV) {
-        Some(true) => ListForm::Rows,
-        _ => ListForm::Lines,
+    let Some(text) = found.get_str(COLUMNS) else {
+        return Some(None);
+    };
+    Some(Some(stated_columns(text.as_bytes())?))
+}
+
+/// How a table is to be read, unless the text of its columns states none.
+pub(crate) fn table_form_of(found: &ArgMatches<'_>) -> Option<TableForm>
+    ensures stated { IfSome result (StatesTableForm (found_of found.now)) }
+    ensures none { IfNone result (StatesNoColumns (found_of found.now)) }
+{
+    Some(TableForm {
+        unit: unit_of(found),
+        columns: columns_of(found)?,
+    })
+}
+
+/// The form of rows.
+pub(crate) fn row_form_of(found: &ArgMatches<'_>) -> RowForm
+    ensures { StatesRowForm (found_of found.now) result }
+{
+    match has_flag(found, DECIMAL_COMMA) {
+        true => RowForm::Semicolons,
+        false => RowForm::Commas,
+    }
+}
+
+/// The form in which a result is printed, unless a decimal comma is stated without rows.
+pub(crate) fn form_of(found: &ArgMatches<'_>) -> Option<ListForm>
+    ensures stated { IfSome result (StatesForm (found_of found.now)) }
+    ensures none { IfNone result (IsCommaAlone (found_of found.now)) }
+{
+    match (has_flag(found, CSV), row_form_of(found)) {
+        (true, rows) => Some(ListForm::Rows(rows)),
+        (false, RowForm::Commas) => Some(ListForm::Lines),
+        (false, RowForm::Semicolons) => None,
     }
 }
 

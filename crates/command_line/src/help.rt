@@ -55,14 +55,16 @@ table, then of the adjustment, in which no residual may be above 10 mgon, or the
 
 TABLE is text with a row for each target of the station, in any order: its name and its direction.
 Commas, semicolons, tabs or blanks separate the two; the first row decides which, and may be one of
-titles. A direction is in gon, from -400 to 400: a sign or none, at most 3 digits, a decimal point
-or comma with decimals if it has any, and an exponent as e-05 if it has one. Nine decimals are read;
-the others count as a rounding. If commas separate, a decimal comma stands in quotes. The first
-direction need not be 0.
+titles. Of more columns the one pair that fits is read, and a note tells which; or those of
+--columns. A direction is in gon, from -400 to 400: a sign or none, at most 3 digits, a decimal
+point or comma with decimals if it has any, and an exponent as e-05 if it has one. Nine decimals are
+read; the others count as a rounding. If commas separate, a decimal comma stands in quotes. The
+first direction need not be 0.
 
 With --degrees a direction is in degrees, from -360 to 360: with minutes and seconds, as
-59-04-09.18, or the same with the three signs in the place of the hyphens; or with decimals, as
-59.069217. Minutes and seconds have two digits each.
+59-04-09.18, or with colons, blanks or the three signs in the place of the hyphens; or with
+decimals, as 59.069217. With --dmmss it has minutes and seconds after the point, as 59.040918.
+Minutes and seconds have two digits each.
 
 STATION is a name of the field file, byte for byte, without the zeros on its left. Write '--' before
 a name that begins with '-'.";
@@ -78,7 +80,7 @@ Example:
 
   agrees S1: 2 sets, 2 targets, within 0.000 mgon, limit 0.010 mgon, greatest residual 0.005 mgon";
 
-pub const TABLE_HELP: &str = "The table of directions, text of two columns";
+pub const TABLE_HELP: &str = "The table of directions, text of two columns or more";
 
 pub const DIFFERENCES_LONG_ABOUT: &str = "\
 Prints a row for each target of a station, complete sets or not: the direction that TABLE states,
@@ -123,6 +125,8 @@ Each row is NAME,DIRECTION. Targets come in the order of their first readings. D
 gon, from 0 up to 400; the first is 0. They are rounded to K decimals, and the middle of two goes
 up. 'compare' reads such a table.
 
+With --all each row is STATION,NAME,DIRECTION, after a row of titles, station after station.
+
 STATION is a name of the field file, byte for byte, without the zeros on its left. Write '--' before
 a name that begins with '-'.";
 
@@ -137,7 +141,9 @@ Example:
   station_check directions field.gsi S1 > table.csv
 
   A,0.000000
-  B,50.000030";
+  B,50.000030
+
+  station_check directions --all field.gsi > table.csv";
 
 pub const REPORT_LONG_ABOUT: &str = "\
 Prints the protocol of a station's sets, complete or not, as text of fixed columns for the files of
@@ -153,10 +159,15 @@ limit, and whether the table agrees, as 'compare' says it. If their directions a
 is printed whole, and the status is 1.
 
 With --csv the observations are printed as rows for other programs: titles, and for each its
-station, set and target, the readings, the two-face direction, 2c, 2i, the adjusted direction and
-the residual, which is the adjusted direction less the two-face one. These two add up to the
-adjusted direction, to the last digit, but for a full circle. Values of a target or of the whole
-station are left out: 'directions' has the adjusted directions.
+station, set and target, the readings, the two-face direction, 2c, 2i, the adjusted direction, the
+residual, which is the adjusted direction less the two-face one, and the zenith angles of both faces
+and their mean. Direction and residual add up to the adjusted direction, to the last digit, but for
+a full circle. Values of a target or of the whole station are left out: 'directions' has the
+adjusted directions. With --decimal-comma too, semicolons stand between cells and commas in numbers,
+as a spreadsheet reads them that is set to German or French.
+
+With --all the protocol of each station begins a page, after a form feed but for the first; with
+--csv the titles stand once.
 
 Directions are in gon. Face differences are in mgon with 2 decimals, residuals and the standard
 deviation in mgon with 3, each rounded from the exact fraction; the middle of two goes up. A mean is
@@ -177,10 +188,10 @@ Exit status:
 Example:
   station_check report --sha256 --table table.csv field.gsi S1 > report.txt
 
-  station_check report --csv field.gsi S1 > report.csv
+  station_check report --csv field.gsi S1 | cut -d , -f 1-3,9-13
 
-  station,set,target,face one,face two,direction,2c,2i,adjusted,residual
-  S1,1,A,0.000000,200.000060,0.000030,0.06,-0.02,0.000025,-0.005";
+  station,set,target,adjusted,residual,zenith one,zenith two,zenith mean
+  S1,1,A,0.000025,-0.005,100.000000,299.999980,100.000010";
 
 pub const CHECK_LONG_ABOUT: &str = "\
 Checks a sheet against the station of its name in a field file.
@@ -265,6 +276,11 @@ Example:
   note: station P7: 4 sets, 6 targets, from A to F; 1 reading before them and 2 after stay outside
   note: compare this with the field book";
 
+pub const ALL_LONG_HELP: &str = "\
+Answer all stations of the file, in its order, in the place of one: of each what its own
+command prints. Nothing is printed unless each has an answer; the refusal is that of the
+first that has none, and 'note: station NAME' names it";
+
 pub const COPY_LONG_HELP: &str = "\
 The file that the copy goes to, in the place of standard output. It is made only where
 nothing has its name yet, and only where there is a copy: after a refusal there is none";
@@ -307,14 +323,77 @@ pub const OTHERS_LONG_HELP: &str = "\
 Leave the readings of stations that are not recognized outside of the sets, and mark the
 others. A name that comes again is refused all the same, unless --again is stated";
 
+pub const CHANGE_ABOUT: &str = "\
+Prints a copy of a field file in which just the stated lines are left out or renamed";
+
+pub const CHANGE_LONG_ABOUT: &str = "\
+Prints a copy of a field file in which just the stated lines are changed: --leave-out N leaves line
+N out, --rename N=NAME gives its point this name. Each other byte is the same, and the field file
+stays as it is. Both may be stated any number of times and in any order, each line once.
+
+N counts lines as refusals count blocks: from 1, without lines of blanks. All numbers are those of
+the field file, whatever is left out before them. Lines may be such that no other command reads
+them. A renamed line has to be a measurement: a block that begins with a word 11.
+
+Each change is told on standard error. Why a line is changed, the field book has to say.";
+
+pub const CHANGE_EXAMPLE: &str = "\
+Exit status:
+  0  the whole copy was written
+  1  refused: the first change that cannot be made is named on standard error, and nothing was
+     written, unless a write failed
+  2  a mistake on the command line, or GSI cannot be opened, or COPY is there already
+
+Example:
+  station_check change --leave-out 17 --rename 9=P2 field.gsi field_changed.gsi
+
+  note: line 9 has the name P2
+  note: line 17 left out";
+
+pub const LEAVE_OUT_LONG_HELP: &str = "\
+Leave out line N with what ends it. Lines count from 1 as blocks in refusals, without
+lines of blanks; it may be stated several times: --leave-out 17 --leave-out 18";
+
+pub const RENAME_LONG_HELP: &str = "\
+Give the point of line N this name, filled with zeros from the left: at most 8 characters
+in a line of GSI-8, 16 in one of GSI-16, and no zero at its beginning. It may be stated
+several times: --rename 9=P2 --rename 12=P2";
+
+/// What may be stated as a line that is left out.
+pub const LEFT_OUT_LINES: &str = "state the number of a line, from 1";
+
+/// What may be stated as a line whose point has another name.
+pub const RENAMED_LINES: &str = "\
+state the number of a line, from 1, '=', and a name of 1 to 16 characters, from the blank to '~'";
+
+pub const DATE_LONG_HELP: &str = "\
+Print this date in the head of the report, as it is typed. The program asks no clock";
+
+pub const NOTE_LONG_HELP: &str = "\
+Print a line in the head of the report: KEY, and in the column of the head TEXT, as it is
+typed. It may be stated several times, and the lines stand in this order:
+--note 'Project=Dam, epoch 7' --note Observer=Huber. KEY is what stands before the first
+=, and no label that the head has of its own";
+
+/// What may be stated as a note.
+pub const NOTES: &str = "\
+state KEY=TEXT, where KEY is not empty, and no label that the head has of its own, as 'Station'";
+
 pub const ROWS_ALONE: &str = "\
-'--csv' prints rows alone: not with '--table', '--degrees', '--within' or '--sha256'";
+'--csv' prints rows alone: not with '--table', how it is read, '--within', '--sha256', or \
+what a report notes";
+
+pub const COMMA_ALONE: &str = "\
+'--decimal-comma' says how rows are written: print rows with '--csv'";
 
 pub const WITHIN_ALONE: &str = "\
 '--within <LIMIT>' limits how far a table may be off: name it with '--table <TABLE>'";
 
-pub const DEGREES_ALONE: &str = "\
-'--degrees' says in what a table is: name it with '--table <TABLE>'";
+pub const FORM_ALONE: &str = "\
+'--degrees', '--dmmss' and '--columns' say how a table is read: name it with '--table <TABLE>'";
+
+/// What may be stated as the columns of a table.
+pub const NO_COLUMNS: &str = "two numbers of columns from 1, with a comma between, as 2,6";
 
 /// What is said of a text that is no number of sets.
 pub const SETS_NUMBERS: &str = "state a whole number from 1 to 40, or NAME=N for one station";
@@ -338,6 +417,13 @@ pub const ONE_TWICE: &str = "another number is stated for this station before it
 pub const NO_CODE: &str = "\
 a code has 1 to 16 characters of ASCII, and is none of 10, 20 and 30, which 'mark' puts in";
 
+pub const ALL_ALONE: &str = "\
+'--all' is of all stations: not with a STATION, '--table', how it is read, '--within' or \
+'--sha256'";
+
+pub const NO_STATION: &str = "\
+no station is named: name a STATION, or ask for all of them with '--all'";
+
 pub const NO_NAME: &str = "\
 the name of a station has 1 to 16 characters of ASCII, from the blank to '~'";
 
@@ -348,7 +434,9 @@ units of 0.00001 gon (0.01 mgon): 2c, the direction in face II, less that in fac
 and 2i, both zenith angles together, less 400 gon.
 
 With --csv the same is printed for other programs: a row of titles, and a row for each observation
-with its station, set and target, the direction in gon and the face differences in mgon.";
+with its station, set and target, the direction in gon and the face differences in mgon. With
+--decimal-comma too, semicolons stand between cells and commas in numbers, as a spreadsheet reads
+them that is set to German or French.";
 
 pub const LIST_EXAMPLE: &str = "\
 Exit status:
@@ -440,6 +528,15 @@ pub const DEGREES_LONG_HELP: &str = "\
 Read the directions of the table in degrees, and not in gon: with minutes and seconds, as
 59-04-09.18, or with decimals, as 59.069217";
 
+pub const DMMSS_LONG_HELP: &str = "\
+Read the directions of the table in degrees with two digits of minutes and two of seconds
+after the point: 59.040918 is 59-04-09.18";
+
+pub const COLUMNS_LONG_HELP: &str = "\
+Read these columns of the table, by their numbers from 1: that of the targets and that of
+their directions, as 2,6. Where none are stated, a table of more columns is read by the
+one pair of them that fits, and a note tells which";
+
 /// What may be stated as a limit of face differences.
 pub const FACE_LIMITS: &str = "\
 state mgon, as 0.3mgon: from 0mgon to 10000mgon, by 0.01;
@@ -462,6 +559,13 @@ How many decimals of a gon a direction is written with: 1 to 8. The sixth is of
 pub const CSV_LONG_HELP: &str = "\
 Print rows for other programs, as CSV with a row of titles: directions in gon with 6
 decimals, face differences in mgon with 2, residuals in mgon with 3";
+
+pub const DECIMAL_COMMA_HELP: &str = "\
+Write rows for a spreadsheet that is set to German or French";
+
+pub const DECIMAL_COMMA_LONG_HELP: &str = "\
+Write semicolons between cells and commas in numbers, for a spreadsheet that is set to
+German or French: there -0.134 is read as -134. 'list' and 'report' need '--csv'";
 
 pub const SHA256_LONG_HELP: &str = "\
 Print the SHA-256 digest of each file after the answer. They are those of the bytes that

@@ -7,6 +7,8 @@
 //! | `commands`, `arguments`, `help` | the grammar as `clap` builds it, and its help |
 //! | `subcommands`, `found` | the request of each subcommand, by the words after its name |
 //! | `count_option` | the options that state numbers of sets or targets of stations |
+//! | `stated_changes` | the options that state changes of lines |
+//! | `stated_notes` | the options that state what a report notes |
 //! | `mistakes`, `limit_option` | the mistakes of words that the grammar takes, and their texts |
 //! | `laws` | a law of what is stated |
 #![tactic(auto)]
@@ -21,9 +23,12 @@ pub mod laws;
 mod limit_option;
 mod mistakes;
 mod request;
+mod stated_changes;
+mod stated_notes;
 mod subcommands;
 
 pub use asked::asked_for;
 pub use request::{
-    Digests, FieldStation, ListForm, Request, SheetCheck, StationText, TableBeside, TableText,
+    Digests, FieldStation, FieldStations, ListForm, Request, SheetCheck, StationText, StationsText,
+    TableBeside, TableText,
 };

@@ -5,17 +5,25 @@ ghost use Rattle.std.specs.Prelude.{string_bytes};
 ghost use Rattle.clap.specs.Words.{found_of, kind_of};
 ghost use Rattle.command_line.specs.Mistakes.{AreRightLimits, HasRightCounts, IsMistakeAmong};
 ghost use Rattle.command_line.specs.Mistakes.{IsMistakeFrom, IsNoLimit, IsRightLimit, IsWrongCode};
-ghost use Rattle.command_line.specs.Mistakes.{IsWrongCount, NoneIsBefore, StandsBesideRows};
+ghost use Rattle.command_line.specs.Mistakes.{HasForm, IsOfOneReport, IsWrongColumns, IsWrongCount};
+ghost use Rattle.command_line.specs.Mistakes.{IsThere, NoneIsBefore, NoneIsBetween};
+ghost use Rattle.command_line.specs.Mistakes.{StandsBesideAll, StandsBesideRows};
 ghost use Rattle.command_line.specs.Mistakes.{count_why, mistake_text};
-ghost use Rattle.command_line.specs.Stated.{StatesNoCode};
+ghost use Rattle.command_line.specs.declared.mistakes.Mistake.TheVariants as mistake;
+ghost use Rattle.command_line.specs.Stated.{IsCommaAlone, StatesNoCode, StatesNoColumns};
 
-use crate::arguments::{STATED_TABLE, STATION_CODE, WITHIN};
+use crate::arguments::{
+    ALL, COLUMNS, CSV, DECIMAL_COMMA, STATED_NAME, STATED_TABLE, STATION, STATION_CODE, WITHIN,
+};
 use crate::commands::command_named;
 use crate::count_option::CountOption;
-use crate::found::{counted, digests_of, form_of, limit_of, stated_code_of, unit_of};
+use crate::found::{columns_of, counted, digests_of, has_flag, limit_of, stated_code_of, unit_of};
 use crate::help;
 use crate::limit_option::{LIMIT_OPTIONS, LimitOption};
-use crate::request::{Digests, ListForm};
+use crate::request::Digests;
+use crate::stated_changes::{form_of_changes, stated_as_changes, wrong_change};
+use crate::stated_notes::{has_notes, wrong_note};
+use changed_lines::EditKind;
 use clap::error::ErrorKind;
 use clap::{ArgMatches, Error};
 use direction_table::AngleUnit;
@@ -52,8 +60,14 @@ pub(crate) enum Mistake<'a> {
     /// The limit of a comparison is stated without a table.
     Within,
 
-    /// The unit of a table is stated without a table.
-    Degrees,
+    /// How a table is read is stated without a table.
+    Form,
+
+    /// The text of the columns of a table states none.
+    Columns(&'a str),
+
+    /// A decimal comma is stated, and no rows.
+    DecimalComma,
 
     /// This text of an option that states numbers can't stand where it does.
     Count(CountOption, &'a str, CountFault<'a>),
@@ -61,8 +75,20 @@ pub(crate) enum Mistake<'a> {
     /// The code of the stations is none, or one that is put in.
     Code(&'a str),
 
+    /// This text of an option that states changes of lines says none.
+    Change(EditKind, &'a str),
+
+    /// This text of the option that states notes says none.
+    Note(&'a str),
+
+    /// All stations are asked for, and something that is of one.
+    All,
+
     /// No station can have the name.
     Name,
+
+    /// No station is named, and not all are asked for.
+    NoStation,
 }
 
 /// The mistake of words that lack what their subcommand needs.
@@ -92,7 +118,12 @@ fn message_of(alloc: Global, mistake: Mistake<'_>) -> Result<String, AllocError>
         ),
         Mistake::Rows => help::ROWS_ALONE.to_string(alloc),
         Mistake::Within => help::WITHIN_ALONE.to_string(alloc),
-        Mistake::Degrees => help::DEGREES_ALONE.to_string(alloc),
+        Mistake::Form => help::FORM_ALONE.to_string(alloc),
+        Mistake::Columns(text) => format!(in alloc;
+            "invalid value '{text}' for '--columns <TARGET,DIRECTION>': {}",
+            help::NO_COLUMNS
+        ),
+        Mistake::DecimalComma => help::COMMA_ALONE.to_string(alloc),
         Mistake::Count(option, text, fault) => {
             let (number, why) = told_of(option, fault);
             format!(in alloc;
@@ -104,7 +135,18 @@ fn message_of(alloc: Global, mistake: Mistake<'_>) -> Result<String, AllocError>
             "invalid value '{text}' for '--station-code <N>': {}",
             help::NO_CODE
         ),
+        Mistake::Change(kind, text) => format!(in alloc;
+            "invalid value '{text}' for '--{}': {}",
+            form_of_changes(kind),
+            stated_as_changes(kind)
+        ),
+        Mistake::Note(text) => format!(in alloc;
+            "invalid value '{text}' for '--note <KEY=TEXT>': {}",
+            help::NOTES
+        ),
+        Mistake::All => help::ALL_ALONE.to_string(alloc),
         Mistake::Name => help::NO_NAME.to_string(alloc),
+        Mistake::NoStation => help::NO_STATION.to_string(alloc),
     }
 }
 
@@ -126,44 +168,145 @@ fn told_of<'a>(option: CountOption, fault: CountFault<'a>) -> (&'a str, &'static
 fn mistake_among<'a>(alloc: Global, found: &ArgMatches<'a>) -> Result<Mistake<'a>, AllocError>
     ensures { IfOk result (IsMistakeAmong (found_of found.now)) }
 {
-    match mistake_beside_marking(found) {
+    if let Some(mistake) = mistake_beside_copies(found) {
+        return Ok(mistake);
+    }
+    match mistake_in_marking(alloc, found)? {
         Some(mistake) => Ok(mistake),
-        None => mistake_in_marking(alloc, found),
+        None => mistake_in_changing(alloc, found),
     }
 }
 
-/// The mistake in what other commands than `mark` are told: the first that is there.
-fn mistake_beside_marking<'a>(found: &ArgMatches<'a>) -> Option<Mistake<'a>>
+/// The mistake in what other commands than `mark` and `change` are told: the first that is there.
+fn mistake_beside_copies<'a>(found: &ArgMatches<'a>) -> Option<Mistake<'a>>
     ensures first { IfSome result (IsMistakeAmong (found_of found.now)) }
-    ensures none { IfNone result (NoneIsBefore 7 (found_of found.now)) }
+    ensures none { IfNone result (NoneIsBefore 8 (found_of found.now)) }
 {
     if let Some(mistake) = wrong_limit(found) {
         return Some(mistake);
     }
-    let table = found.contains_id(STATED_TABLE);
-    match form_of(found) {
-        ListForm::Rows if has_more_than_rows(found) => Some(Mistake::Rows),
-        _ if !table && found.contains_id(WITHIN) => Some(Mistake::Within),
-        _ if !table && unit_of(found) == AngleUnit::Degrees => Some(Mistake::Degrees),
-        _ => None,
+    if let Some(text) = wrong_columns(found) {
+        return Some(Mistake::Columns(text));
+    }
+    if has_rows_and_more(found) {
+        return Some(Mistake::Rows);
+    }
+    if has_within_alone(found) {
+        return Some(Mistake::Within);
+    }
+    if has_form_alone(found) {
+        return Some(Mistake::Form);
+    }
+    None
+}
+
+/// Whether rows are asked for, and something beside them.
+fn has_rows_and_more(found: &ArgMatches<'_>) -> bool
+    ensures { IsTrue result ↔ IsThere (found_of found.now) mistake.Rows }
+{
+    has_flag(found, CSV) && has_more_than_rows(found)
+}
+
+/// Whether the limit of a comparison is stated, and no table.
+fn has_within_alone(found: &ArgMatches<'_>) -> bool
+    ensures { IsTrue result ↔ IsThere (found_of found.now) mistake.Within }
+{
+    !found.contains_id(STATED_TABLE) && found.contains_id(WITHIN)
+}
+
+/// Whether it is stated how a table is read, and no table.
+fn has_form_alone(found: &ArgMatches<'_>) -> bool
+    ensures { IsTrue result ↔ IsThere (found_of found.now) mistake.Form }
+{
+    !found.contains_id(STATED_TABLE) && has_form(found)
+}
+
+/// Whether a decimal comma is stated, and no rows.
+fn is_comma_alone(found: &ArgMatches<'_>) -> bool
+    ensures { IsTrue result ↔ IsCommaAlone (found_of found.now) }
+{
+    has_flag(found, DECIMAL_COMMA) && !has_flag(found, CSV)
+}
+
+/// Whether it is stated how a table is read.
+#[tactic(auto, unfolding(crate::specs::Mistakes::HasForm))]
+fn has_form(found: &ArgMatches<'_>) -> bool
+    ensures { IsTrue result ↔ HasForm (found_of found.now) }
+{
+    unit_of(found) != AngleUnit::Gon || found.contains_id(COLUMNS)
+}
+
+/// What is stated as the columns of a table, where it states none.
+fn wrong_columns<'a>(found: &ArgMatches<'a>) -> Option<&'a str>
+    ensures wrong { IfSome result (λ text. IsWrongColumns (found_of found.now) text.now) }
+    ensures none { IfNone result (¬ (StatesNoColumns (found_of found.now))) }
+{
+    match columns_of(found) {
+        Some(_) => None,
+        None => found.get_str(COLUMNS),
     }
 }
 
-/// The mistake in what `mark` alone is told: the first that is there. A name that no station can
-/// have is what is left, since all else has been tested.
-fn mistake_in_marking<'a>(alloc: Global, found: &ArgMatches<'a>) -> Result<Mistake<'a>, AllocError>
-    ensures { IfOk result (IsMistakeFrom 7 (found_of found.now)) }
+/// A decimal comma without rows, or the mistake in the numbers and the code that `mark` alone is
+/// told: the first that is there.
+fn mistake_in_marking<'a>(
+    alloc: Global,
+    found: &ArgMatches<'a>,
+) -> Result<Option<Mistake<'a>>, AllocError>
+    ensures first { IfOk result (λ told. IfSome told (IsMistakeFrom 8 (found_of found.now))) }
+    ensures none { IfOk result (λ told. IfNone told (NoneIsBetween 8 12 (found_of found.now))) }
 {
+    if is_comma_alone(found) {
+        return Ok(Some(Mistake::DecimalComma));
+    }
     if let Some((text, fault)) = wrong_count(alloc, found, CountOption::Sets)? {
-        return Ok(Mistake::Count(CountOption::Sets, text, fault));
+        return Ok(Some(Mistake::Count(CountOption::Sets, text, fault)));
     }
     if let Some((text, fault)) = wrong_count(alloc, found, CountOption::Targets)? {
-        return Ok(Mistake::Count(CountOption::Targets, text, fault));
+        return Ok(Some(Mistake::Count(CountOption::Targets, text, fault)));
     }
     match wrong_code(found) {
-        Some(text) => Ok(Mistake::Code(text)),
-        None => Ok(Mistake::Name),
+        Some(text) => Ok(Some(Mistake::Code(text))),
+        None => Ok(None),
     }
+}
+
+/// The mistake in the changes that `change` alone is told, in the notes of `report`, or in what is
+/// said of stations: the first that is there.
+fn mistake_in_changing<'a>(alloc: Global, found: &ArgMatches<'a>) -> Result<Mistake<'a>, AllocError>
+    ensures { IfOk result (IsMistakeFrom 12 (found_of found.now)) }
+{
+    if let Some(text) = wrong_change(alloc, found, EditKind::Out)? {
+        return Ok(Mistake::Change(EditKind::Out, text));
+    }
+    if let Some(text) = wrong_change(alloc, found, EditKind::Rename)? {
+        return Ok(Mistake::Change(EditKind::Rename, text));
+    }
+    match wrong_note(alloc, found)? {
+        Some(text) => Ok(Mistake::Note(text)),
+        None => Ok(mistake_of_stations(found)),
+    }
+}
+
+/// The mistake in what is said of stations: the first that is there. That none is named is what is
+/// left, since all else has been tested.
+fn mistake_of_stations<'a>(found: &ArgMatches<'a>) -> Mistake<'a>
+    ensures { IsMistakeFrom 15 (found_of found.now) result }
+{
+    if has_flag(found, ALL) && has_more_than_all(found) {
+        return Mistake::All;
+    }
+    if found.contains_id(STATED_NAME) {
+        return Mistake::Name;
+    }
+    Mistake::NoStation
+}
+
+/// Whether something is stated that is of one station.
+pub(crate) fn has_more_than_all(found: &ArgMatches<'_>) -> bool
+    ensures { IsTrue result ↔ StandsBesideAll (found_of found.now) }
+{
+    found.contains_id(STATION) || is_of_one_report(found)
 }
 
 /// The first text of an option that can't stand where it does, and why.
@@ -225,9 +368,16 @@ fn text_of_no_limit<'a>(found: &ArgMatches<'a>, option: LimitOption) -> Option<&
 fn has_more_than_rows(found: &ArgMatches<'_>) -> bool
     ensures { IsTrue result ↔ StandsBesideRows (found_of found.now) }
 {
+    is_of_one_report(found) || has_notes(found)
+}
+
+/// Whether something is stated that only the report of one station can have.
+fn is_of_one_report(found: &ArgMatches<'_>) -> bool
+    ensures { IsTrue result ↔ IsOfOneReport (found_of found.now) }
+{
     found.contains_id(STATED_TABLE)
         || found.contains_id(WITHIN)
-        || unit_of(found) == AngleUnit::Degrees
+        || has_form(found)
         || matches!(digests_of(found), Digests::Printed)
 }
 

@@ -1,8 +1,11 @@
 //! What the program is asked to do.
 
 use adjust_kernel::ResidualLimit;
-use direction_table::{AngleUnit, Decimals};
+use changed_lines::Change;
+use direction_table::{Decimals, TableForm};
 use job_statements::{Beginnings, Stated};
+use report_notes::Notes;
+use row_forms::RowForm;
 use station_book::{Limits, ResultLimits};
 use station_explain::Explanation;
 
@@ -24,7 +27,7 @@ pub enum ListForm {
     Lines,
 
     /// Rows for other programs, as CSV.
-    Rows,
+    Rows(RowForm),
 }
 
 /// A sheet that is to be checked.
@@ -59,6 +62,16 @@ pub struct FieldStation<'a, F> {
     pub limits: ResultLimits,
 }
 
+/// All stations of a field file, each of which is adjusted.
+#[derive(Drop)]
+pub struct FieldStations<F> {
+    /// The field file that has them.
+    pub gsi: F,
+
+    /// The limits that they are held to.
+    pub limits: ResultLimits,
+}
+
 /// A table of directions, and the station beside which it stands.
 #[derive(Drop)]
 pub struct TableBeside<'a, F> {
@@ -68,26 +81,39 @@ pub struct TableBeside<'a, F> {
     /// The table's file.
     pub file: F,
 
-    /// The unit in which it states directions.
-    pub unit: AngleUnit,
+    /// How it is read: the unit of its directions, and its columns.
+    pub form: TableForm,
 }
 
 /// What is printed of a station.
-#[derive(Clone, Copy)]
-pub enum StationText {
+#[derive(Drop)]
+pub enum StationText<'a> {
     /// Its least-squares directions, as a table.
-    Directions { decimals: Decimals },
+    Directions { decimals: Decimals, form: RowForm },
 
-    /// Its report.
-    Report { digests: Digests },
+    /// Its report, with these notes.
+    Report { digests: Digests, notes: Notes<'a> },
 
     /// The report as rows for other programs.
-    ReportRows,
+    ReportRows { form: RowForm },
+}
+
+/// What is printed of all stations: of each what is printed of it alone.
+#[derive(Drop)]
+pub enum StationsText<'a> {
+    /// Their least-squares directions, as a table in a form.
+    Directions { decimals: Decimals, form: RowForm },
+
+    /// Their reports, page after page, each with these notes.
+    Reports { notes: Notes<'a> },
+
+    /// The reports as rows for other programs.
+    ReportRows { form: RowForm },
 }
 
 /// What is printed of a station and of a table beside it.
-#[derive(Clone, Copy)]
-pub enum TableText {
+#[derive(Drop)]
+pub enum TableText<'a> {
     /// Whether they agree: within so many units of 0.000001 gon, or where none are stated within
     /// what is usual for the table's rows.
     Comparison {
@@ -96,13 +122,16 @@ pub enum TableText {
     },
 
     /// How far the table is off, target by target.
-    Differences,
+    Differences {
+        form: RowForm,
+    },
 
-    /// The report of the station with the table beside its directions: they agree as for
-    /// `Comparison`.
+    /// The report of the station, with these notes and with the table beside its directions: they
+    /// agree as for `Comparison`.
     Report {
         within: Option<u32>,
         digests: Digests,
+        notes: Notes<'a>,
     },
 }
 
@@ -124,13 +153,19 @@ pub enum Request<'a, F, N> {
     /// Prints a text of a station of a field file.
     Station {
         station: FieldStation<'a, F>,
-        text: StationText,
+        text: StationText<'a>,
+    },
+
+    /// Prints a text of all stations of a field file.
+    Stations {
+        stations: FieldStations<F>,
+        text: StationsText<'a>,
     },
 
     /// Prints a text of a station of a field file and of a table.
     Table {
         beside: TableBeside<'a, F>,
-        text: TableText,
+        text: TableText<'a>,
     },
 
     /// Prints a copy of a field file with codes put in, or writes it to a new file of the path that
@@ -140,6 +175,14 @@ pub enum Request<'a, F, N> {
         copy: Option<N>,
         beginnings: Beginnings,
         stated: Stated,
+    },
+
+    /// Prints a copy of a field file in which just these lines are changed, or writes it to a new
+    /// file of the path that is named.
+    Change {
+        gsi: F,
+        copy: Option<N>,
+        changes: Vec<Change>,
     },
 
     /// Lists the stations of a field file.

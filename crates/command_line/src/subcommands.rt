@@ -1,27 +1,35 @@
 //! What each subcommand asks for.
 
-ghost use Rattle.std.specs.Prelude.{◌≡◌, IfOk, IfSome, IfNone, codes};
+ghost use Rattle.std.specs.Prelude.{◌≡◌, ◌↔◌, IfOk, IfSome, IfNone, IsTrue, codes, true};
 ghost use Rattle.clap.specs.Words.{found_of};
-ghost use Rattle.command_line.specs.CommandLine.{AsksFor, AsksForResult, AsksOfStation, Lacks};
+ghost use Rattle.command_line.specs.CommandLine.{AsksFor, AsksForAll, AsksForResult};
+ghost use Rattle.command_line.specs.CommandLine.{AsksOfStation, Lacks, LacksAll, LacksLimits};
+ghost use Rattle.command_line.specs.CommandLine.{HoldsResult};
 ghost use Rattle.command_line.specs.CommandLine.{LacksForDifferences, LacksResult};
 ghost use Rattle.command_line.specs.CommandLine.{LacksForDirections, LacksForList, LacksStation};
 ghost use Rattle.command_line.specs.CommandLine.{LacksToCheck, LacksToCompare, LacksToMark};
-ghost use Rattle.command_line.specs.CommandLine.{LacksToReport};
-ghost use Rattle.command_line.specs.Stated.{IsMissing};
+ghost use Rattle.command_line.specs.CommandLine.{LacksToChange, LacksToReport};
+ghost use Rattle.command_line.specs.Stated.{IsMissing, IsStatedForm, StatesFlag};
+ghost use Rattle.command_line.specs.StatedNotes.{StatesNotes};
 ghost use Rattle.command_line.specs.StatedNumbers.{StatesNumbers};
 
-use crate::arguments::{AGAIN, COPY, GSI, OTHERS, SHEET, STATED_TABLE, STATION, TABLE};
+use crate::arguments::{AGAIN, ALL, COPY, GSI, OTHERS, SHEET, STATED_TABLE, STATION, TABLE};
 use crate::count_option::CountOption;
 use crate::found::{
     beginnings_of, count_of, decimals_of, digests_of, form_of, has_flag, limits_of, residual_of,
-    unit_of, within_of,
+    row_form_of, table_form_of, within_of,
 };
+use crate::mistakes::has_more_than_all;
 use crate::request::{
-    Digests, FieldStation, ListForm, Request, SheetCheck, StationText, TableBeside, TableText,
+    Digests, FieldStation, FieldStations, ListForm, Request, SheetCheck, StationText, StationsText,
+    TableBeside, TableText,
 };
+use crate::stated_changes::changes_stated;
+use crate::stated_notes::{has_notes, notes_stated};
 use clap::ArgMatches;
-use direction_table::AngleUnit;
+use direction_table::{AngleUnit, TableForm};
 use job_statements::{Stated, StatedNumber};
+use report_notes::Notes;
 use station_book::{Limits, ResultLimits};
 use std::alloc::{AllocError, Global};
 
@@ -41,10 +49,11 @@ pub(crate) fn request_after<'a>(
         "compare" => Ok(compare_request(found)),
         "differences" => Ok(differences_request(found)),
         "directions" => Ok(directions_request(found)),
-        "report" => Ok(report_request(found)),
+        "report" => report_request(alloc, found),
         "check" => Ok(check_request(found)),
         "means" => Ok(means_request(found)),
         "mark" => mark_request(alloc, found),
+        "change" => change_request(alloc, found),
         "list" => Ok(list_request(found)),
         "words" => Ok(words_request(found)),
         _ => Ok(None),
@@ -63,28 +72,42 @@ fn station_of<'a>(found: &ArgMatches<'a>) -> Option<(&'a str, &'a str, Limits)>
     Some((gsi, station, limits_of(found)?))
 }
 
-/// The station whose adjustment is asked for. The limit of residuals is the largest where none is
-/// stated.
+/// The limits of a result. That of residuals is the largest where none is stated.
+fn result_limits_of(found: &ArgMatches<'_>) -> Option<ResultLimits>
+    ensures held { IfSome result (HoldsResult (found_of found.now)) }
+    ensures none { IfNone result (LacksLimits (found_of found.now)) }
+{
+    let usual = ResultLimits::of_faces(limits_of(found)?);
+    match residual_of(found)? {
+        Some(residual) => Some(ResultLimits { residual, ..usual }),
+        None => Some(usual),
+    }
+}
+
+/// The station whose adjustment is asked for.
 fn result_of<'a>(found: &ArgMatches<'a>) -> Option<FieldStation<'a, &'a str>>
     ensures asked { IfSome result (AsksForResult (found_of found.now)) }
     ensures none { IfNone result (LacksResult (found_of found.now)) }
 {
-    let Some((gsi, name, faces)) = station_of(found) else {
+    Some(FieldStation {
+        gsi: found.get_str(GSI)?,
+        name: found.get_str(STATION)?,
+        limits: result_limits_of(found)?,
+    })
+}
+
+/// All stations, whose adjustments are asked for.
+fn all_of<'a>(found: &ArgMatches<'a>) -> Option<FieldStations<&'a str>>
+    ensures asked { IfSome result (AsksForAll (found_of found.now)) }
+    ensures none { IfNone result (LacksAll (found_of found.now)) }
+{
+    if has_more_than_all(found) {
         return None;
-    };
-    let usual = ResultLimits::of_faces(faces);
-    match residual_of(found)? {
-        Some(residual) => Some(FieldStation {
-            gsi,
-            name,
-            limits: ResultLimits { residual, ..usual },
-        }),
-        None => Some(FieldStation {
-            gsi,
-            name,
-            limits: usual,
-        }),
     }
+    Some(FieldStations {
+        gsi: found.get_str(GSI)?,
+        limits: result_limits_of(found)?,
+    })
 }
 
 fn compare_request<'a>(found: &ArgMatches<'a>) -> Option<Request<'a, &'a str, &'a str>>
@@ -97,7 +120,7 @@ fn compare_request<'a>(found: &ArgMatches<'a>) -> Option<Request<'a, &'a str, &'
     let beside = TableBeside {
         station,
         file: found.get_str(TABLE)?,
-        unit: unit_of(found),
+        form: table_form_of(found)?,
     };
     let text = TableText::Comparison {
         within: within_of(found)?,
@@ -116,11 +139,12 @@ fn differences_request<'a>(found: &ArgMatches<'a>) -> Option<Request<'a, &'a str
     let beside = TableBeside {
         station,
         file: found.get_str(TABLE)?,
-        unit: unit_of(found),
+        form: table_form_of(found)?,
     };
+    let form = row_form_of(found);
     Some(Request::Table {
         beside,
-        text: TableText::Differences,
+        text: TableText::Differences { form },
     })
 }
 
@@ -128,51 +152,121 @@ fn directions_request<'a>(found: &ArgMatches<'a>) -> Option<Request<'a, &'a str,
     ensures asked { IfSome result (AsksFor (codes "directions") (found_of found.now)) }
     ensures none { IfNone result (LacksForDirections (found_of found.now)) }
 {
+    let decimals = decimals_of(found)?;
+    let form = row_form_of(found);
+    if has_flag(found, ALL) {
+        let Some(stations) = all_of(found) else {
+            return None;
+        };
+        let text = StationsText::Directions { decimals, form };
+        return Some(Request::Stations { stations, text });
+    }
     let Some(station) = result_of(found) else {
         return None;
     };
-    let text = StationText::Directions {
-        decimals: decimals_of(found)?,
-    };
+    let text = StationText::Directions { decimals, form };
     Some(Request::Station { station, text })
 }
 
-fn report_request<'a>(found: &ArgMatches<'a>) -> Option<Request<'a, &'a str, &'a str>>
+/// What `report` asks for where it is of all stations and these notes are stated.
+fn report_of_all<'a>(
+    found: &ArgMatches<'a>,
+    notes: Notes<'a>,
+) -> Option<Request<'a, &'a str, &'a str>>
+    requires all { StatesFlag (found_of found.now) (codes "all") true }
+    requires noted { StatesNotes (found_of found.now) notes }
     ensures asked { IfSome result (AsksFor (codes "report") (found_of found.now)) }
     ensures none { IfNone result (LacksToReport (found_of found.now)) }
 {
+    let Some(stations) = all_of(found) else {
+        return None;
+    };
+    let listed = form_of(found)?;
+    let text = match (listed, has_notes(found)) {
+        (ListForm::Lines, _) => StationsText::Reports { notes },
+        (ListForm::Rows(form), false) => StationsText::ReportRows { form },
+        // Rows beside something else.
+        (ListForm::Rows(_), true) => return None,
+    };
+    Some(Request::Stations { stations, text })
+}
+
+fn report_request<'a>(
+    alloc: Global,
+    found: &ArgMatches<'a>,
+) -> Result<Option<Request<'a, &'a str, &'a str>>, AllocError>
+    ensures asked { IfOk result (λ request. IfSome request
+        (AsksFor (codes "report") (found_of found.now))) }
+    ensures none { IfOk result (λ request. IfNone request (LacksToReport (found_of found.now))) }
+{
+    let Some(notes) = notes_stated(alloc, found)? else {
+        return Ok(None);
+    };
+    Ok(reporting_request(found, notes))
+}
+
+/// What `report` asks for where these notes are stated.
+fn reporting_request<'a>(
+    found: &ArgMatches<'a>,
+    notes: Notes<'a>,
+) -> Option<Request<'a, &'a str, &'a str>>
+    requires { StatesNotes (found_of found.now) notes }
+    ensures asked { IfSome result (AsksFor (codes "report") (found_of found.now)) }
+    ensures none { IfNone result (LacksToReport (found_of found.now)) }
+{
+    if has_flag(found, ALL) {
+        return report_of_all(found, notes);
+    }
     let Some(station) = result_of(found) else {
         return None;
     };
     let within = within_of(found)?;
     let file = found.get_str(STATED_TABLE);
-    let unit = unit_of(found);
-    match (form_of(found), file, within, unit, digests_of(found)) {
-        (ListForm::Lines, Some(file), within, unit, digests) => Some(Request::Table {
+    let form = table_form_of(found)?;
+    let form_stated = is_stated(form);
+    let listed = form_of(found)?;
+    let digests = digests_of(found);
+    let noted = has_notes(found);
+    match (listed, file, within, form_stated, digests, noted) {
+        (ListForm::Lines, Some(file), within, _, digests, _) => Some(Request::Table {
             beside: TableBeside {
                 station,
                 file,
-                unit,
+                form,
             },
-            text: TableText::Report { within, digests },
+            text: TableText::Report {
+                within,
+                digests,
+                notes,
+            },
         }),
-        (ListForm::Lines, None, None, AngleUnit::Gon, digests) => Some(Request::Station {
+        (ListForm::Lines, None, None, false, digests, _) => Some(Request::Station {
             station,
-            text: StationText::Report { digests },
+            text: StationText::Report { digests, notes },
         }),
-        (ListForm::Rows, None, None, AngleUnit::Gon, Digests::Omitted) => Some(Request::Station {
-            station,
-            text: StationText::ReportRows,
-        }),
-        // A limit or a unit of no table.
-        (ListForm::Lines, None, Some(_), _, _) => None,
-        (ListForm::Lines, None, None, AngleUnit::Degrees, _) => None,
+        (ListForm::Rows(form), None, None, false, Digests::Omitted, false) => {
+            Some(Request::Station {
+                station,
+                text: StationText::ReportRows { form },
+            })
+        }
+        // A limit of no table, or how it is read.
+        (ListForm::Lines, None, Some(_), _, _, _) => None,
+        (ListForm::Lines, None, None, true, _, _) => None,
         // Rows beside something else.
-        (ListForm::Rows, Some(_), _, _, _) => None,
-        (ListForm::Rows, None, Some(_), _, _) => None,
-        (ListForm::Rows, None, None, AngleUnit::Degrees, _) => None,
-        (ListForm::Rows, None, None, AngleUnit::Gon, Digests::Printed) => None,
+        (ListForm::Rows(_), Some(_), _, _, _, _) => None,
+        (ListForm::Rows(_), None, Some(_), _, _, _) => None,
+        (ListForm::Rows(_), None, None, true, _, _) => None,
+        (ListForm::Rows(_), None, None, false, Digests::Printed, _) => None,
+        (ListForm::Rows(_), None, None, false, Digests::Omitted, true) => None,
     }
+}
+
+/// Whether it is not how a table is read of which nothing is stated.
+fn is_stated(form: TableForm) -> bool
+    ensures { IsTrue result ↔ IsStatedForm form }
+{
+    form.unit != AngleUnit::Gon || form.columns.is_some()
 }
 
 fn check_request<'a>(found: &ArgMatches<'a>) -> Option<Request<'a, &'a str, &'a str>>
@@ -243,6 +337,24 @@ fn marking_request<'a>(
     })
 }
 
+fn change_request<'a>(
+    alloc: Global,
+    found: &ArgMatches<'a>,
+) -> Result<Option<Request<'a, &'a str, &'a str>>, AllocError>
+    ensures asked { IfOk result (λ request. IfSome request
+        (AsksFor (codes "change") (found_of found.now))) }
+    ensures none { IfOk result (λ request. IfNone request (LacksToChange (found_of found.now))) }
+{
+    let Some(gsi) = found.get_str(GSI) else {
+        return Ok(None);
+    };
+    let Some(changes) = changes_stated(alloc, found)? else {
+        return Ok(None);
+    };
+    let copy = found.get_str(COPY);
+    Ok(Some(Request::Change { gsi, copy, changes }))
+}
+
 fn list_request<'a>(found: &ArgMatches<'a>) -> Option<Request<'a, &'a str, &'a str>>
     ensures asked { IfSome result (AsksFor (codes "list") (found_of found.now)) }
     ensures none { IfNone result (LacksForList (found_of found.now)) }
@@ -250,7 +362,7 @@ fn list_request<'a>(found: &ArgMatches<'a>) -> Option<Request<'a, &'a str, &'a s
     Some(Request::List {
         gsi: found.get_str(GSI)?,
         limits: limits_of(found)?,
-        form: form_of(found),
+        form: form_of(found)?,
     })
 }
 

@@ -1,6 +1,10 @@
 -- How a request is answered: its files are opened, and its own run is made over them.
 use Rattle.std.specs.Prelude.{◌≡◌, ◌⊎◌, ℕ, true, List, Option, Some, None, option_map, ⊤}
 use Rattle.std.specs.Borrow.{Bor}
+use Rattle.book_answers.specs.Refusals.{named_refusal_text}
+use Rattle.book_answers.specs.Runs.{IsRunOfAll}
+use Rattle.book_answers.specs.declared.arrangement.Arrangement.TheVariants as arrangement
+use Rattle.changed_lines.specs.declared.change.Change.{Change}
 use Rattle.byte_ends.specs.Sink.{WriterChange}
 use Rattle.byte_ends.specs.Writers.{writer_change}
 use Rattle.byte_ends.specs.declared.sink.Sink.{Ghosts}
@@ -11,16 +15,21 @@ use Rattle.command_line.specs.CommandLine.{Asked, IsAskedForBy, IsMistakeIn}
 use Rattle.command_line.specs.declared.request.Digests.{Digests}
 use Rattle.command_line.specs.declared.request.Digests.TheVariants as digests
 use Rattle.command_line.specs.declared.request.FieldStation.{FieldStation}
+use Rattle.command_line.specs.declared.request.FieldStations.{FieldStations}
 use Rattle.command_line.specs.declared.request.ListForm.TheVariants as form
 use Rattle.command_line.specs.declared.request.Request.{Request}
 use Rattle.command_line.specs.declared.request.Request.TheVariants as request
 use Rattle.command_line.specs.declared.request.SheetCheck.{SheetCheck}
 use Rattle.command_line.specs.declared.request.StationText.{StationText}
 use Rattle.command_line.specs.declared.request.StationText.TheVariants as text
+use Rattle.command_line.specs.declared.request.StationsText.{StationsText}
+use Rattle.command_line.specs.declared.request.StationsText.TheVariants as texts
 use Rattle.command_line.specs.declared.request.TableBeside.{TableBeside}
 use Rattle.command_line.specs.declared.request.TableText.{TableText}
 use Rattle.command_line.specs.declared.request.TableText.TheVariants as table_text
 use Rattle.list_rows.specs.Runs.{IsRowsRun}
+use Rattle.report_notes.specs.Notes.{notes_value}
+use Rattle.report_notes.specs.declared.notes.Notes.{Notes}
 use Rattle.report_rows.specs.Stating.{AreReportRows}
 use Rattle.station_answers.specs.Runs.{IsAnswerRun}
 use Rattle.station_answers.specs.Saying.{SaysDirections, SaysReport}
@@ -29,8 +38,11 @@ use Rattle.station_check.specs.RunEndings.{Run, RunWithNotes, WritesOrFails}
 use Rattle.station_check.specs.Runs.{IsCheckRun, IsMeansRun, IsNotedListRun, IsWordsRun}
 use Rattle.station_check.specs.VerdictLines.{refusal_line}
 use Rattle.station_check.specs.declared.fault.Fault.TheVariants.{Memory}
-use Rattle.station_compare.specs.FaultTexts.{refusal_line as compare_refusal_line}
+use Rattle.station_compare.specs.Refusals.{refusal_text}
 use Rattle.station_explain.specs.Table.{Explanation}
+use Rattle.station_change.specs.FaultTexts.{refusal_line as change_refusal_line}
+use Rattle.station_change.specs.Notes.{notes_of}
+use Rattle.station_change.specs.Runs.{IsChangeRun}
 use Rattle.station_mark.specs.FaultTexts.{refusal_text as mark_refusal_text}
 use Rattle.station_mark.specs.Runs.{IsMarkRun, notes_in}
 use Rattle.command_run.specs.Explaining.{IsExplainRun}
@@ -46,11 +58,13 @@ use Rattle.job_statements.specs.declared.beginnings.Beginnings.{Beginnings}
 use Rattle.job_statements.specs.Numbers.{Said, said_in}
 use Rattle.station_record.specs.Recorded.{IsRecordedCheck, IsRecordedCompare, IsRecordedReport}
 use Rattle.station_record.specs.Recorded.{IsRecordedTableReport}
+use Rattle.station_report.specs.NoteTexts.{ReportHead}
 use Rattle.station_record.specs.declared.named.NamedReader.{NamedReader}
 use Rattle.table_answers.specs.Comparisons.{IsCompareRun}
 use Rattle.table_answers.specs.Printing.{PrintsReport, PrintsText}
 use Rattle.table_answers.specs.Runs.{IsTableRun}
 use Rattle.table_answers.specs.Saying.{SaysDifferences, SaysTableReport}
+use Rattle.table_answers.specs.Telling.{RunTold}
 use Rattle.table_report.specs.Stating.{ReportAsked}
 
 -- A sheet was checked against a field file with this exit status, and this is what the run made of
@@ -66,29 +80,51 @@ ChecksSheet files out err asked digests.Printed status =
     Run {A = ⊤} refusal_line (IsRecordedCheck asked.limits asked.residual
     gsi asked.gsi.name.now sheet asked.sheet.name.now) status out err))
 
+-- What stands in the head of a report: the name that the field file has, and these notes.
+abbrev pub head_with : List ℕ → Notes → ReportHead
+head_with name notes = record { path = name; notes = notes_value notes }
+
 -- A text of a station of a field file was printed with this exit status; all else as at a check.
 abbrev pub PrintsStation : {F : Type 0} → Readers F → WriterChange → WriterChange
     → FieldStation (NamedReader F) → StationText → ℕ → Type 0
-PrintsStation files out err its (text.Directions decimals) status =
-    IsTakenIn files its.gsi.reader (λ gsi. Run {A = ⊤} compare_refusal_line
-    (IsAnswerRun (SaysDirections decimals) its.limits gsi its.name.now) status out err)
-PrintsStation files out err its (text.Report digests.Omitted) status =
-    IsTakenIn files its.gsi.reader (λ gsi. Run {A = ⊤} compare_refusal_line
-    (IsAnswerRun (SaysReport its.gsi.name.now its.limits) its.limits gsi its.name.now)
+PrintsStation files out err its (text.Directions decimals form) status =
+    IsTakenIn files its.gsi.reader (λ gsi. Run {A = ⊤} refusal_text
+    (IsAnswerRun (SaysDirections form decimals) its.limits gsi its.name.now) status out err)
+PrintsStation files out err its (text.Report digests.Omitted notes) status =
+    IsTakenIn files its.gsi.reader (λ gsi. Run {A = ⊤} refusal_text
+    (IsAnswerRun (SaysReport (head_with its.gsi.name.now notes) its.limits) its.limits gsi
+    its.name.now) status out err)
+PrintsStation files out err its (text.Report digests.Printed notes) status =
+    IsTakenIn files its.gsi.reader (λ gsi. Run {A = ⊤} refusal_text
+    (IsRecordedReport (head_with its.gsi.name.now notes) its.limits gsi its.name.now)
     status out err)
-PrintsStation files out err its (text.Report digests.Printed) status =
-    IsTakenIn files its.gsi.reader (λ gsi. Run {A = ⊤} compare_refusal_line
-    (IsRecordedReport its.gsi.name.now its.limits gsi its.name.now) status out err)
-PrintsStation files out err its text.ReportRows status =
-    IsTakenIn files its.gsi.reader (λ gsi. Run {A = ⊤} compare_refusal_line
-    (IsAnswerRun AreReportRows its.limits gsi its.name.now) status out err)
+PrintsStation files out err its (text.ReportRows rows) status =
+    IsTakenIn files its.gsi.reader (λ gsi. Run {A = ⊤} refusal_text
+    (IsAnswerRun (AreReportRows rows) its.limits gsi its.name.now) status out err)
 
--- what is asked of a report with a table: its files by the names that they have
-abbrev pub asked_of : {F : Type 0} → TableBeside (NamedReader F) → Option ℕ → ReportAsked
-asked_of its within = record {
-  path = its.station.gsi.name.now;
+-- A text of all stations of a field file was printed with this exit status, as one text of those
+-- that each alone has.
+abbrev pub PrintsStations : {F : Type 0} → Readers F → WriterChange → WriterChange
+    → FieldStations (NamedReader F) → StationsText → ℕ → Type 0
+PrintsStations files out err all (texts.Directions decimals form) status =
+    IsTakenIn files all.gsi.reader (λ gsi. Run {A = ⊤} named_refusal_text
+    (IsRunOfAll (SaysDirections form decimals) all.limits (arrangement.NamedDirections form) gsi)
+    status out err)
+PrintsStations files out err all (texts.Reports notes) status =
+    IsTakenIn files all.gsi.reader (λ gsi. Run {A = ⊤} named_refusal_text
+    (IsRunOfAll (SaysReport (head_with all.gsi.name.now notes) all.limits) all.limits
+    arrangement.Pages gsi) status out err)
+PrintsStations files out err all (texts.ReportRows rows) status =
+    IsTakenIn files all.gsi.reader (λ gsi. Run {A = ⊤} named_refusal_text
+    (IsRunOfAll (AreReportRows rows) all.limits arrangement.Rows gsi) status out err)
+
+-- what is asked of a report with a table: its files by the names that they have, and its notes
+abbrev pub asked_of : {F : Type 0} → TableBeside (NamedReader F) → Option ℕ → Notes
+    → ReportAsked
+asked_of its within notes = record {
+  head = head_with its.station.gsi.name.now notes;
   table_path = its.file.name.now;
-  unit = its.unit;
+  form = its.form;
   within = within;
 }
 
@@ -96,26 +132,26 @@ asked_of its within = record {
 abbrev pub PrintsBeside : {F : Type 0} → Readers F → WriterChange → WriterChange
     → TableBeside (NamedReader F) → TableText → ℕ → Type 0
 PrintsBeside {F} files out err its (table_text.Comparison within digests.Omitted) status =
-    (table' : F) × IsTakenIn files its.station.gsi.reader (λ gsi. Run {A = ⊤} compare_refusal_line
-    (IsCompareRun its.unit its.station.limits within gsi (change_of files its.file.reader table')
+    (table' : F) × IsTakenIn files its.station.gsi.reader (λ gsi. RunTold {A = ⊤}
+    (IsCompareRun its.form its.station.limits within gsi (change_of files its.file.reader table')
     its.station.name.now) status out err)
 PrintsBeside files out err its (table_text.Comparison within digests.Printed) status =
     IsTakenIn files its.station.gsi.reader (λ gsi. IsTakenIn files its.file.reader (λ table.
-    Run {A = ⊤} compare_refusal_line
-    (IsRecordedCompare its.unit its.station.limits within its.station.name.now
+    RunTold {A = ⊤}
+    (IsRecordedCompare its.form its.station.limits within its.station.name.now
     gsi its.station.gsi.name.now table its.file.name.now) status out err))
-PrintsBeside {F} files out err its table_text.Differences status =
-    (table' : F) × IsTakenIn files its.station.gsi.reader (λ gsi. Run {A = ⊤} compare_refusal_line
-    (IsTableRun (SaysDifferences its.unit) PrintsText its.unit its.station.limits gsi
+PrintsBeside {F} files out err its (table_text.Differences rows) status =
+    (table' : F) × IsTakenIn files its.station.gsi.reader (λ gsi. RunTold {A = ⊤}
+    (IsTableRun (SaysDifferences its.form rows) PrintsText its.form its.station.limits gsi
     (change_of files its.file.reader table') its.station.name.now) status out err)
-PrintsBeside {F} files out err its (table_text.Report within digests.Omitted) status =
-    (table' : F) × IsTakenIn files its.station.gsi.reader (λ gsi. Run {A = ⊤} compare_refusal_line
-    (IsTableRun (SaysTableReport (asked_of its within) its.station.limits) PrintsReport its.unit
+PrintsBeside {F} files out err its (table_text.Report within digests.Omitted notes) status =
+    (table' : F) × IsTakenIn files its.station.gsi.reader (λ gsi. RunTold {A = ⊤}
+    (IsTableRun (SaysTableReport (asked_of its within notes) its.station.limits) PrintsReport its.form
     its.station.limits gsi (change_of files its.file.reader table') its.station.name.now)
     status out err)
-PrintsBeside files out err its (table_text.Report within digests.Printed) status =
+PrintsBeside files out err its (table_text.Report within digests.Printed notes) status =
     IsTakenIn files its.station.gsi.reader (λ gsi. IsTakenIn files its.file.reader (λ table.
-    Run {A = ⊤} compare_refusal_line (IsRecordedTableReport (asked_of its within)
+    RunTold {A = ⊤} (IsRecordedTableReport (asked_of its within notes)
     its.station.limits gsi table its.station.name.now) status out err))
 
 -- A copy with codes was made of a field file with this exit status: it went to `out`; or to a new
@@ -128,6 +164,18 @@ MarksFile files new_files out err gsi None beginnings stated status =
 MarksFile {F} {N} files new_files out err gsi (Some copy) beginnings stated status =
     out.is_unasked × (copy' : N) × IsTakenIn files gsi.reader (λ gsi. RunWithNotes notes_in
     mark_refusal_text (IsMarkRun beginnings stated gsi) status
+    (writer_change new_files copy copy') err)
+
+-- A copy with changed lines was made of a field file with this exit status: it went to `out`; or to
+-- a new file, and nothing is asked of `out`.
+abbrev pub ChangesFile : {F N : Type 0} → Readers F → Ghosts N → WriterChange → WriterChange
+    → NamedReader F → Option N → List Change → ℕ → Type 0
+ChangesFile files new_files out err gsi None changes status =
+    IsTakenIn files gsi.reader (λ gsi. RunWithNotes (notes_of changes) change_refusal_line
+    (IsChangeRun changes gsi) status out err)
+ChangesFile {F} {N} files new_files out err gsi (Some copy) changes status =
+    out.is_unasked × (copy' : N) × IsTakenIn files gsi.reader (λ gsi. RunWithNotes
+    (notes_of changes) change_refusal_line (IsChangeRun changes gsi) status
     (writer_change new_files copy copy') err)
 
 -- A request whose files are open was answered with this exit status: by a run of its own kind, over
@@ -143,16 +191,20 @@ IsRun files new_files inputs input faults out err (request.Means gsi station lim
     (IsMeansRun limits gsi station.now) status out err)
 IsRun files new_files inputs input faults out err (request.Station station text) status =
     PrintsStation files out err station text status
+IsRun files new_files inputs input faults out err (request.Stations stations text) status =
+    PrintsStations files out err stations text status
 IsRun files new_files inputs input faults out err (request.Table beside text) status =
     PrintsBeside files out err beside text status
 IsRun files new_files inputs input faults out err (request.Mark gsi copy beginnings stated) status =
     MarksFile files new_files out err gsi copy beginnings (said_in stated) status
+IsRun files new_files inputs input faults out err (request.Change gsi copy changes) status =
+    ChangesFile files new_files out err gsi copy changes.items status
 IsRun files new_files inputs input faults out err (request.List gsi limits form.Lines) status =
     IsTakenIn files gsi.reader (λ gsi. RunWithNotes unchecked_note refusal_line
     (IsNotedListRun limits gsi) status out err)
-IsRun files new_files inputs input faults out err (request.List gsi limits form.Rows) status =
+IsRun files new_files inputs input faults out err (request.List gsi limits (form.Rows rows)) status =
     IsTakenIn files gsi.reader (λ gsi. RunWithNotes unchecked_note refusal_line
-    (IsRowsRun limits gsi) status out err)
+    (IsRowsRun rows limits gsi) status out err)
 IsRun files new_files inputs input faults out err (request.Words gsi) status =
     IsTakenIn files gsi.reader (λ gsi. Run refusal_line (IsWordsRun gsi) status out err)
 IsRun files new_files inputs input faults out err request.WordsOfInput status =
@@ -184,12 +236,18 @@ IsOpenedStation files known asked opened =
     IsUnread files known asked.gsi.now opened.gsi × (opened.name.now ≡ asked.name.now)
     × (opened.limits ≡ asked.limits)
 
+-- The same of all stations.
+abbrev pub IsOpenedStations : {F : Type 0} → Readers F → (List ℕ → Option Told)
+    → FieldStations (Bor (List ℕ)) → FieldStations (NamedReader F) → Type 0
+IsOpenedStations files known asked opened =
+    IsUnread files known asked.gsi.now opened.gsi × (opened.limits ≡ asked.limits)
+
 -- The same of a table and its station.
 abbrev pub IsOpenedBeside : {F : Type 0} → Readers F → (List ℕ → Option Told)
     → TableBeside (Bor (List ℕ)) → TableBeside (NamedReader F) → Type 0
 IsOpenedBeside files known asked opened =
     IsOpenedStation files known asked.station opened.station
-    × IsUnread files known asked.file.now opened.file × (opened.unit ≡ asked.unit)
+    × IsUnread files known asked.file.now opened.file × (opened.form ≡ asked.form)
 
 -- The files of a request were opened, each the one of its path, which is its name, and all else of
 -- it is as it was asked for.
@@ -203,12 +261,19 @@ IsOpened files known new_files new (request.Means gsi station limits)
     × (station'.now ≡ station.now) × (limits' ≡ limits)
 IsOpened files known new_files new (request.Station station text) (request.Station station' text') =
     IsOpenedStation files known station station' × (text' ≡ text)
+IsOpened files known new_files new (request.Stations stations text)
+    (request.Stations stations' text') =
+    IsOpenedStations files known stations stations' × (text' ≡ text)
 IsOpened files known new_files new (request.Table beside text) (request.Table beside' text') =
     IsOpenedBeside files known beside beside' × (text' ≡ text)
 IsOpened files known new_files new (request.Mark gsi copy beginnings stated)
     (request.Mark field_file copy' beginnings' stated') =
     IsUnread files known gsi.now field_file
     × IsNewFile new_files new copy copy' × (beginnings' ≡ beginnings) × (stated' ≡ stated)
+IsOpened files known new_files new (request.Change gsi copy changes)
+    (request.Change field_file copy' changes') =
+    IsUnread files known gsi.now field_file
+    × IsNewFile new_files new copy copy' × (changes' ≡ changes)
 IsOpened files known new_files new (request.List gsi limits form)
     (request.List field_file limits' form') =
     IsUnread files known gsi.now field_file × (limits' ≡ limits) × (form' ≡ form)
@@ -235,9 +300,11 @@ NamesFirst files known (request.Check asked) path =
     IsFirstOfTwo files known asked.gsi.now asked.sheet.now path
 NamesFirst files known (request.Means gsi station limits) path = path ≡ gsi.now
 NamesFirst files known (request.Station station text) path = path ≡ station.gsi.now
+NamesFirst files known (request.Stations stations text) path = path ≡ stations.gsi.now
 NamesFirst files known (request.Table beside text) path =
     IsFirstOfTwo files known beside.station.gsi.now beside.file.now path
 NamesFirst files known (request.Mark gsi copy beginnings stated) path = path ≡ gsi.now
+NamesFirst files known (request.Change gsi copy changes) path = path ≡ gsi.now
 NamesFirst files known (request.List gsi limits form) path = path ≡ gsi.now
 NamesFirst files known (request.Words gsi) path = path ≡ gsi.now
 NamesFirst files known request.WordsOfInput path = ⊥
@@ -246,6 +313,7 @@ NamesFirst files known (request.Explain fault) path = ⊥
 -- The path of the new file that a request asks for.
 abbrev pub new_path : Asked → Option (List ℕ)
 new_path (request.Mark gsi copy beginnings stated) = option_map (λ path. path.now) copy
+new_path (request.Change gsi copy changes) = option_map (λ path. path.now) copy
 new_path asked = None
 
 -- Why a request is refused for a path that it names: the file of the path can't be opened, and each

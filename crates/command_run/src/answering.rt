@@ -3,29 +3,39 @@
 ghost use Rattle.std.specs.Prelude.{◌≡◌, ◌≤◌, IfOk, IfErr, OnErr, option_map, true};
 ghost use Rattle.byte_ends.specs.Writers.{writer_change};
 ghost use Rattle.command_run.specs.Answering.{IsAnswered, IsFirstOfTwo, IsOpened, IsOpenedCheck};
-ghost use Rattle.command_run.specs.Answering.{IsOpenedBeside, IsOpenedStation, IsRun};
-ghost use Rattle.command_run.specs.Answering.{ChecksSheet, IsNewFile, IsPathFault, NamesFirst};
-ghost use Rattle.command_run.specs.Answering.{PrintsBeside, PrintsStation};
+ghost use Rattle.command_run.specs.Answering.{IsOpenedBeside, IsOpenedStation, IsOpenedStations};
+ghost use Rattle.command_run.specs.Answering.{IsRun};
+ghost use Rattle.command_line.specs.declared.request.Request.TheVariants as request;
+ghost use Rattle.command_run.specs.Answering.{ChangesFile, ChecksSheet, IsNewFile, IsPathFault};
+ghost use Rattle.command_run.specs.Answering.{NamesFirst};
+ghost use Rattle.command_run.specs.Answering.{PrintsBeside, PrintsStation, PrintsStations};
 ghost use Rattle.command_run.specs.Answering as spec;
 ghost use Rattle.command_run.specs.Hosts.{IsUnread, known_of, readers};
+ghost use Rattle.station_report.specs.NoteTexts.{head_of};
 
 use crate::explaining::run_explain;
 use crate::host::Host;
 use crate::new_file::NewFile;
 use crate::unopened::{PathFault, Unopened};
+use book_answers::{Arrangement, run_answer_of_all};
 use byte_ends::{Failed, Sink, Source};
+use changed_lines::Change;
 use command_line::{
-    Digests, FieldStation, ListForm, Request, SheetCheck, StationText, TableBeside, TableText,
+    Digests, FieldStation, FieldStations, ListForm, Request, SheetCheck, StationText, StationsText,
+    TableBeside, TableText,
 };
 use list_rows::run_list_rows;
+use report_notes::Notes;
 use station_answers::{Directions, Report, ReportRows, run_answer};
+use station_change::run_change;
 use station_check::{run_check, run_list, run_means, run_words};
 use station_explain::Explanation;
 use station_mark::run_mark;
 use station_record::{
-    NamedReader, run_check_recorded, run_compare_recorded, run_report_recorded,
+    HeadedReader, NamedReader, run_check_recorded, run_compare_recorded, run_report_recorded,
     run_table_report_recorded,
 };
+use station_report::Head;
 use std::alloc::Global;
 use table_answers::{Differences, run_compare, run_table_answer};
 use table_report::Asked;
@@ -75,6 +85,7 @@ fn new_path<'a>(request: &Request<'a, &'a str, &'a str>) -> Option<&'a str>
 {
     match *request {
         Request::Mark { copy, .. } => copy,
+        Request::Change { copy, .. } => copy,
         _ => None,
     }
 }
@@ -107,6 +118,10 @@ fn open_files<'a, H: Host>(
             station: open_station(host, &station)?,
             text,
         },
+        Request::Stations { stations, text } => Request::Stations {
+            stations: open_stations(host, &stations)?,
+            text,
+        },
         Request::Table { beside, text } => Request::Table {
             beside: open_beside(host, &beside)?,
             text,
@@ -122,6 +137,7 @@ fn open_files<'a, H: Host>(
             beginnings,
             stated,
         },
+        Request::Change { gsi, copy, changes } => open_change(host, gsi, copy, changes)?,
         Request::List { gsi, limits, form } => Request::List {
             gsi: open(host, gsi)?,
             limits,
@@ -177,6 +193,22 @@ fn open_station<'a, H: Host>(
     })
 }
 
+/// All stations with their field file open.
+fn open_stations<'a, H: Host>(
+    host: &H,
+    asked: &FieldStations<&'a str>,
+) -> Result<FieldStations<NamedReader<'a, H::File>>, Unopened<'a>>
+    ensures opened { IfOk result (IsOpenedStations (readers H.File.told H.File.failed H.File.gave)
+        (H.known_file host.now) asked.now) }
+    ensures unopened { IfErr result (λ unopened. unopened.path.now ≡ asked.now.gsi.now) }
+    ensures fails { OnErr result (H.may_not_open host.now asked.now.gsi.now ≡ true) }
+{
+    Ok(FieldStations {
+        gsi: open(host, asked.gsi)?,
+        limits: asked.limits,
+    })
+}
+
 /// A table and its station with their files open, the field file first.
 fn open_beside<'a, H: Host>(
     host: &H,
@@ -197,7 +229,28 @@ fn open_beside<'a, H: Host>(
             limits: asked.station.limits,
         },
         file,
-        unit: asked.unit,
+        form: asked.form,
+    })
+}
+
+/// The changes of lines of a field file with it open, and the new file of their copy.
+fn open_change<'a, H: Host>(
+    host: &'a H,
+    gsi: &'a str,
+    copy: Option<&'a str>,
+    changes: Vec<Change>,
+) -> Result<Request<'a, NamedReader<'a, H::File>, NewFile<'a, H, H::New>>, Unopened<'a>>
+    ensures opened { IfOk result
+        (IsOpened (readers H.File.told H.File.failed H.File.gave) (H.known_file host.now)
+        ⟦<NewFile<'a, H, H::New> as Sink>⟧ (H.known_new host.now)
+        (request.Change gsi.entry copy.entry changes)) }
+    ensures unopened { IfErr result (λ unopened. unopened.path.now ≡ gsi.now) }
+    ensures fails { OnErr result (H.may_not_open host.now gsi.now ≡ true) }
+{
+    Ok(Request::Change {
+        gsi: open(host, gsi)?,
+        copy: new_file(host, copy),
+        changes,
     })
 }
 
@@ -270,6 +323,7 @@ fn run_request<'a, H: Host, W: Sink, E: Sink>(
             limits,
         } => run_means(alloc, gsi.reader, station.as_bytes(), limits, out, err),
         Request::Station { station, text } => print_station(alloc, station, text, out, err),
+        Request::Stations { stations, text } => print_stations(alloc, stations, text, out, err),
         Request::Table { beside, text } => print_beside(alloc, beside, text, out, err),
         Request::Mark {
             gsi,
@@ -280,19 +334,37 @@ fn run_request<'a, H: Host, W: Sink, E: Sink>(
             None => run_mark(alloc, gsi.reader, beginnings, stated, out, err),
             Some(mut copy) => run_mark(alloc, gsi.reader, beginnings, stated, &mut copy, err),
         },
-        Request::List {
-            gsi,
-            limits,
-            form: ListForm::Lines,
-        } => run_list(alloc, gsi.reader, limits, out, err),
-        Request::List {
-            gsi,
-            limits,
-            form: ListForm::Rows,
-        } => run_list_rows(alloc, gsi.reader, limits, out, err),
+        Request::Change { gsi, copy, changes } => {
+            change_lines(alloc, gsi, copy, &changes, out, err)
+        }
+        Request::List { gsi, limits, form } => match form {
+            ListForm::Lines => run_list(alloc, gsi.reader, limits, out, err),
+            ListForm::Rows(rows) => run_list_rows(alloc, gsi.reader, limits, rows, out, err),
+        },
         Request::Words { gsi } => run_words(alloc, gsi.reader, out, err),
         Request::WordsOfInput => run_words(alloc, input, out, err),
         Request::Explain { fault } => run_explain(alloc, faults, fault, out, err),
+    }
+}
+
+/// Prints a copy of a field file with changed lines, or writes it to a new file, and answers the
+/// exit status.
+fn change_lines<F: Source, N: Sink + Drop, W: Sink, E: Sink>(
+    alloc: Global,
+    gsi: NamedReader<'_, F>,
+    copy: Option<N>,
+    changes: &[Change],
+    out: &mut W,
+    err: &mut E,
+) -> u8
+    ensures status { result ≤ 1 }
+    ensures run { ChangesFile (readers F.told F.failed F.gave) N.Sink
+        (writer_change W.Sink out.old out.new)
+        (writer_change E.Sink err.old err.new) gsi.entry copy changes.now result }
+{
+    match copy {
+        None => run_change(alloc, gsi.reader, changes, out, err),
+        Some(mut copy) => run_change(alloc, gsi.reader, changes, &mut copy, err),
     }
 }
 
@@ -330,36 +402,88 @@ fn check_sheet<F: Source, W: Sink, E: Sink>(
     }
 }
 
+/// What stands in the head of a report of the file of this path, with these notes.
+fn head_with<'a, 'n>(path: &'a [u8], notes: &'a Notes<'n>) -> Head<'a, 'n>
+    ensures { head_of result ≡ spec.head_with path.now notes.now }
+{
+    let notes = Some(notes);
+    Head { path, notes }
+}
+
 /// Prints a text of a station of a field file, and answers the exit status. The run is recorded
 /// where digests are asked for.
 fn print_station<F: Source, W: Sink, E: Sink>(
     alloc: Global,
     station: FieldStation<'_, NamedReader<'_, F>>,
-    text: StationText,
+    text: StationText<'_>,
     out: &mut W,
     err: &mut E,
 ) -> u8
     ensures status { result ≤ 1 }
     ensures run { PrintsStation (readers F.told F.failed F.gave)
         (writer_change W.Sink out.old out.new)
-        (writer_change E.Sink err.old err.new) station.entry text result }
+        (writer_change E.Sink err.old err.new) station.entry text.entry result }
 {
     let FieldStation { gsi, name, limits } = station;
     let name = name.as_bytes();
     match text {
-        StationText::Directions { decimals } => {
-            let asked = Directions { decimals };
+        StationText::Directions { decimals, form } => {
+            let asked = Directions { decimals, form };
             run_answer(alloc, gsi.reader, name, limits, &asked, out, err)
         }
-        StationText::Report { digests } => match digests {
-            Digests::Omitted => {
-                let asked = Report { path: gsi.name };
-                run_answer(alloc, gsi.reader, name, limits, &asked, out, err)
+        StationText::Report { digests, notes } => {
+            let head = head_with(gsi.name, &notes);
+            match digests {
+                Digests::Omitted => {
+                    let asked = Report { head };
+                    run_answer(alloc, gsi.reader, name, limits, &asked, out, err)
+                }
+                Digests::Printed => {
+                    let gsi = HeadedReader {
+                        head,
+                        reader: gsi.reader,
+                    };
+                    run_report_recorded(alloc, gsi, name, limits, out, err)
+                }
             }
-            Digests::Printed => run_report_recorded(alloc, gsi, name, limits, out, err),
-        },
-        StationText::ReportRows => {
-            run_answer(alloc, gsi.reader, name, limits, &ReportRows, out, err)
+        }
+        StationText::ReportRows { form } => {
+            let asked = ReportRows { form };
+            run_answer(alloc, gsi.reader, name, limits, &asked, out, err)
+        }
+    }
+}
+
+/// Prints a text of all stations of a field file, and answers the exit status.
+fn print_stations<F: Source, W: Sink, E: Sink>(
+    alloc: Global,
+    stations: FieldStations<NamedReader<'_, F>>,
+    text: StationsText<'_>,
+    out: &mut W,
+    err: &mut E,
+) -> u8
+    ensures status { result ≤ 1 }
+    ensures run { PrintsStations (readers F.told F.failed F.gave)
+        (writer_change W.Sink out.old out.new)
+        (writer_change E.Sink err.old err.new) stations.entry text.entry result }
+{
+    let FieldStations { gsi, limits } = stations;
+    match text {
+        StationsText::Directions { decimals, form } => {
+            let asked = Directions { decimals, form };
+            let arrangement = Arrangement::NamedDirections(form);
+            run_answer_of_all(alloc, gsi.reader, limits, &asked, arrangement, out, err)
+        }
+        StationsText::Reports { notes } => {
+            let head = head_with(gsi.name, &notes);
+            let asked = Report { head };
+            let arrangement = Arrangement::Pages;
+            run_answer_of_all(alloc, gsi.reader, limits, &asked, arrangement, out, err)
+        }
+        StationsText::ReportRows { form } => {
+            let asked = ReportRows { form };
+            let arrangement = Arrangement::Rows;
+            run_answer_of_all(alloc, gsi.reader, limits, &asked, arrangement, out, err)
         }
     }
 }
@@ -369,19 +493,19 @@ fn print_station<F: Source, W: Sink, E: Sink>(
 fn print_beside<F: Source, W: Sink, E: Sink>(
     alloc: Global,
     beside: TableBeside<'_, NamedReader<'_, F>>,
-    text: TableText,
+    text: TableText<'_>,
     out: &mut W,
     err: &mut E,
 ) -> u8
     ensures status { result ≤ 1 }
     ensures run { PrintsBeside (readers F.told F.failed F.gave)
         (writer_change W.Sink out.old out.new)
-        (writer_change E.Sink err.old err.new) beside.entry text result }
+        (writer_change E.Sink err.old err.new) beside.entry text.entry result }
 {
     let TableBeside {
         station,
         file: mut table,
-        unit,
+        form,
     } = beside;
     let FieldStation { gsi, name, limits } = station;
     let name = name.as_bytes();
@@ -393,7 +517,7 @@ fn print_beside<F: Source, W: Sink, E: Sink>(
             alloc,
             gsi.reader,
             &mut table.reader,
-            unit,
+            form,
             name,
             limits,
             within,
@@ -403,9 +527,9 @@ fn print_beside<F: Source, W: Sink, E: Sink>(
         TableText::Comparison {
             within,
             digests: Digests::Printed,
-        } => run_compare_recorded(alloc, gsi, table, unit, name, limits, within, out, err),
-        TableText::Differences => {
-            let asked = Differences { unit };
+        } => run_compare_recorded(alloc, gsi, table, form, name, limits, within, out, err),
+        TableText::Differences { form: rows } => {
+            let asked = Differences { form, rows };
             run_table_answer(
                 alloc,
                 gsi.reader,
@@ -417,11 +541,16 @@ fn print_beside<F: Source, W: Sink, E: Sink>(
                 err,
             )
         }
-        TableText::Report { within, digests } => {
+        TableText::Report {
+            within,
+            digests,
+            notes,
+        } => {
+            let head = head_with(gsi.name, &notes);
             let asked = Asked {
-                path: gsi.name,
+                head,
                 table_path: table.name,
-                unit,
+                form,
                 within,
             };
             match digests {

@@ -1,15 +1,15 @@
 -- What each call answers, of the very bytes that it was given. `room` is how many bytes there is
 -- room for, `answered` the status, and `shown` what was handed out.
-use Rattle.std.specs.Prelude.{◌≡◌, ◌≢◌, ◌⊎◌, ◌<◌, ◌≤◌, ◌+◌, ◌*◌, ℕ, Bool, List, [], length, Some}
+use Rattle.std.specs.Prelude.{◌≡◌, ◌≢◌, ◌⊎◌, ◌<◌, ◌≤◌, ◌+◌, ◌*◌, ℕ, Bool, List, [], length, Option, Some}
 use Rattle.std.specs.Prelude.{Result, Ok, Err, IfErr, ⊤}
 use Rattle.std.specs.Borrow.{Bor}
 use Rattle.byte_digests.specs.DigestLines.{digest_line}
 use Rattle.byte_digests.specs.declared.put_line.TheConstants.{MOST_BESIDE_NAME}
-use Rattle.direction_table.specs.declared.unit.AngleUnit.TheVariants.{Gon}
+use Rattle.direction_table.specs.declared.form.TableForm.{TableForm}
 use Rattle.gsi_file.specs.FileAnswers.{file_answers}
 use Rattle.adjust_kernel.specs.declared.accepted.Accepted.{Accepted}
 use Rattle.station_answers.specs.Answers.{TellsOf}
-use Rattle.station_answers.specs.Saying.{SaysDirections, SaysReport, SaysResiduals}
+use Rattle.station_answers.specs.Saying.{SaysDirections, SaysReport, SaysResiduals, SaysWhole}
 use Rattle.station_book.specs.Limits.{FaceLimits}
 use Rattle.station_book.specs.ResultLimits.{of_faces}
 use Rattle.station_book.specs.Stations.{SurveyedStation}
@@ -37,8 +37,15 @@ use Rattle.station_compare.specs.Answers.{Compares}
 use Rattle.station_compare.specs.declared.agreement.Agreement.{Agreement}
 use Rattle.station_compare.specs.declared.fault.CompareFault.{CompareFault}
 use Rattle.station_explain.specs.Table.{Explanation, IsTheTable}
+use Rattle.station_report.specs.NoteTexts.{unnoted}
 use Rattle.table_answers.specs.Answers.{TellsBeside}
+use Rattle.table_answers.specs.Comparisons.{SaysComparison, noted_verdict, verdict}
+use Rattle.table_answers.specs.Noting.{Noting}
+use Rattle.row_forms.specs.declared.form.RowForm.TheVariants.{Commas}
 use Rattle.table_answers.specs.Saying.{SaysDifferences}
+use Rattle.table_answers.specs.Wholes.{IsWhole, WholeValue, verdict_parts}
+use Rattle.table_answers.specs.declared.compared.Compared.{Compared}
+use Rattle.table_report.specs.Stating.{ReportAsked}
 use Rattle.station_mark.specs.FaultTexts.{refusal_line}
 use Rattle.station_mark.specs.declared.fault.PrintFault.TheVariants.{Mark}
 use Rattle.changed_lines.specs.Answers.{IsChanged, IsFault}
@@ -46,12 +53,14 @@ use Rattle.changed_lines.specs.Sayings.{SayChanges}
 use Rattle.changed_lines.specs.declared.change.Change.{Change}
 use Rattle.changed_lines.specs.declared.fault.ChangeFault.{ChangeFault}
 use Rattle.changed_lines.specs.declared.fault.ChangeFault.TheVariants as change
-use Rattle.page_calls.specs.Changes.{change_line, copy_or_refusal}
+use Rattle.page_calls.specs.Changes.{copy_or_refusal}
+use Rattle.station_change.specs.FaultTexts.{change_line}
 use Rattle.page_calls.specs.Explained.{AnswersLine, explanation_or_refusal}
 use Rattle.page_calls.specs.HandedOut.{HandsOut, verdict_line, text_or_refusal, refusal_text}
 use Rattle.page_calls.specs.HandedOut.{comparison_line, table_or_refusal, copy_text}
-use Rattle.page_calls.specs.HandedOut.{notes_or_refusal}
+use Rattle.page_calls.specs.HandedOut.{listed_or_refusal, notes_or_refusal}
 use Rattle.page_calls.specs.Limits.{States, stated_limit}
+use Rattle.page_calls.specs.Listed.{TellsListed}
 use Rattle.page_calls.specs.declared.explain.Unexplained.{Unexplained}
 use Rattle.page_calls.specs.declared.hand_out.TheConstants.{OUT_OF_RANGE}
 
@@ -106,6 +115,16 @@ pub record IsWordsOf (gsi : List ℕ) (refusal_room : ℕ) (refusal : List ℕ) 
   pub hands_text_out : HandsOut (status_of answer) text room status shown
   pub hands_line_out : HandsOut status (refusal_text answer) refusal_room answered refusal
 
+-- The status and the text are those of the list of these bytes as rows, with how many of its
+-- readings went unchecked.
+pub record IsListRowsOf (two_c two_i : ℕ) (gsi : List ℕ) (room answered : ℕ) (shown : List ℕ)
+    : Type 0 where
+  pub limits : FaceLimits
+  pub states : States two_c two_i limits
+  pub answer : Result (List ℕ) Fault
+  pub tells : TellsListed limits (file_answers (source_of gsi)) answer
+  pub hands_out : HandsOut (status_of answer) (listed_or_refusal answer) room answered shown
+
 -- The status and the text are those of what is answered of the station of this name in these bytes,
 -- by the largest limit of residuals.
 pub record IsTextOf (Says : ResultLimits → SurveyedStation → List ℕ → Type 0) (two_c two_i : ℕ)
@@ -120,39 +139,91 @@ pub record IsTextOf (Says : ResultLimits → SurveyedStation → List ℕ → Ty
 -- It is the table of its least-squares directions, with so many decimals.
 abbrev pub IsDirectionsOf : ℕ → ℕ → List ℕ → List ℕ → ℕ → ℕ → ℕ → List ℕ → Type 0
 IsDirectionsOf two_c two_i gsi name decimals =
-    IsTextOf (λ limits. SaysDirections decimals) two_c two_i gsi name
+    IsTextOf (λ limits. SaysDirections Commas decimals) two_c two_i gsi name
 
 -- It is its residuals, observation by observation.
 abbrev pub IsResidualsOf : ℕ → ℕ → List ℕ → List ℕ → ℕ → ℕ → List ℕ → Type 0
 IsResidualsOf two_c two_i gsi name = IsTextOf (λ limits. SaysResiduals) two_c two_i gsi name
 
--- It is its report, which names the field file by these bytes of a path.
+-- It is its report, which names the field file by these bytes of a path, and notes nothing.
 abbrev pub IsReportOf : ℕ → ℕ → List ℕ → List ℕ → List ℕ → ℕ → ℕ → List ℕ → Type 0
-IsReportOf two_c two_i gsi path name = IsTextOf (SaysReport path) two_c two_i gsi name
+IsReportOf two_c two_i gsi path name = IsTextOf (SaysReport (unnoted path)) two_c two_i gsi name
 
--- The status and the line are those of the comparison of these bytes of a table with the station of
--- this name in these bytes of a field file, by the largest limit of residuals, of which the whole
--- promise is kept; with room for the longest line of a verdict it is answered.
-pub record IsComparisonOf (two_c two_i : ℕ) (is_stated : Bool) (within : ℕ)
-    (gsi table name : List ℕ) (room answered : ℕ) (shown : List ℕ) : Type 0 where
+-- It is all of it: its directions with so many decimals, the rows of its report, how accurate it
+-- is, and its report, which names the field file by these bytes of a path.
+abbrev pub IsWholeOf : ℕ → ℕ → List ℕ → List ℕ → List ℕ → ℕ → ℕ → ℕ → List ℕ → Type 0
+IsWholeOf two_c two_i gsi path name decimals =
+    IsTextOf (SaysWhole decimals path) two_c two_i gsi name
+
+-- the note of the table of an answer; a fault before it was compared has none
+abbrev pub note_of : {V : Type 0} → Result (V × List ℕ) CompareFault → List ℕ
+note_of (Ok noted) = noted.1
+note_of (Err fault) = []
+
+-- The status and the line are those of the comparison of these bytes of a table, read in this form,
+-- with the station of this name in these bytes of a field file, by the largest limit of residuals,
+-- of which the whole promise is kept; the note is that of the table, and a refusal before it was
+-- compared has none. With room for the longest line of a verdict and for the note it is answered.
+pub record IsComparisonOf (two_c two_i : ℕ) (form : TableForm) (within : Option ℕ)
+    (gsi table name : List ℕ) (note_room : ℕ) (note : List ℕ) (room answered : ℕ) (shown : List ℕ)
+    : Type 0 where
   pub limits : FaceLimits
   pub states : States two_c two_i limits
-  pub answer : Result Agreement CompareFault
-  pub compares : Compares Gon (of_faces limits) (file_answers (source_of gsi)) (source_of table)
-      name (stated_limit is_stated within) answer
-  pub hands_out : HandsOut (status_of answer) (comparison_line answer) room answered shown
-  pub answers : LONGEST_VERDICT_LINE ≤ room → answered < 2
+  pub answer : Result (Compared × List ℕ) CompareFault
+  pub tells : TellsBeside (Noting (SaysComparison form within (of_faces limits)) form) form
+      (of_faces limits) (file_answers (source_of gsi)) (source_of table) name answer
+  pub compares : Compares form (of_faces limits) (file_answers (source_of gsi)) (source_of table)
+      name within (noted_verdict answer)
+  pub status : ℕ
+  pub hands_line_out : HandsOut (status_of (noted_verdict answer))
+      (comparison_line (noted_verdict answer)) room status shown
+  pub hands_note_out : HandsOut status (note_of answer) note_room answered note
+  pub answers : LONGEST_VERDICT_LINE ≤ room → length (note_of answer) ≤ note_room → answered < 2
 
--- The status and the text are those of the differences of these bytes of a table from the station
--- of this name in these bytes of a field file, target by target, by the largest limit of residuals.
-pub record IsDifferencesOf (two_c two_i : ℕ) (gsi table name : List ℕ) (room answered : ℕ)
-    (shown : List ℕ) : Type 0 where
+-- An answer without the note of its table.
+abbrev pub answer_alone : Result (List ℕ × List ℕ) CompareFault → Result (List ℕ) CompareFault
+answer_alone (Ok noted) = Ok noted.0
+answer_alone (Err fault) = Err fault
+
+-- The status and the text are those of the differences of these bytes of a table, read in this form,
+-- from the station of this name in these bytes of a field file, target by target, by the largest
+-- limit of residuals; the note is that of the table, and a refusal has none.
+pub record IsDifferencesOf (two_c two_i : ℕ) (form : TableForm) (gsi table name : List ℕ)
+    (note_room : ℕ) (note : List ℕ) (room answered : ℕ) (shown : List ℕ) : Type 0 where
   pub limits : FaceLimits
   pub states : States two_c two_i limits
-  pub answer : Result (List ℕ) CompareFault
-  pub tells : TellsBeside (SaysDifferences Gon) Gon (of_faces limits)
+  pub answer : Result (List ℕ × List ℕ) CompareFault
+  pub tells : TellsBeside (Noting (SaysDifferences form Commas) form) form (of_faces limits)
       (file_answers (source_of gsi)) (source_of table) name answer
-  pub hands_out : HandsOut (status_of answer) (table_or_refusal answer) room answered shown
+  pub status : ℕ
+  pub hands_text_out : HandsOut (status_of answer) (table_or_refusal (answer_alone answer)) room
+      status shown
+  pub hands_note_out : HandsOut status (note_of answer) note_room answered note
+
+-- the parts of an answer: of a table that was compared its text; of a refusal its line and its row
+abbrev pub parts_of : Result (WholeValue × List ℕ) CompareFault → List ℕ
+parts_of (Ok noted) = noted.0.text
+parts_of (Err fault) = verdict_parts (Err fault)
+
+-- the verdict of an answer
+abbrev pub whole_verdict : Result (WholeValue × List ℕ) CompareFault → Result Agreement CompareFault
+whole_verdict (Ok noted) = verdict noted.0.compared
+whole_verdict (Err fault) = Err fault
+
+-- The status and the text are those of all that is answered of these bytes of a table beside the
+-- station of this name in these bytes of a field file, as its report is asked for, by the largest
+-- limit of residuals; the note is that of the table, and a refusal before it was compared has none.
+pub record IsTableOf (two_c two_i : ℕ) (asked : ReportAsked) (gsi table name : List ℕ)
+    (note_room : ℕ) (note : List ℕ) (room answered : ℕ) (shown : List ℕ) : Type 0 where
+  pub limits : FaceLimits
+  pub states : States two_c two_i limits
+  pub answer : Result (WholeValue × List ℕ) CompareFault
+  pub tells : TellsBeside (Noting (IsWhole asked (of_faces limits)) asked.form) asked.form
+      (of_faces limits) (file_answers (source_of gsi)) (source_of table) name answer
+  pub status : ℕ
+  pub hands_text_out : HandsOut (status_of (whole_verdict answer)) (parts_of answer) room status
+      shown
+  pub hands_note_out : HandsOut status (note_of answer) note_room answered note
 
 -- The status, the copy and what is told of it, or the text of the refusal, are those of putting
 -- codes into these bytes, by beginnings and by what is stated of the file.

@@ -41,6 +41,11 @@ pub record ShowsInRange (InRange : Type 0) (IsSo : ℕ → ℕ → List ℕ → 
   pub beyond : ¬ InRange → (answered ≡ OUT_OF_RANGE) × (written ≡ 0)
   pub leaves : Leaves old new written
 
+-- A call leaves its room so; where what is stated is out of its range, nothing stands at the front.
+pub record LeavesInRange (InRange : Type 0) (old new : List ℕ) (written : ℕ) : Type 0 where
+  pub beyond : ¬ InRange → written ≡ 0
+  pub leaves : Leaves old new written
+
 -- the line of a verdict
 abbrev pub verdict_line : Result Accepted Fault → List ℕ
 verdict_line (Ok accepted) = accepted_line accepted
@@ -50,6 +55,11 @@ verdict_line (Err fault) = refusal_line fault
 abbrev pub text_or_refusal : {A : Type 0} → List ℕ → Result A Fault → List ℕ
 text_or_refusal text (Ok x) = text
 text_or_refusal text (Err fault) = refusal_line fault
+
+-- the text that is answered of a list as rows; or the line of the refusal in its place
+abbrev pub listed_or_refusal : Result (List ℕ) Fault → List ℕ
+listed_or_refusal (Ok text) = text
+listed_or_refusal (Err fault) = refusal_line fault
 
 -- the line of a refusal, where the answer is one
 abbrev pub refusal_text : {A : Type 0} → Result A Fault → List ℕ

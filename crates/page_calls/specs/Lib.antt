@@ -1,8 +1,11 @@
 -- The public definitions, which public contracts and laws cite, in the order in which a reader
 -- needs them.
 pub mod Limits
+pub mod Forms
+pub mod Asked
 pub mod Statements
 pub mod Changes
+pub mod Listed
 pub mod Answers
 pub mod HandedOut
 pub mod Explained

@@ -1,14 +1,14 @@
 //! The copy of a field file with changed lines, for a page.
 
-ghost use Rattle.std.specs.Prelude.{◌≡◌, ◌≤◌, length};
-ghost use Rattle.adjust_kernel.specs.declared.bounds.TheConstants.{LONGEST_FAULT_NAME};
+ghost use Rattle.std.specs.Prelude.{◌≡◌};
 ghost use Rattle.page_calls.specs.Answers.{IsChangeAnswer};
-ghost use Rattle.page_calls.specs.Changes as spec;
 ghost use Rattle.page_calls.specs.HandedOut.{Shows};
+ghost use Rattle.station_change.specs.FaultTexts as spec;
 
 use crate::hand_out::{OUT_OF_RANGE, hand_out};
 use changed_lines::{ChangeFault, Unsaid, changed_copy, changes_in};
-use station_check::{ACCEPTED, Fault, REFUSED, VerdictLine, add, add_numbered_place, refusal_line};
+use station_change::{PrintFault, refusal_line};
+use station_check::{ACCEPTED, REFUSED, VerdictLine};
 use std::alloc::Global;
 
 /// Hands out a copy of a whole field file in which just the lines that `changes` names are changed;
@@ -46,26 +46,5 @@ pub fn page_change(
 fn change_line(fault: ChangeFault) -> VerdictLine
     ensures { result.items ≡ spec.change_line fault }
 {
-    match fault {
-        ChangeFault::LineOrder(number)
-        | ChangeFault::NoSuchLine(number)
-        | ChangeFault::NameTooLong(number)
-        | ChangeFault::ZeroBefore(number)
-        | ChangeFault::NoPoint(number) => unchanged_line(number, fault.name()),
-        ChangeFault::Memory => refusal_line(Fault::Memory),
-    }
-}
-
-/// The line of a fault of this name, at the block of this number.
-fn unchanged_line(number: u32, name: &str) -> VerdictLine
-    requires { length name.now ≤ LONGEST_FAULT_NAME }
-    ensures { result.items ≡ spec.unchanged_line number name.now }
-{
-    let mut line = VerdictLine::new();
-    add(&mut line, b"refused: ");
-    add_numbered_place(&mut line, b"block ", number);
-    add(&mut line, b"change: ");
-    add(&mut line, name.as_bytes());
-    add(&mut line, b"\n");
-    line
+    refusal_line(PrintFault::Change(fault))
 }

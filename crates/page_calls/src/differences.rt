@@ -1,33 +1,32 @@
 //! The differences of a table of directions from its station, target by target, for a page.
 
-ghost use Rattle.std.specs.Prelude.{MatchResult};
-ghost use Rattle.direction_table.specs.declared.unit.AngleUnit.TheVariants.{Gon};
-ghost use Rattle.gsi_file.specs.FileAnswers.{file_answers};
-ghost use Rattle.station_book.specs.ResultLimits.{of_faces};
-ghost use Rattle.station_check.specs.Came.{source_of};
-ghost use Rattle.table_answers.specs.Answers.{StatesBeside};
-ghost use Rattle.table_answers.specs.Refusing.{HasNoAnswer};
-ghost use Rattle.table_answers.specs.Saying.{SaysDifferences};
+ghost use Rattle.std.specs.Prelude.{length, take};
 ghost use Rattle.page_calls.specs.Answers.{IsDifferencesOf};
-ghost use Rattle.page_calls.specs.HandedOut.{ShowsInRange};
+ghost use Rattle.page_calls.specs.Forms.{IsForm, stated_form};
+ghost use Rattle.page_calls.specs.HandedOut.{LeavesInRange, ShowsInRange};
 ghost use Rattle.page_calls.specs.Limits.{AreFaceLimits};
 
+use crate::beside::answer_beside;
+use crate::form::form_of;
 use crate::hand_out::{OUT_OF_RANGE, hand_out};
-use direction_table::AngleUnit;
-use station_book::{Limits, ResultLimits};
-use station_check::{ACCEPTED, REFUSED, source_of};
-use station_compare::{CompareFault, refusal_line};
+use row_forms::RowForm;
+use station_book::Limits;
+use station_check::{ACCEPTED, REFUSED};
+use station_compare::refusal_line;
 use std::alloc::Global;
-use table_answers::{Differences, table_answer_of};
+use table_answers::Differences;
 
-/// Hands out the differences of a table of directions in gon from the station of this name in a
-/// field file, both whole: a row of titles, and a row for each target, with what the table states,
-/// the least-squares direction, and the difference after the rotation that makes the largest
-/// smallest, exactly rounded; or the line of the refusal.
+/// Hands out the differences of a table of directions from the station of this name in a field
+/// file, both whole: a row of titles, and a row for each target, with what the table states, the
+/// least-squares direction, and the difference after the rotation that makes the largest smallest,
+/// exactly rounded; or the line of the refusal. In `note` the line of the note is handed out, where
+/// the table was read by a pair of its columns.
 ///
-/// The limits of 2c and 2i are in units of 0.00001 gon, at most 1,000,000. Answers 0 for the
-/// differences, however large they are, 1 for a refusal, 2 for a number out of its range, and 3
-/// where `out` has too little room.
+/// The limits of 2c and 2i are in units of 0.00001 gon, at most 1,000,000. `unit` is that of the
+/// table: 0 for gon, 1 for degrees, 2 for degrees with minutes and seconds after the point. `names`
+/// and `directions` state its columns, counted from 1, at most 999,999; where both are 0, none are
+/// stated. Answers 0 for the differences, however large they are, 1 for a refusal, 2 for a number
+/// out of its range, and 3 where `out` or `note` has too little room.
 pub fn page_differences(
     alloc: Global,
     gsi: &[u8],
@@ -35,48 +34,37 @@ pub fn page_differences(
     name: &[u8],
     two_c: u32,
     two_i: u32,
+    unit: u32,
+    names: u32,
+    directions: u32,
     out: &mut [u8],
     written: &mut usize,
+    note: &mut [u8],
+    note_written: &mut usize,
 ) -> u8
-    ensures { ShowsInRange (AreFaceLimits two_c two_i)
-        (IsDifferencesOf two_c two_i gsi.now table.now name.now) out.old out.new written.new
-        result }
+    ensures differences { ShowsInRange (AreFaceLimits two_c two_i × IsForm unit names directions)
+        (IsDifferencesOf two_c two_i (stated_form unit names directions) gsi.now table.now name.now
+        (length note.old) (take note_written.new note.new)) out.old out.new written.new result }
+    ensures note { LeavesInRange (AreFaceLimits two_c two_i × IsForm unit names directions)
+        note.old note.new note_written.new }
 {
     *written = 0;
+    *note_written = 0;
     let Some(limits) = Limits::new(two_c, two_i) else {
         return OUT_OF_RANGE;
     };
-    match differences_of(alloc, gsi, table, name, limits) {
-        Ok(text) => hand_out(ACCEPTED, &text, out, written),
+    let Some(form) = form_of(unit, names, directions) else {
+        return OUT_OF_RANGE;
+    };
+    let asked = Differences {
+        form,
+        rows: RowForm::Commas,
+    };
+    match answer_beside(alloc, gsi, table, name, limits, &asked) {
+        Ok(noted) => {
+            let status = hand_out(ACCEPTED, &noted.answer, out, written);
+            hand_out(status, &noted.note, note, note_written)
+        }
         Err(fault) => hand_out(REFUSED, refusal_line(fault).as_slice(), out, written),
     }
-}
-
-/// The differences of a table from the station of this name, where the bytes of both are at hand.
-fn differences_of(
-    alloc: Global,
-    gsi: &[u8],
-    table: &[u8],
-    name: &[u8],
-    limits: Limits,
-) -> Result<Vec<u8>, CompareFault>
-    ensures { MatchResult result
-        (λ text. StatesBeside (SaysDifferences Gon) (of_faces limits)
-        (file_answers (source_of gsi.now)) (source_of table.now) name.now text.items)
-        (HasNoAnswer Gon (of_faces limits) (file_answers (source_of gsi.now))
-        (source_of table.now) name.now) }
-{
-    let limits = ResultLimits::of_faces(limits);
-    let asked = Differences {
-        unit: AngleUnit::Gon,
-    };
-    let (answer, _gsi) = table_answer_of(
-        alloc,
-        source_of(gsi),
-        &mut source_of(table),
-        name,
-        limits,
-        &asked,
-    );
-    answer
 }

@@ -8,6 +8,7 @@ ghost use Rattle.page_calls.specs.Limits.{AreFaceLimits};
 use crate::hand_out::OUT_OF_RANGE;
 use crate::station::hand_out_station;
 use direction_table::Decimals;
+use row_forms::RowForm;
 use station_answers::Directions;
 use std::alloc::Global;
 
@@ -34,6 +35,9 @@ pub fn page_directions(
     let Some(decimals) = Decimals::new(decimals) else {
         return OUT_OF_RANGE;
     };
-    let asked = Directions { decimals };
+    let asked = Directions {
+        decimals,
+        form: RowForm::Commas,
+    };
     hand_out_station(alloc, gsi, name, two_c, two_i, &asked, out, written)
 }

@@ -4,13 +4,16 @@
 //! |---|---|
 //! | `page_check` | checks a sheet against a field file: the line of the verdict |
 //! | `page_list` | hands out the list of a field file's stations |
+//! | `page_list_rows` | hands out the same as rows, and how many readings went unchecked |
 //! | `page_means` | hands out the sheet of means of a station |
 //! | `page_words` | hands out the words of a field file |
 //! | `page_directions` | hands out the table of a station's least-squares directions |
 //! | `page_residuals` | hands out the residuals of a station, observation by observation |
 //! | `page_report` | hands out the report of a station's sets |
+//! | `page_station` | hands out all of a station, of one reading and one adjustment |
 //! | `page_compare` | compares a table of directions: the line of the answer |
 //! | `page_differences` | hands out the differences of a table, target by target |
+//! | `page_table` | hands out all of a table, of one reading of each file and one adjustment |
 //! | `page_mark` | hands out a copy with codes put in, and what was recognized |
 //! | `page_change` | hands out a copy with lines left out, or their points renamed |
 //! | `page_digest` | hands out the line of a file's SHA-256 digest |
@@ -25,6 +28,7 @@
 //! them, which no contract speaks of.
 #![tactic(auto)]
 
+mod beside;
 mod change;
 mod check;
 mod compare;
@@ -32,16 +36,20 @@ mod differences;
 mod digest;
 mod directions;
 mod explain;
+mod form;
 mod hand_out;
 pub mod laws;
 mod list;
+mod listed_rows;
 mod mark;
 mod means;
 mod report;
 mod residuals;
 mod statement;
 mod station;
+mod table;
 mod text;
+mod whole;
 mod words;
 
 pub use change::page_change;
@@ -51,10 +59,14 @@ pub use differences::page_differences;
 pub use digest::page_digest;
 pub use directions::page_directions;
 pub use explain::page_explain;
+pub use form::{LARGEST_COLUMN, LARGEST_UNIT};
 pub use hand_out::{OUT_OF_RANGE, TOO_LITTLE_ROOM};
 pub use list::page_list;
+pub use listed_rows::page_list_rows;
 pub use mark::page_mark;
 pub use means::page_means;
 pub use report::page_report;
 pub use residuals::page_residuals;
+pub use table::page_table;
+pub use whole::page_station;
 pub use words::page_words;

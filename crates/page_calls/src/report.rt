@@ -6,6 +6,7 @@ ghost use Rattle.page_calls.specs.Limits.{AreFaceLimits};
 
 use crate::station::hand_out_station;
 use station_answers::Report;
+use station_report::Head;
 use std::alloc::Global;
 
 /// Hands out the report of the station of this name, of a whole field file, whose name stands in
@@ -28,14 +29,7 @@ pub fn page_report(
     ensures { ShowsInRange (AreFaceLimits two_c two_i)
         (IsReportOf two_c two_i gsi.now path.now name.now) out.old out.new written.new result }
 {
-    hand_out_station(
-        alloc,
-        gsi,
-        name,
-        two_c,
-        two_i,
-        &Report { path },
-        out,
-        written,
-    )
+    let head = Head { path, notes: None };
+    let asked = Report { head };
+    hand_out_station(alloc, gsi, name, two_c, two_i, &asked, out, written)
 }

@@ -35,6 +35,9 @@ pub(crate) fn hand_out_station<A: StationAnswer>(
     let (answer, _gsi) = answer_of(alloc, source_of(gsi), name, limits, asked);
     match answer {
         Ok(text) => hand_out(ACCEPTED, &text, out, written),
-        Err(fault) => hand_out(REFUSED, refusal_line(fault).as_slice(), out, written),
+        Err(refusal) => {
+            let line = refusal_line(refusal.fault);
+            hand_out(REFUSED, line.as_slice(), out, written)
+        }
     }
 }

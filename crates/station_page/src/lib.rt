@@ -4,17 +4,22 @@
 
 ghost use Rattle.std.specs.Prelude.{length, take};
 ghost use Rattle.direction_table.specs.Texts.{AreDecimals};
-ghost use Rattle.page_calls.specs.Answers.{IsCheckOf, IsListOf, IsMeansOf, IsWordsOf};
-ghost use Rattle.page_calls.specs.Answers.{IsDirectionsOf, IsResidualsOf, IsReportOf};
-ghost use Rattle.page_calls.specs.Answers.{IsComparisonOf, IsDifferencesOf, IsMarkAnswer};
-ghost use Rattle.page_calls.specs.Answers.{IsChangeAnswer, IsDigestOf, IsExplanationOf};
-ghost use Rattle.page_calls.specs.HandedOut.{Leaves, Shows, ShowsInRange};
-ghost use Rattle.page_calls.specs.Limits.{AreFaceLimits, IsResidualLimit, IsWithin};
+ghost use Rattle.page_calls.specs.Answers.{IsCheckOf, IsListOf, IsListRowsOf, IsMeansOf};
+ghost use Rattle.page_calls.specs.Answers.{IsWordsOf};
+ghost use Rattle.page_calls.specs.Answers.{IsDirectionsOf, IsResidualsOf, IsReportOf, IsWholeOf};
+ghost use Rattle.page_calls.specs.Answers.{IsComparisonOf, IsDifferencesOf, IsTableOf};
+ghost use Rattle.page_calls.specs.Answers.{IsMarkAnswer, IsChangeAnswer, IsDigestOf};
+ghost use Rattle.page_calls.specs.Answers.{IsExplanationOf};
+ghost use Rattle.page_calls.specs.Asked.{asked_with};
+ghost use Rattle.page_calls.specs.Forms.{IsForm, stated_form};
+ghost use Rattle.page_calls.specs.HandedOut.{Leaves, LeavesInRange, Shows, ShowsInRange};
+ghost use Rattle.page_calls.specs.Limits.{AreFaceLimits, IsResidualLimit, IsWithin, stated_limit};
 ghost use Rattle.page_calls.specs.Statements.{StatesBeginnings, StatesFile};
 
 use page_calls::{
     page_change, page_check, page_compare, page_differences, page_digest, page_directions,
-    page_explain, page_list, page_mark, page_means, page_report, page_residuals, page_words,
+    page_explain, page_list, page_list_rows, page_mark, page_means, page_report, page_residuals,
+    page_station, page_table, page_words,
 };
 use std::alloc::Global;
 
@@ -54,6 +59,22 @@ pub extern "C" fn station_page_list(
         out.new written.new result }
 {
     page_list(alloc, gsi, two_c, two_i, out, written)
+}
+
+/// [`page_list_rows`], exported.
+#[unsafe(no_mangle)]
+pub extern "C" fn station_page_list_rows(
+    alloc: Global,
+    gsi: &[u8],
+    two_c: u32,
+    two_i: u32,
+    out: &mut [u8],
+    written: &mut usize,
+) -> u8
+    ensures { ShowsInRange (AreFaceLimits two_c two_i) (IsListRowsOf two_c two_i gsi.now) out.old
+        out.new written.new result }
+{
+    page_list_rows(alloc, gsi, two_c, two_i, out, written)
 }
 
 /// [`page_means`], exported.
@@ -144,6 +165,26 @@ pub extern "C" fn station_page_report(
     page_report(alloc, gsi, path, name, two_c, two_i, out, written)
 }
 
+/// [`page_station`], exported.
+#[unsafe(no_mangle)]
+pub extern "C" fn station_page_station(
+    alloc: Global,
+    gsi: &[u8],
+    path: &[u8],
+    name: &[u8],
+    two_c: u32,
+    two_i: u32,
+    decimals: u32,
+    out: &mut [u8],
+    written: &mut usize,
+) -> u8
+    ensures { ShowsInRange (AreFaceLimits two_c two_i × AreDecimals decimals)
+        (IsWholeOf two_c two_i gsi.now path.now name.now decimals) out.old out.new written.new
+        result }
+{
+    page_station(alloc, gsi, path, name, two_c, two_i, decimals, out, written)
+}
+
 /// [`page_compare`], exported.
 #[unsafe(no_mangle)]
 pub extern "C" fn station_page_compare(
@@ -153,17 +194,41 @@ pub extern "C" fn station_page_compare(
     name: &[u8],
     two_c: u32,
     two_i: u32,
+    unit: u32,
+    names: u32,
+    directions: u32,
     is_stated: bool,
     within: u32,
     out: &mut [u8],
     written: &mut usize,
+    note: &mut [u8],
+    note_written: &mut usize,
 ) -> u8
-    ensures { ShowsInRange (AreFaceLimits two_c two_i × IsWithin is_stated within)
-        (IsComparisonOf two_c two_i is_stated within gsi.now table.now name.now) out.old out.new
-        written.new result }
+    ensures line { ShowsInRange
+        (AreFaceLimits two_c two_i × IsForm unit names directions × IsWithin is_stated within)
+        (IsComparisonOf two_c two_i (stated_form unit names directions)
+        (stated_limit is_stated within) gsi.now table.now name.now (length note.old)
+        (take note_written.new note.new)) out.old out.new written.new result }
+    ensures note { LeavesInRange
+        (AreFaceLimits two_c two_i × IsForm unit names directions × IsWithin is_stated within)
+        note.old note.new note_written.new }
 {
     page_compare(
-        alloc, gsi, table, name, two_c, two_i, is_stated, within, out, written,
+        alloc,
+        gsi,
+        table,
+        name,
+        two_c,
+        two_i,
+        unit,
+        names,
+        directions,
+        is_stated,
+        within,
+        out,
+        written,
+        note,
+        note_written,
     )
 }
 
@@ -176,13 +241,87 @@ pub extern "C" fn station_page_differences(
     name: &[u8],
     two_c: u32,
     two_i: u32,
+    unit: u32,
+    names: u32,
+    directions: u32,
     out: &mut [u8],
     written: &mut usize,
+    note: &mut [u8],
+    note_written: &mut usize,
 ) -> u8
-    ensures { ShowsInRange (AreFaceLimits two_c two_i)
-        (IsDifferencesOf two_c two_i gsi.now table.now name.now) out.old out.new written.new result }
+    ensures differences { ShowsInRange (AreFaceLimits two_c two_i × IsForm unit names directions)
+        (IsDifferencesOf two_c two_i (stated_form unit names directions) gsi.now table.now name.now
+        (length note.old) (take note_written.new note.new)) out.old out.new written.new result }
+    ensures note { LeavesInRange (AreFaceLimits two_c two_i × IsForm unit names directions)
+        note.old note.new note_written.new }
 {
-    page_differences(alloc, gsi, table, name, two_c, two_i, out, written)
+    page_differences(
+        alloc,
+        gsi,
+        table,
+        name,
+        two_c,
+        two_i,
+        unit,
+        names,
+        directions,
+        out,
+        written,
+        note,
+        note_written,
+    )
+}
+
+/// [`page_table`], exported.
+#[unsafe(no_mangle)]
+pub extern "C" fn station_page_table(
+    alloc: Global,
+    gsi: &[u8],
+    path: &[u8],
+    table: &[u8],
+    table_path: &[u8],
+    name: &[u8],
+    two_c: u32,
+    two_i: u32,
+    unit: u32,
+    names: u32,
+    directions: u32,
+    is_stated: bool,
+    within: u32,
+    out: &mut [u8],
+    written: &mut usize,
+    note: &mut [u8],
+    note_written: &mut usize,
+) -> u8
+    ensures parts { ShowsInRange
+        (AreFaceLimits two_c two_i × IsForm unit names directions × IsWithin is_stated within)
+        (IsTableOf two_c two_i (asked_with path.now table_path.now
+        (stated_form unit names directions) (stated_limit is_stated within))
+        gsi.now table.now name.now (length note.old) (take note_written.new note.new))
+        out.old out.new written.new result }
+    ensures note { LeavesInRange
+        (AreFaceLimits two_c two_i × IsForm unit names directions × IsWithin is_stated within)
+        note.old note.new note_written.new }
+{
+    page_table(
+        alloc,
+        gsi,
+        path,
+        table,
+        table_path,
+        name,
+        two_c,
+        two_i,
+        unit,
+        names,
+        directions,
+        is_stated,
+        within,
+        out,
+        written,
+        note,
+        note_written,
+    )
 }
 
 /// [`page_mark`], exported.

@@ -13,5 +13,5 @@ loop-subcommand-preserved c =
 
 pub returns-clause-commands : goal.returns-clause-commands
 returns-clause-commands c =
-    let all : c.loop-subcommand.subcommand-index ≡ 10 = omega arith in
+    let all : c.loop-subcommand.subcommand-index ≡ 11 = omega arith in
     c.loop-subcommand.invariant ∙ ap program_with all

@@ -1,6 +1,6 @@
 use Rattle.std.proofs.Common.{◌≡◌, ◌∙◌, ◌++◌, List, ℕ, append_assoc, codes, sym}
 use Rattle.std.proofs.lemmas.Result.{IfOk-weaker}
-use Rattle.command_line.specs.Mistakes.{code_why}
+use Rattle.command_line.specs.Mistakes.{code_why, columns_why, note_why}
 use Rattle.command_line.proofs.mistakes.message_of.Goals as goal
 
 -- Six pieces are one text, however they are grouped.
@@ -39,3 +39,27 @@ returns-in-Code c =
     rw c.in-Code.is
     (IfOk-weaker c.format-in-Code.result _ _ (λ said is. is ∙ sym same)
     c.format-in-Code.ensures.ok)
+
+pub returns-in-Columns : goal.returns-in-Columns
+returns-in-Columns c =
+    let same = regroup_four (codes "invalid value '") c.in-Columns.text.now
+    (codes "' for '--columns <TARGET,DIRECTION>': ") columns_why in
+    rw c.in-Columns.is
+    (IfOk-weaker c.format-in-Columns.result _ _ (λ said is. is ∙ sym same)
+    c.format-in-Columns.ensures.ok)
+
+pub returns-in-Change : goal.returns-in-Change
+returns-in-Change c =
+    let same = regroup (codes "invalid value '") c.in-Change.text.now (codes "' for '--")
+    c.form_of_changes.result.now (codes "': ") c.stated_as_changes.result.now in
+    rw (c.in-Change.is, ← c.form_of_changes.ensures, ← c.stated_as_changes.ensures)
+    (IfOk-weaker c.format-in-Change.result _ _ (λ said is. is ∙ sym same)
+    c.format-in-Change.ensures.ok)
+
+pub returns-in-Note : goal.returns-in-Note
+returns-in-Note c =
+    let same = regroup_four (codes "invalid value '") c.in-Note.text.now
+    (codes "' for '--note <KEY=TEXT>': ") note_why in
+    rw c.in-Note.is
+    (IfOk-weaker c.format-in-Note.result _ _ (λ said is. is ∙ sym same)
+    c.format-in-Note.ensures.ok)

@@ -5,7 +5,7 @@ use Rattle.clap.specs.Words.{Text}
 use Rattle.clap.specs.declared.parser.matches.Found.{Found}
 use Rattle.command_line.specs.CommandLine.{Asked, AsksFor, of_compare, of_differences}
 use Rattle.command_line.specs.CommandLine.{of_directions, of_report, of_check}
-use Rattle.command_line.specs.CommandLine.{of_means, of_mark, of_list, of_words}
+use Rattle.command_line.specs.CommandLine.{of_means, of_mark, of_change, of_list, of_words}
 use Rattle.command_line.proofs.subcommands.request_after.Goals as goal
 
 -- What a subcommand asks for, under the name that it has.
@@ -44,11 +44,15 @@ returns-in-directions-clause-none c =
     where_none _ _ _ (of_directions c.in-directions.is) c.directions_request.ensures.none
 
 pub returns-in-report-clause-asked : goal.returns-in-report-clause-asked
-returns-in-report-clause-asked c = by_name _ _ _ _ c.in-report.is c.report_request.ensures.asked
+returns-in-report-clause-asked c =
+    IfOk-weaker c.report_request.result _ _
+    (λ request asked. by_name _ _ _ request c.in-report.is asked) c.report_request.ensures.asked
 
 pub returns-in-report-clause-none : goal.returns-in-report-clause-none
 returns-in-report-clause-none c =
-    where_none _ _ _ (of_report c.in-report.is) c.report_request.ensures.none
+    IfOk-weaker c.report_request.result _ _
+    (λ request lacks. where_none request _ _ (of_report c.in-report.is) lacks)
+    c.report_request.ensures.none
 
 pub returns-in-check-clause-asked : goal.returns-in-check-clause-asked
 returns-in-check-clause-asked c = by_name _ _ _ _ c.in-check.is c.check_request.ensures.asked
@@ -74,6 +78,17 @@ returns-in-mark-clause-none c =
     IfOk-weaker c.mark_request.result _ _
     (λ request lacks. where_none request _ _ (of_mark c.in-mark.is) lacks)
     c.mark_request.ensures.none
+
+pub returns-in-change-clause-asked : goal.returns-in-change-clause-asked
+returns-in-change-clause-asked c =
+    IfOk-weaker c.change_request.result _ _
+    (λ request asked. by_name _ _ _ request c.in-change.is asked) c.change_request.ensures.asked
+
+pub returns-in-change-clause-none : goal.returns-in-change-clause-none
+returns-in-change-clause-none c =
+    IfOk-weaker c.change_request.result _ _
+    (λ request lacks. where_none request _ _ (of_change c.in-change.is) lacks)
+    c.change_request.ensures.none
 
 pub returns-in-list-clause-asked : goal.returns-in-list-clause-asked
 returns-in-list-clause-asked c = by_name _ _ _ _ c.in-list.is c.list_request.ensures.asked

@@ -1,4 +1,4 @@
-use Rattle.std.proofs.Common.{◌≡◌, ◌∙◌, ◌≤◌, ℕ, List, ◌++◌, ◌*◌, ap, arith, codes, sym, true≢false}
+use Rattle.std.proofs.Common.{◌≡◌, ◌∙◌, ◌≤◌, ◌++◌, ◌*◌, ap, arith, codes, sym, true≢false}
 use Rattle.std.specs.Prelude.{◌/◌}
 use Rattle.limit_texts.specs.Limits.{StatesMgon, is_number}
 use Rattle.limit_texts.proofs.Quotients.{is-quotient, nothing-over, same-number}

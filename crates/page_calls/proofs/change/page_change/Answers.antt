@@ -1,4 +1,4 @@
-use Rattle.std.proofs.Common.{rules, inl, ◌∙◌}
+use Rattle.std.proofs.Common.{inl}
 use Rattle.std.specs.Prelude.{Ok, Err}
 use Rattle.page_calls.proofs.change.page_change.Goals as goal
 

@@ -1,9 +1,0 @@
-use Rattle.std.proofs.Common.{Some, ap}
-use Rattle.table_answers.proofs.Given.{both_as_told}
-use Rattle.page_calls.proofs.differences.differences_of.Goals as goal
-
-pub returns : goal.returns
-returns c =
-    let told = both_as_told _ _ c.table_answer_of-answer.result.0 _ c.table_answer_of-answer.ensures
-    _ _ (ap Some c.source_of.ensures) (ap Some c.source_of-2.ensures) in
-    rw c.of_faces-limits.ensures at told
