@@ -47,6 +47,10 @@ RT = os.environ.get("RT", "rt")
 # Half units of a full circle, and units of 0.001 mgon in one.
 TURN, HALF_UNIT = 80_000_000, 5
 
+# What runs the scripts. In one thread, since a node that ends while another thread of it still compiles
+# the module now and then waits for that for ever.
+NODE = ["node", "--no-warnings", "--single-threaded"]
+
 # The smallest module whose memory has addresses of 64 bits.
 PROBE = "new WebAssembly.Module(new Uint8Array([0,97,115,109,1,0,0,0,5,3,1,4,1]))"
 FLAGS = [[], ["--experimental-wasm-memory64"]]
@@ -157,7 +161,7 @@ def is_lowered():
 
 def node_of_64_bits():
     """The command of a node that takes a module with 64-bit memory; none where there is none."""
-    commands = [["node", "--no-warnings", *flags] for flags in FLAGS]
+    commands = [[*NODE, *flags] for flags in FLAGS]
     ran = (subprocess.run([*words, "-e", PROBE], capture_output=True) for words in commands)
     return next((words for words, one in zip(commands, ran) if one.returncode == 0), None)
 
@@ -166,7 +170,7 @@ def node():
     """The command of a node that takes the page's module; none where there is none."""
     if not shutil.which("node"):
         return None
-    return ["node", "--no-warnings"] if is_lowered() else node_of_64_bits()
+    return NODE if is_lowered() else node_of_64_bits()
 
 
 # What the program alone can be told: flags, and the beginnings of options with a text.
