@@ -56,27 +56,14 @@ LAW = re.compile(r"^pub fn (\w+)\(\)$|ensures \w+ \{ (\w+) ≡ (?:pos )?([\d_]+)
 INTRODUCTION = """\
 # Definitions
 
-What the contracts speak of: which files a verifier reads, in which order. `tools/definitions.py` makes this page. Each file begins with what it is about, and each definition has a comment, in which *GSI manual* means Leica's description of the format, *textbook* the usual least-squares station adjustment, *profile* that this project decides.
+Which files a verifier reads, in which order (`tools/definitions.py` makes this page). Each definition has a comment, in which *GSI manual* means Leica's description of the format, *textbook* the usual least-squares station adjustment, *profile* that this project decides.
 
-1. [What an answer says](TRUST.md), in words.
-2. Of an acceptance [the promise](PROMISE.md), in one sitting: its main sentences of the bytes alone, with all their definitions.
-3. The promise as the contract has it, which is one page: of an acceptance [`Accepted`](../crates/station_check/specs/Accepted.antt), of an agreement [`Agreeing`](../crates/station_compare/specs/Agreeing.antt); and what it cites, in the lists below, where each file rests on those before it alone. They are not the program written again, but a relation on a whole line, a sum over rows, 'there is no division into two parts'; where one does go line by line, a law says the same in another way.
-4. [`check_bytes`](../crates/station_check/src/check.rt), whose contract it is, and [of which bytes](#of-which-bytes-it-is-said) it is said.
-5. [The lines that no contract reaches](TRUST.md#where-the-program-meets-the-system).
+1. [What an answer says](TRUST.md), in words; of an acceptance [the promise](PROMISE.md) of the bytes alone, in one sitting.
+2. The promise as the contract has it: of an acceptance [`Accepted`](../crates/station_check/specs/Accepted.antt), of an agreement [`Agreeing`](../crates/station_compare/specs/Agreeing.antt); and what it cites, in the lists below, where each file rests on those before it alone. They are not the program written again, but relations on lines and sums over rows; where one does go line by line, a law says the same in another way.
+3. [`check_bytes`](../crates/station_check/src/check.rt), whose contract it is, and [of which bytes](#of-which-bytes-it-is-said) it is said.
+4. [The lines that no contract reaches](TRUST.md#where-the-program-meets-the-system).
 
-Whoever believes these definitions, and what [the first page](../README.md#what-is-trusted) says is trusted, may believe an answer: that the program keeps the promise is proved.
-"""
-
-EVERY_READER = """\
-## Every reader, files included
-
-A source may *tell* contracts which bytes it still gives, and whether it then fails. A slice does; a file or a terminal tells nothing beforehand. What is promised is said of each alike, and of the very bytes that it gave:
-
-- Every source has *histories*, which bytes it may have given since it was made; each read adds to all of them what it gave. `HasGiven` says of a reader that by some reads these were the bytes: whatever it may give now, it might then have given these bytes and after them that.
-- The contract of `check_bytes` names bytes that its readers have given so, and keeps the promise of these and of whatever may be left in the readers. Where it accepts, both have ended, so the bytes are all.
-- `check_bytes` is one function for every source, and can't tell which histories a source keeps. So what is proved of a reader that keeps each byte holds of a file, of which the standard library's contract says nothing: an acceptance is of exactly the bytes that `Keeping` kept ([`check_kept`](../crates/station_check/src/kept.rt)). Of functions over the type of a file [a test](TRUST.md#of-which-bytes-it-is-said) has to see.
-- `check_bytes` drops the field file's reader, and speaks of a state before that (`UntilDropped`), which leaves open a read of which no answer tells; `check_sources` gives it back, and says it of the very state.
-- `Digesting` of [`byte_digests`](../crates/byte_digests/README.md) is a source over a source: its first history is what a digest stands for.
+Whoever believes these, and what [is trusted](../README.md#what-is-trusted), may believe an answer. On other definitions nothing here rests.
 """
 
 
@@ -233,30 +220,26 @@ def belief_of_code(specs: list[Spec]) -> Iterator[str]:
     laws: dict[tuple[str, str], list[str]] = {}
     for constant in constants:
         law, digits = constant.law()
-        laws.setdefault((constant.crate, law), []).append(f"`{constant.name}` {digits}")
+        laws.setdefault((constant.crate, law), []).append(f"{constant.name} {digits}")
     for (crate, law), numbers in laws.items():
-        yield f"- [`{law}` of `{crate}`](../crates/{crate}/src/laws.rt): {'; '.join(numbers)}."
-    listed_types = "; ".join(
-        f"{listed([f'`{name}`' for name in names])} of `{crate}`" for crate, names in types.items()
+        yield f"- of `{crate}`, [{law}](../crates/{crate}/src/laws.rt): {'; '.join(numbers)}."
+    listed_types = "; ".join(f"of `{crate}` {', '.join(names)}" for crate, names in types.items())
+    yield (
+        f"\nThey speak of values of these types of the code: {listed_types}.\n"
     )
     yield (
-        "\nThey speak of values of these types of the code, each a few named fields or cases with a "
-        f"comment: {listed_types}.\n"
-    )
-    yield (
-        "What the rows of a CSV file are, is said by `records`, `strip_bom` and `default_config` of the "
-        "library `csv`, which is trusted with the toolchain; [the formats](FORMATS.md#a-sheet) have its rules "
-        "in words.\n"
+        "What the rows of a CSV file are, `records`, `strip_bom` and `default_config` of the library `csv` "
+        "say, which is trusted with the toolchain; [in words](FORMATS.md#a-sheet).\n"
     )
 
 
 def belief_of_contract(specs: list[Spec]) -> Iterator[str]:
     yield "### Of which bytes it is said\n"
     yield (
-        f"The contract of `check_bytes`, by which a caller has that page, is {Spec(*CONTRACT[-1]).link}. "
-        "An acceptance rests on its fields `gsi_reads` and `sheet_reads`, which say that the readers gave "
-        "the bytes `gsi_bytes` and `sheet_bytes`, and on `promise`, `gsi_reader` and `sheet_reader`; "
-        f"and so on what these {len(specs)} files say of an acceptance besides:\n"
+        f"The contract of `check_bytes` is {Spec(*CONTRACT[-1]).link}. An acceptance rests on its fields "
+        "`gsi_reads` and `sheet_reads`, which say that the readers gave the bytes `gsi_bytes` and "
+        "`sheet_bytes`, on `promise`, `gsi_reader` and `sheet_reader`, and so on what these "
+        f"{len(specs)} files say of an acceptance:\n"
     )
     yield from [*(spec.about() for spec in specs), ""]
 
@@ -277,21 +260,16 @@ def belief_of_printed(known: list[Spec]) -> Iterator[str]:
     """What has to be believed of what is printed, a line for each command."""
     yield "## What you have to believe of what is printed\n"
     yield (
-        "What a command prints means what its file says, with what that cites: files above, and others of "
-        "so many lines.\n"
+        "What a command prints means what its file says, with what that cites: files above, and so many "
+        "lines of others.\n"
     )
     known = list(known)
     for what, root in PRINTED.items():
         promise = Spec(*root)
         more = [spec for spec in closure(promise) if spec not in known]
-        lines = sum(spec.lines() for spec in more)
-        yield f"- of {what}: {promise.link}, {lines:,} lines in {counted(len(more), 'file')}."
+        yield f"- of {what}: {promise.link}, {sum(spec.lines() for spec in more):,}."
         known += more
     yield ""
-
-
-def counted(number: int, what: str) -> str:
-    return f"{number} {what}{'s' * (number != 1)}"
 
 
 def listed(words: list[str]) -> str:
@@ -302,14 +280,9 @@ def listed(words: list[str]) -> str:
 def by_name(specs: list[Spec]) -> Iterator[str]:
     """A row for each crate, the lowest first, with its files: so each stands after those that it cites."""
     for crate in crates():
-        if modules := [f"`{spec.module}`" for spec in specs if spec.crate == crate]:
-            yield f"- of [`{crate}`](../crates/{crate}/specs): {', '.join(modules)}."
+        if modules := [spec.module for spec in specs if spec.crate == crate]:
+            yield f"- [`{crate}`](../crates/{crate}/specs): {', '.join(modules)}."
     yield ""
-
-
-OTHERS = """\
-On other definitions nothing above rests. `specs/Lib.antt` of each crate lists its files in the order in which a reader needs them, the public ones first.
-"""
 
 
 def page() -> str:
@@ -323,7 +296,7 @@ def page() -> str:
         *belief_beside("an agreement", "That a table of directions agrees", agreement, known),
         *belief_of_printed([*known, *agreement]),
     ]
-    return "\n".join([INTRODUCTION, *believed, EVERY_READER, OTHERS])
+    return "\n".join([INTRODUCTION, *believed])
 
 
 if __name__ == "__main__":

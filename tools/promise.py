@@ -31,8 +31,7 @@ SECTIONS = {
 # What the words of the standard library mean that these definitions use.
 LIBRARY = {
     "ℕ suc ℤ pos negsuc": "numbers from 0 on; the next; whole numbers; as one of these; -1 less that",
-    "neg_ℤ unsigned_abs": "minus; the size",
-    "◌+ℤ◌ ◌-ℤ◌ ◌*ℤ◌ ◌≤ℤ◌": "signs of whole numbers",
+    "neg_ℤ unsigned_abs ◌+ℤ◌ ◌-ℤ◌ ◌*ℤ◌ ◌≤ℤ◌": "of whole numbers: minus; the size; their signs",
     "◌-◌ ◌/◌ ◌%◌": "of numbers from 0 on: 0 where the difference is below 0; the quotient and what is left",
     "◌≡◌ ◌≢◌ ¬ ⊥": "the same; not the same; not; what never holds",
     "◌×◌ ◌⊎◌ ◌↔◌": "both; one or the other; each where the other",
@@ -51,18 +50,18 @@ LIBRARY = {
 INTRODUCTION = """\
 # The promise in one sitting
 
-What an acceptance by `check` means, of the bytes of a field file and of a sheet alone: all {count} definitions of it, {lines} lines with their comments, as they stand in `specs/` but for what is the prover's alone, each after those that it needs; [the promise](#the-promise) is the last. `tools/promise.py` makes the page. It is proved that [whatever is accepted is promised so, and that the promise of these bytes speaks of one sheet, one station and one answer](../crates/sheet_promise/src/laws.rt); and [of the bytes that are passed, or that readers gave, of files too](../crates/sheet_promise/src/promised.rt). So whoever believes this page, and what [the first page](../README.md#what-is-trusted) says is trusted, may believe an acceptance. [The definitions](DEFINITIONS.md) have what more it says, as that no fault stands anywhere in the file, and what other answers say: a refusal names the first fault that stands.
+What an acceptance by `check` means, of the bytes of a field file and of a sheet alone: all {count} definitions of it, {lines} lines with their comments, as they stand in `specs/` but for what is the prover's alone, each after those that it needs; [the promise](#the-promise) is the last. `tools/promise.py` makes the page. [Whatever is accepted is promised so, and the promise of these bytes speaks of one sheet, one station and one answer](../crates/sheet_promise/src/laws.rt): that is proved, [of the bytes that are passed, or that readers gave, of files too](../crates/sheet_promise/src/promised.rt). So whoever believes this page, and what [is trusted](../README.md#what-is-trusted), may believe an acceptance. [The definitions](DEFINITIONS.md) have what more it says, as that no fault stands anywhere in the file.
 
 ## How to read it
 
-A *record* holds where each of its fields holds; of numbers and lists it is a value. `f x = ..` says what `f` is of `x`, line by line for each form of `x`. `(x : A) → B` is said of each `x`, `A → B` where A holds; `λ x. ..` is a function; what gives a `Type 0` says something that may hold.
+A *record* holds where each of its fields holds; of numbers and lists it is a value. `f x = ..` says what `f` is of `x`, a line for each form of `x`. `(x : A) → B` is said of each `x`, `A → B` where A holds; `λ x. ..` is a function; what gives a `Type 0` says something that may hold. `---- gsi_word Bytes` stands before what is of [`crates/gsi_word/specs/Bytes.antt`](../crates/gsi_word/specs/Bytes.antt), with where it is taken from in brackets. Angles and the limits of face differences are in units of 0.00001 gon, two-face directions in half units.
 
 | Word | Means |
 |---|---|
 """
 
 VALUES = """
-The numbers, each pinned by [a law](DEFINITIONS.md#numbers-types-and-csv): {constants}. The rows of a CSV file are what `records`, `strip_bom` and `default_config` of the library `csv` say; [the formats](FORMATS.md#a-sheet) have that in words. Values of the code:
+The numbers, each pinned by [a law](DEFINITIONS.md#numbers-types-and-csv): {constants}. The rows of a CSV file are what `records`, `strip_bom` and `default_config` of the library `csv` say, [in words](FORMATS.md#a-sheet). Values of the code:
 
 {types}
 """
@@ -75,6 +74,7 @@ RENAMED = re.compile(r"^use Rattle\.(\w+)\.specs\.(declared\.[\w.]+)\.(\w+) as (
 HIDDEN = re.compile(r"^(?:abbrev |unfoldable )?pub |(?<=^  )pub | : Type 0(?= where$)", re.MULTILINE)
 FIELD = re.compile(r"(?<=[\w)])\.\w+")
 TYPE = r"((?:^///[^\n]*\n)+)(?:^#\[[^\n]*\n)*^pub(?:\(crate\))? (?:struct|enum) {} \{{\n(.*?)^\}}$"
+SOURCE = re.compile(r"GSI manual|textbook|profile")
 PART = re.compile(r"^ +/// (.*)\.\n +(?:pub )?(\w+)", re.MULTILINE)
 
 
@@ -180,7 +180,13 @@ def types(needed: set[Cited]) -> Iterator[str]:
 
 def words_of(row: str) -> str:
     """The words of a row of the table; a bar would end its cell."""
-    return ", ".join(f"`{word}`" for word in row.replace("|", "\\|").split())
+    return "`" + row.replace("|", "\\|") + "`"
+
+
+def source_of(spec: Spec) -> str:
+    """Where a file takes what it says from, as its head has that in brackets."""
+    found = [words for words in re.findall(r"\(([^()]*)\)", spec.head()) if SOURCE.search(words)]
+    return f" ({'; '.join(found)})" * bool(found)
 
 
 def page() -> str:
@@ -192,11 +198,11 @@ def page() -> str:
     parts += [f"| {words_of(words)} | {meaning} |\n" for words, meaning in LIBRARY.items()]
     parts.append(VALUES.format(constants=definitions.listed(constants(needed)), types="\n".join(types(needed))))
     for title, ones in sections:
-        parts.append(f"\n## {title}\n")
+        shown = []
         for spec in dict.fromkeys(Spec(one.crate, one.module) for one in ones):
-            own = [text_of(one) for one in ones if Spec(one.crate, one.module) == spec]
-            about = f"{spec.link}: {definitions.sentence(spec.head())}"
-            parts.append("\n".join(["", about, "", "```", "\n\n".join(own), "```", ""]))
+            shown.append(f"---- {spec.crate} {spec.module}{source_of(spec)}")
+            shown += [text_of(one) for one in ones if Spec(one.crate, one.module) == spec]
+        parts.append("\n".join(["", f"## {title}", "", "```", "\n\n".join(shown), "```", ""]))
     return "".join(parts)
 
 
