@@ -37,6 +37,9 @@ WIDER = b"Field file ", b"Table "
 # The zenith angles of a made reading, in both faces and as their mean.
 ZENITHS = b",100.000000,300.000000,100.000000"
 
+# Where targets are that are read again and again.
+DIRECTIONS = {"A": 0, "B": 5_000_000, "C": 12_345_678}
+
 # What a report has of the table of P7 whose P8 is off.
 FROM_THE_MEDIAN = b"""\
   TOWER                     0.000000        -0.502             -0.002
@@ -131,7 +134,7 @@ class ReportTest(ProgramTest):
             with self.subTest(sets=sets):
                 self.assertTrue(printed.endswith(end))
                 self.assertNotIn(b"esidual", printed.partition(b"mgon\n\n")[2])
-                self.assertNotIn(b"deviation", printed)
+                self.assertNotIn(b"\nStandard deviation", printed)
 
     def test_readings_across_0(self):
         """Face I is read before 0 and face II after the half circle, and the other way round."""
@@ -275,7 +278,7 @@ class ReportTest(ProgramTest):
         _, sets, *_ = largest()
         printed = self.report_of(field_file(sets))
         self.assertEqual(6, len(lines_of(printed, b"  Target      Set")))
-        self.assertEqual(700, len(lines_of(printed, *(b"  %d " % t for t in range(1, 101)))))
+        self.assertEqual(800, len(lines_of(printed, *(b"  %d " % t for t in range(1, 101)))))
         self.assertIn(b"Degrees of freedom    3861\n", printed)
         end = (
             b"Sum of squares [vv]   0.000000 mgon^2\n"
@@ -290,6 +293,19 @@ class GeneratedTest(AgainstModel):
         for place in range(STATIONS):
             file = station_to_adjust(Random(f"{SEED} report {place}"))
             self.compare([Case(f"{place}", command, file) for command in ["report", "report --csv"]])
+
+    def test_zenith_angles_beside_the_model(self):
+        """Of targets in one set and in up to forty, near each other and as far apart as they may be."""
+        for place in range(STATIONS):
+            random, sets = Random(f"{SEED} zenith angles {place}"), {}
+            spread = random.choice([1, 3, 1_000, 19_999_990])
+            for number in range(1, random.choice([1, 2, 3, 7, 40]) + 1):
+                sets[number] = readings = []
+                for name, direction in list(DIRECTIONS.items())[: random.randint(1, 3)]:
+                    zenith = random.randrange(5, 5 + spread)
+                    zeniths = zenith, model.CIRCLE - zenith + random.randint(-4, 4)
+                    readings.append((name, direction, direction + model.HALF_CIRCLE, *zeniths))
+            self.compare([Case(f"{place}", "report", field_file(sets))])
 
     def test_generated_tables_beside_the_model(self):
         for place in range(STATIONS):

@@ -1730,7 +1730,7 @@ class PageInBrowserTest(TimedTest):
         """Each row, set by set, the greatest 2c and 2i marked; in the window they are folded."""
         page = self.page(P7_FIELD, P7_SHEET)
         report = page.saved("Save report (TXT)", "P7_report.txt").decode()
-        rows = report.partition(" 2c        2i\n")[2].partition("\nAdjusted")[0].splitlines()
+        rows = report.partition(" 2c        2i\n")[2].partition("\nZenith")[0].splitlines()
         expected = [row.split() for row in rows if row[:5].strip().isdigit()]
         self.assertEqual(22, len(expected))
         page.js("onbeforeprint()")

@@ -90,6 +90,23 @@ Readings in gon, mean of both faces counted from the first row of the set,
   Half of the mean: collimation and index error                 0.03      0.00
   Spread: the greatest less the least                           0.06      0.02
 
+Zenith angles in gon, mean of both faces
+
+  Set  Target               Face I    Face II         Mean
+
+    1  A                 100.00000  299.99998   100.000010
+    1  B                 100.00000  300.00000   100.000000
+
+    2  A                 100.00000  300.00000   100.000000
+    2  B                 100.00000  300.00000   100.000000
+
+Mean of the sets of each target in gon, standard deviation of the mean in mgon
+
+  Target            Sets         Mean  Standard deviation
+
+  A                    2   100.000005               0.005
+  B                    2   100.000000               0.000
+
 Adjusted directions in gon, by least squares, counted from the first target
 
   Target              Direction

@@ -193,7 +193,7 @@ not_less from to apart p a b s less high low =
     let more : p * to a ≤ p * from b = mul-le-mul_left p (apart a b less) in
     omega (arith, ints, high, low, more)
 
-one_number : (from to : ℕ → ℕ) → ((a b : ℕ) → a < b → to a ≤ from b) → (p a b : ℕ) (s : ℤ)
+pub one_number : (from to : ℕ → ℕ) → ((a b : ℕ) → a < b → to a ≤ from b) → (p a b : ℕ) (s : ℤ)
     → s <ℤ pos (p * to a) → pos (p * from a) ≤ℤ s → s <ℤ pos (p * to b) → pos (p * from b) ≤ℤ s
     → a ≡ b
 one_number from to apart p a b s a_high a_low b_high b_low = by (dec_le a b)
@@ -207,7 +207,7 @@ one_number from to apart p a b s a_high a_low b_high b_low = by (dec_le a b)
     by (yes h) = again (dec_le b a) h
     by (no m) = absurd (not_less from to apart p b a s (omega (arith, m)) b_high a_low)
 
-squares_apart : (a b : ℕ) → a < b → square_above a ≤ square_below b
+pub squares_apart : (a b : ℕ) → a < b → square_above a ≤ square_below b
 squares_apart a b less =
     let k : 2 * a + 1 ≤ 2 * b - 1 = omega (arith, less) in mul-le-mul k k
 

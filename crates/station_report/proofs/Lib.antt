@@ -4,5 +4,6 @@ pub mod TogetherLaws
 pub mod PlaceLaws
 pub mod FaceLaws
 pub mod FrontLaws
+pub mod ZenithLaws
 pub mod ComputedLaws
 pub mod NoteLaws

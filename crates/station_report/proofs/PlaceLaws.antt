@@ -2,7 +2,7 @@
 use Rattle.std.proofs.Common.{◌≡◌, ℕ, suc, ◌+◌, List, ◌++◌, append_assoc, ap, arith, sym, ◌∙◌}
 use Rattle.station_report.specs.Columns.{each_place}
 
-each_place-more : (n : ℕ) (text : ℕ → List ℕ)
+pub each_place-more : (n : ℕ) (text : ℕ → List ℕ)
     → each_place (n + 1) text ≡ each_place n text ++ text n
 each_place-more n text =
     let e : n + 1 ≡ suc n = omega arith in ap (λ k. each_place k text) e

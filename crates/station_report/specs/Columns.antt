@@ -13,7 +13,7 @@ left_text width text = text ++ replicate (width - length text) blank
 abbrev pub right_text : ℕ → List ℕ → List ℕ
 right_text width text = replicate (width - length text) blank ++ text
 
--- the texts of the places from 0 to below a count, one after the other
+-- the lists of the places from 0 to below a count, as the texts of lines, one after the other
 abbrev pub each_place : ℕ → (ℕ → List ℕ) → List ℕ
 each_place zero text = []
 each_place (suc n) text = each_place n text ++ text n

@@ -4,6 +4,7 @@ pub mod Readings
 pub mod FaceMeans
 pub mod Deviations
 pub mod Columns
+pub mod Zeniths
 pub mod GapTexts
 pub mod NoteTexts
 pub mod ReportTexts
@@ -12,5 +13,6 @@ pub mod Stating
 pub mod Factors
 pub mod Fronts
 pub mod Together
+pub mod ZenithSums
 pub mod Small
 pub mod Computing

@@ -18,8 +18,10 @@ use Rattle.station_report.specs.FaceMeans.{half_mean_below, mean_below, spread_b
 use Rattle.station_report.specs.GapTexts.{gaps_at, gaps_of}
 use Rattle.station_report.specs.NoteTexts.{ReportHead, notes_text, signature_text}
 use Rattle.station_report.specs.Readings.{name_of, number_of, place_of, reading_one, reading_two}
-use Rattle.station_report.specs.Readings.{reduced}
+use Rattle.station_report.specs.Readings.{reduced, zenith_at, zenith_one, zenith_two}
 use Rattle.station_report.specs.Readings.{set_at, target_at, two_c_at, two_i_at, value_at}
+use Rattle.station_report.specs.Zeniths.{mean_of_zeniths, zenith_deviation, zenith_mean_at}
+use Rattle.station_report.specs.Zeniths.{zeniths_of}
 use Rattle.station_report.specs.declared.accuracy.Accuracy.{Accuracy}
 use Rattle.station_results.specs.Greatest.{residual_at}
 use Rattle.station_results.specs.declared.adjusted.AdjustedObs.{AdjustedObs}
@@ -144,6 +146,63 @@ readings_text its =
     ++ (codes "  Set  Target               Face I    Face II         Mean        2c        2i\n"
     ++ (each_place (length its.station.sets) (set_text its) ++ foot_text its)))
 
+-- the zenith angles that were read in face I and in face II, and their mean
+abbrev pub zeniths_text : SurveyedStation → ℕ → List ℕ
+zeniths_text its place =
+    right_text 11 (read_text (zenith_one (zenith_at its place)))
+    ++ (right_text 11 (read_text (zenith_two (zenith_at its place) (two_i_at its place)))
+    ++ (right_text 13 (mean_text (zenith_mean_at its place)) ++ codes "\n"))
+
+-- The line of an observation: the number of its set, the name of its target, and its zenith angles.
+abbrev pub zenith_line : SurveyedStation → ℕ → List ℕ
+zenith_line its place = label_text its.station place ++ zeniths_text its place
+
+-- the same, if the observation is of this set
+abbrev pub zenith_line_of : SurveyedStation → ℕ → ℕ → List ℕ
+zenith_line_of its set place =
+    if set_at its.station place == set then zenith_line its place else []
+
+-- The zenith angles of a set, after an empty line.
+abbrev pub zenith_set_text : SurveyedStation → ℕ → List ℕ
+zenith_set_text its set = codes "\n" ++ each_place (length its.station.obs) (zenith_line_of its set)
+
+-- the standard deviation of the mean of zenith angles in mgon; a dash where there is one alone
+abbrev pub zenith_deviation_text : List ℕ → List ℕ
+zenith_deviation_text zeniths =
+    if nat_lt (length zeniths) 2 then codes "-" else thousandths_text (zenith_deviation zeniths)
+
+-- the mean of zenith angles in gon with six decimals
+abbrev pub zenith_mean_text : List ℕ → List ℕ
+zenith_mean_text zeniths = direction_text 6 (UNIT * mean_of_zeniths zeniths)
+
+-- how many zenith angles there are, their mean, and the standard deviation of that mean
+abbrev pub zenith_numbers_text : List ℕ → List ℕ
+zenith_numbers_text zeniths =
+    right_text 6 (decimal (length zeniths))
+    ++ (right_text 13 (zenith_mean_text zeniths)
+    ++ (right_text 20 (zenith_deviation_text zeniths) ++ codes "\n"))
+
+-- The line of a target: its name, and the numbers of its zenith angles, of which each set that has
+-- the target has one.
+abbrev pub zenith_mean_line : SurveyedStation → ℕ → List ℕ
+zenith_mean_line its target =
+    codes "  " ++ (left_text 16 (name_of its.station target)
+    ++ zenith_numbers_text (zeniths_of its target))
+
+-- The means of zenith angles, target by target.
+abbrev pub zenith_means_text : SurveyedStation → List ℕ
+zenith_means_text its =
+    codes "\nMean of the sets of each target in gon, standard deviation of the mean in mgon\n\n"
+    ++ (codes "  Target            Sets         Mean  Standard deviation\n\n"
+    ++ each_place (length its.station.targets) (zenith_mean_line its))
+
+-- The zenith angles, set by set, and their means by target.
+abbrev pub zenith_angles_text : SurveyedStation → List ℕ
+zenith_angles_text its =
+    codes "\nZenith angles in gon, mean of both faces\n\n"
+    ++ (codes "  Set  Target               Face I    Face II         Mean\n"
+    ++ (each_place (length its.station.sets) (zenith_set_text its) ++ zenith_means_text its))
+
 -- The line of a target: its name, and its adjusted direction.
 abbrev pub direction_line : StationValue → List ℕ → ℕ → List ℕ
 direction_line station directions target =
@@ -267,6 +326,8 @@ abbrev pub report_text : ReportHead → ResultLimits → SurveyedStation → Lis
 report_text head limits its directions section rows greatest accuracy =
     head_text head limits its.station
     ++ (readings_text its
+    ++ (zenith_angles_text its
     ++ (directions_text its.station directions
     ++ (section
-    ++ (agreement_text its.station rows greatest accuracy ++ signature_text head.notes.signature))))
+    ++ (agreement_text its.station rows greatest accuracy
+    ++ signature_text head.notes.signature)))))

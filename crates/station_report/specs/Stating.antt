@@ -1,7 +1,7 @@
 -- What a printed report says of a station, in the order of the sentence: the text has the readings
--- and the face differences, the adjusted directions, the residuals, the greatest residual, and how
--- accurate directions are: least over all directions, orientations and full turns, each number
--- rounded once.
+-- and the face differences, the zenith angles and their means by target, the adjusted directions,
+-- the residuals, the greatest residual, and how accurate directions are: least over all directions,
+-- orientations and full turns, each number rounded once.
 use Rattle.std.specs.Prelude.{◌≡◌, ℕ, List, Option}
 use Rattle.adjust_kernel.specs.Stations.{StationValue}
 use Rattle.adjust_kernel.specs.declared.units.TheConstants.{UNIT}

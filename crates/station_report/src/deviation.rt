@@ -22,7 +22,7 @@ use wide_number::{Wide, quotient};
 const SQUARES: u64 = 25;
 
 /// Quarters of the square of 0.001 mgon in the square of a half unit (0.005 mgon).
-const QUARTERS: u64 = 100;
+pub(crate) const QUARTERS: u64 = 100;
 
 /// The square of the largest residual, in half units.
 const LARGEST_SQUARE: u64 = LARGEST_RESIDUAL_LIMIT as u64 * LARGEST_RESIDUAL_LIMIT as u64;

@@ -1,5 +1,5 @@
 //! Laws of the definitions that contracts cite. The functions do nothing.
-ghost use Rattle.std.specs.Prelude.{◌≡◌, ℕ, ℤ, pos, ◌+ℤ◌, List, Option};
+ghost use Rattle.std.specs.Prelude.{◌≡◌, ◌≤◌, ℕ, ℤ, pos, ◌+ℤ◌, List, Option, length};
 ghost use Rattle.adjust_kernel.specs.Matching.{Key};
 ghost use Rattle.adjust_kernel.specs.Stations.{StationValue};
 ghost use Rattle.station_book.specs.Faults.{angles_at};
@@ -10,6 +10,7 @@ ghost use Rattle.station_book.specs.declared.faces.Faces.{Faces};
 ghost use Rattle.station_report.specs.Readings.{reading_one, reading_two, zenith_mean};
 ghost use Rattle.station_report.specs.Readings.{zenith_one, zenith_two};
 ghost use Rattle.station_report.specs.Stating.{IsComputed};
+ghost use Rattle.station_report.specs.Zeniths.{IsZenithDeviation, zenith_deviation};
 ghost use Rattle.station_report.specs.declared.accuracy.Accuracy.{Accuracy};
 ghost use Rattle.station_results.specs.declared.adjusted.AdjustedObs.{AdjustedObs};
 
@@ -32,6 +33,15 @@ pub fn zenith_angles()
     ensures mean { (limits : FaceLimits) (h : History) (name : List ℕ) (k : Key) (f : Faces)
         → IsRecordedWith limits h name k f
         → (pos (zenith_mean f.zenith f.two_i) +ℤ f.two_i) ≡ f.zenith +ℤ f.zenith }
+{}
+
+/// What is printed as the standard deviation of the mean of two zenith angles or more is just that,
+/// and no other number is.
+pub fn zenith_deviations()
+    ensures is { (zeniths : List ℕ) → 2 ≤ length zeniths
+        → IsZenithDeviation zeniths (zenith_deviation zeniths) }
+    ensures one { (zeniths : List ℕ) (units : ℕ) → 2 ≤ length zeniths
+        → IsZenithDeviation zeniths units → units ≡ zenith_deviation zeniths }
 {}
 
 /// What a report computes of a station is one, each number of it.

@@ -1,8 +1,9 @@
 //! The report of a station: what a survey office prints and files of its sets.
 //!
 //! `computed_of` answers what is computed of a station, and `text_by` by that a text of fixed
-//! columns: by set and target the readings of both faces, their mean, 2c and 2i; the adjusted
-//! directions; the residuals; the greatest of them; and how accurate directions are.
+//! columns: by set and target the readings of both faces, their mean, 2c and 2i; the zenith angles,
+//! and their means by target; the adjusted directions; the residuals; the greatest of them; and how
+//! accurate directions are.
 #![tactic(auto)]
 
 mod accuracy;
@@ -26,6 +27,9 @@ mod root;
 mod squares;
 mod text;
 mod together;
+mod zenith_means;
+mod zenith_sums;
+mod zeniths;
 
 pub use accuracy::Accuracy;
 pub use columns::{push_count, push_left, push_right};

@@ -37,11 +37,12 @@ pub(crate) fn observation_at(station: &Station, place: usize) -> Obs
     station.obs()[place]
 }
 
-/// The face differences at a place.
+/// The face differences and the zenith angle at a place.
 pub(crate) fn faces_at(surveyed: &Surveyed, place: usize) -> Faces
     requires { place < length surveyed.now.station.obs }
     ensures two_c { result.two_c ≡ spec.two_c_at surveyed.now place }
     ensures two_i { result.two_i ≡ spec.two_i_at surveyed.now place }
+    ensures zenith { result.zenith ≡ spec.zenith_at surveyed.now place }
 {
     surveyed.faces()[place]
 }

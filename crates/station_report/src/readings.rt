@@ -82,7 +82,11 @@ fn first_value(station: &Station, set: u32) -> u32
 }
 
 /// Adds a field that was read, in units of 0.00001 gon.
-fn push_read(text: &mut Vec<u8>, field: &mut Vec<u8>, units: u32) -> Result<(), AllocError>
+pub(crate) fn push_read(
+    text: &mut Vec<u8>,
+    field: &mut Vec<u8>,
+    units: u32,
+) -> Result<(), AllocError>
     ensures { OnOk result
         (text.new.items ≡ text.old.items ++ right_text 11 (spec.read_text units)) }
 {
@@ -93,7 +97,11 @@ fn push_read(text: &mut Vec<u8>, field: &mut Vec<u8>, units: u32) -> Result<(), 
 }
 
 /// Adds a field of a mean, in half units.
-fn push_mean(text: &mut Vec<u8>, field: &mut Vec<u8>, half_units: u32) -> Result<(), AllocError>
+pub(crate) fn push_mean(
+    text: &mut Vec<u8>,
+    field: &mut Vec<u8>,
+    half_units: u32,
+) -> Result<(), AllocError>
     ensures { OnOk result
         (text.new.items ≡ text.old.items ++ right_text 13 (spec.mean_text half_units)) }
 {
@@ -115,7 +123,11 @@ fn push_difference(text: &mut Vec<u8>, field: &mut Vec<u8>, units: i32) -> Resul
 }
 
 /// Adds the number of the set of an observation, and the name of its target.
-fn push_label(text: &mut Vec<u8>, station: &Station, place: usize) -> Result<(), AllocError>
+pub(crate) fn push_label(
+    text: &mut Vec<u8>,
+    station: &Station,
+    place: usize,
+) -> Result<(), AllocError>
     requires { place < length station.now.obs }
     ensures { OnOk result (text.new.items ≡ text.old.items ++ spec.label_text station.now place) }
 {

@@ -2,11 +2,11 @@
 ghost use Rattle.std.specs.Prelude.{◌≤◌, ◌<◌, ◌-◌};
 ghost use Rattle.station_report.specs.Deviations.{square_above, square_below};
 
-/// No number is above this.
-const LARGEST_SQUARE: u64 = 1_600_000_000_000;
+/// No number is above this: 100 squares of a full circle of half units.
+const LARGEST_SQUARE: u64 = 640_000_000_000_000_000;
 
 /// More than half the root of that.
-const ROOT: u64 = 632_457;
+const ROOT: u64 = 400_000_001;
 
 /// Half the root of a number, rounded to a whole number, the middle of two upwards. By halving.
 pub(crate) fn half_root(number: u64) -> u64

@@ -9,6 +9,7 @@ use crate::ending::push_agreement;
 use crate::head::{Head, push_head};
 use crate::notes::push_signature;
 use crate::readings::push_readings;
+use crate::zeniths::push_zenith_angles;
 use station_book::{ResultLimits, Surveyed};
 use std::alloc::{AllocError, Global};
 
@@ -36,6 +37,7 @@ pub(crate) fn text_of(
     let mut text = Vec::new(alloc);
     push_head(alloc, &mut text, head, limits, station)?;
     push_readings(alloc, &mut text, surveyed)?;
+    push_zenith_angles(alloc, &mut text, surveyed)?;
     push_directions(alloc, &mut text, station, &computed.directions)?;
     text.extend_from_slice(section)?;
     push_agreement(

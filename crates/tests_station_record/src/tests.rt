@@ -20,7 +20,7 @@ use table_report::Asked;
 use test_support::S1;
 
 /// Bytes that a sink has room for where no test wants less.
-const AMPLE: usize = 3_000;
+const AMPLE: usize = 4_000;
 
 /// How many bytes the readers give at a time.
 const STEPS: [usize; 5] = [1, 7, 64, 4_096, usize::MAX];

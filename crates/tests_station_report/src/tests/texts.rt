@@ -1,8 +1,8 @@
 //! Stations worked in exact fractions: what a report computes of them, and its text.
 
 use super::worked::{
-    AMPLE, HEAD, NOTHING_TO_COMPARE, ONE_SET, STEPS, given, held, limits, limits_with, refused,
-    report_of, room_for, s1, s4, with_line,
+    AMPLE, FROM_ZENITHS, HEAD, NOTHING_TO_COMPARE, ONE_SET, STEPS, ZENITHS, given, held, limits,
+    limits_with, refused, report_of, room_for, s1, s4, with_line,
 };
 use adjust_kernel::ResidualLimit;
 use exact_adjustment::{AdjustError, AdjustFault};
@@ -10,6 +10,8 @@ use station_answers::{Report, answer_of, run_answer, write_answer};
 use station_check::Fault;
 use station_compare::{CompareFault, Refusal};
 use station_report::{Accuracy, Head, computed_of, degrees_of};
+use std::alloc::Global;
+use std::process::Abort;
 use std::test::Fail;
 use test_support::{Observed, TIE, TWO_PARTS, station_of};
 
@@ -192,19 +194,32 @@ fn a_report_is_printed_of_a_file_in_pieces(rt: HostRuntime) -> Result<(), Fail> 
     Ok(())
 }
 
+/// Fails where the report of a station S1 doesn't end so.
+fn check_end(rt: &impl Abort, alloc: Global, gsi: &[u8], ends: &[u8]) {
+    let gsi = given(gsi, usize::MAX, false);
+    let (answer, _gsi) = answer_of(alloc, gsi, b"S1", limits(rt), &REPORT);
+    match answer {
+        Ok(text) => {
+            let end = text.len().saturating_sub(ends.len());
+            assert_eq!(rt; &text.as_slice()[end..], ends);
+        }
+        Err(Refusal { fault, .. }) => assert!(rt; false, "{fault:?}"),
+    }
+}
+
 #[test]
 fn where_no_angle_was_measured_twice_there_is_nothing_to_compare(
     rt: HostRuntime,
 ) -> Result<(), Fail> {
-    let gsi = given(ONE_SET, usize::MAX, false);
-    let (answer, _gsi) = answer_of(rt.alloc(), gsi, b"S1", limits(&rt), &REPORT);
-    match answer {
-        Ok(text) => {
-            let end = text.len().saturating_sub(NOTHING_TO_COMPARE.len());
-            assert_eq!(rt; &text.as_slice()[end..], NOTHING_TO_COMPARE);
-        }
-        Err(Refusal { fault, .. }) => assert!(rt; false, "{fault:?}"),
-    }
+    check_end(&rt, rt.alloc(), ONE_SET, NOTHING_TO_COMPARE);
+    Ok(())
+}
+
+#[test]
+fn the_mean_of_zenith_angles_has_its_deviation_where_two_sets_have_the_target(
+    rt: HostRuntime,
+) -> Result<(), Fail> {
+    check_end(&rt, rt.alloc(), ZENITHS, FROM_ZENITHS);
     Ok(())
 }
 

@@ -68,6 +68,23 @@ Readings in gon, mean of both faces counted from the first row of the set,\n\
 \x20 Half of the mean: collimation and index error                 0.03      0.00\n\
 \x20 Spread: the greatest less the least                           0.06      0.02\n\
 \n\
+Zenith angles in gon, mean of both faces\n\
+\n\
+\x20 Set  Target               Face I    Face II         Mean\n\
+\n\
+\x20   1  A                 100.00000  299.99998   100.000010\n\
+\x20   1  B                 100.00000  300.00000   100.000000\n\
+\n\
+\x20   2  A                 100.00000  300.00000   100.000000\n\
+\x20   2  B                 100.00000  300.00000   100.000000\n\
+\n\
+Mean of the sets of each target in gon, standard deviation of the mean in mgon\n\
+\n\
+\x20 Target            Sets         Mean  Standard deviation\n\
+\n\
+\x20 A                    2   100.000005               0.005\n\
+\x20 B                    2   100.000000               0.000\n\
+\n\
 Adjusted directions in gon, by least squares, counted from the first target\n\
 \n\
 \x20 Target              Direction\n\
@@ -160,6 +177,28 @@ Readings in gon, mean of both faces counted from the first row of the set,\n\
 \x20 Half of the mean: collimation and index error                -0.01      0.01\n\
 \x20 Spread: the greatest less the least                           0.30      0.19\n\
 \n\
+Zenith angles in gon, mean of both faces\n\
+\n\
+\x20 Set  Target               Face I    Face II         Mean\n\
+\n\
+\x20   1  A                 100.00000  300.00000   100.000000\n\
+\x20   1  B,\"1               90.00000  310.00015    89.999925\n\
+\x20   1  C                 100.00000  300.00000   100.000000\n\
+\n\
+\x20   7  B,\"1               90.00000  309.99996    90.000020\n\
+\x20   7  C                 100.00000  300.00000   100.000000\n\
+\n\
+\x20  12  A                 100.00000  299.99999   100.000005\n\
+\x20  12  C                 100.00000  300.00000   100.000000\n\
+\n\
+Mean of the sets of each target in gon, standard deviation of the mean in mgon\n\
+\n\
+\x20 Target            Sets         Mean  Standard deviation\n\
+\n\
+\x20 A                    2   100.000003               0.003\n\
+\x20 B,\"1                 2    89.999973               0.048\n\
+\x20 C                    3   100.000000               0.000\n\
+\n\
 Adjusted directions in gon, by least squares, counted from the first target\n\
 \n\
 \x20 Target              Direction\n\
@@ -216,6 +255,52 @@ pub const ONE_SET: &[u8] = b"410001+00000010 42....+000000S1\n\
 pub const NOTHING_TO_COMPARE: &[u8] = b"\n\
 \x20 A                    0.000000\n\
 \x20 B                   50.000020\n\
+\n\
+Degrees of freedom    0: no angle was measured twice, nothing to compare\n";
+
+/// Target A in three sets: its zenith angles are 0, 5 and 20 units of 0.000001 gon above 100 gon,
+/// their mean 25/3, the residuals 25/3, 10/3 and -35/3, and the standard deviation of the mean is
+/// the root of 325/9, which is 6.009. Target B stands in one set alone.
+pub const ZENITHS: &[u8] = b"410001+00000010 42....+000000S1\n\
+410002+00000020 42....+00000001\n\
+110003+0000000A 21.102+00000000 22.102+10000000\n\
+110004+0000000A 21.102+20000000 22.102+30000000\n\
+410005+00000020 42....+00000002\n\
+110006+0000000A 21.102+00000000 22.102+10000001\n\
+110007+0000000B 21.102+05000000 22.102+05000007\n\
+110008+0000000B 21.102+25000000 22.102+34999996\n\
+110009+0000000A 21.102+20000000 22.102+30000000\n\
+410010+00000020 42....+00000003\n\
+110011+0000000A 21.102+00000000 22.102+10000003\n\
+110012+0000000A 21.102+20000000 22.102+29999999\n\
+410013+00000030\n";
+
+/// How the report of that station ends, from its zenith angles on.
+pub const FROM_ZENITHS: &[u8] = b"\n\
+Zenith angles in gon, mean of both faces\n\
+\n\
+\x20 Set  Target               Face I    Face II         Mean\n\
+\n\
+\x20   1  A                 100.00000  300.00000   100.000000\n\
+\n\
+\x20   2  A                 100.00001  300.00000   100.000005\n\
+\x20   2  B                  50.00007  349.99996    50.000055\n\
+\n\
+\x20   3  A                 100.00003  299.99999   100.000020\n\
+\n\
+Mean of the sets of each target in gon, standard deviation of the mean in mgon\n\
+\n\
+\x20 Target            Sets         Mean  Standard deviation\n\
+\n\
+\x20 A                    3   100.000008               0.006\n\
+\x20 B                    1    50.000055                   -\n\
+\n\
+Adjusted directions in gon, by least squares, counted from the first target\n\
+\n\
+\x20 Target              Direction\n\
+\n\
+\x20 A                    0.000000\n\
+\x20 B                   50.000000\n\
 \n\
 Degrees of freedom    0: no angle was measured twice, nothing to compare\n";
 

@@ -6,7 +6,7 @@ use Rattle.station_report.proofs.root.half_root.Given as goal
 abbrev pub invariant-loop-high : goal.invariant-loop-high
 invariant-loop-high l = record {
   order : l.low < l.high;
-  bound : l.high ≤ 632_457;
+  bound : l.high ≤ 400_000_001;
   low : square_below l.low ≤ l.number;
   high : l.number < square_below l.high;
 }

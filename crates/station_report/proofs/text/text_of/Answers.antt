@@ -1,7 +1,7 @@
 use Rattle.std.proofs.Common.{◌++◌}
 use Rattle.station_report.specs.NoteTexts as notes
 use Rattle.station_report.specs.ReportTexts as spec
-use Rattle.station_report.proofs.PlaceLaws.{three, two}
+use Rattle.station_report.proofs.PlaceLaws.{three}
 use Rattle.station_report.proofs.text.text_of.Goals as goal
 
 pub returns : goal.returns
@@ -9,6 +9,7 @@ returns c =
     let its = c.args.surveyed.now in
     let v = c.args.computed.now in
     let station = c.station-station.ensures in
+    let zeniths = spec.zenith_angles_text its in
     let directions = spec.directions_text its.station v.directions.items in
     let agreement = spec.agreement_text its.station v.rows.items v.greatest v.accuracy in
     let section = c.args.section.now in
@@ -18,11 +19,12 @@ returns c =
     c.in_ok-extend_from_slice.ensures.items
     (rw (station, c.deref-2.ensures.value) at c.in_ok-push_agreement.ensures)
     c.in_ok-push_signature.ensures in
-    let second = two c.push_readings.new.text.items c.push_directions.new.text.items
-    c.push_signature.new.text.items directions (section ++ (agreement ++ signature))
+    let second = three c.push_readings.new.text.items c.push_zenith_angles.new.text.items
+    c.push_directions.new.text.items c.push_signature.new.text.items zeniths directions
+    (section ++ (agreement ++ signature)) c.in_ok-push_zenith_angles.ensures
     (rw (station, c.deref.ensures.value) at c.in_ok-push_directions.ensures) third in
     rw c.new-text.ensures.items at (three c.new-text.result.items c.push_head.new.text.items
     c.push_readings.new.text.items c.push_signature.new.text.items
     (spec.head_text (notes.head_of c.args.head) c.args.limits its.station) (spec.readings_text its)
-    (directions ++ (section ++ (agreement ++ signature)))
+    (zeniths ++ (directions ++ (section ++ (agreement ++ signature))))
     (rw station at c.in_ok-push_head.ensures) c.in_ok-push_readings.ensures second)
