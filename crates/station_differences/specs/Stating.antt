@@ -12,13 +12,17 @@ use Rattle.station_differences.specs.Differences.{AreCompared}
 use Rattle.station_differences.specs.DifferenceTexts.{differences_text}
 use Rattle.station_differences.specs.declared.compared.TargetDifference.{TargetDifference}
 
--- This is the text, with its rows in a form, of the differences of a table's bytes from a station.
-pub record IsDifferencesText (form : TableForm) (printed : RowForm) (station : StationValue)
-    (bytes text : List ℕ) : Type 0 where
+-- This is what is written of the rows of the differences of a table's bytes from a station.
+pub record IsTextOfRows (written : List TargetDifference → List ℕ) (form : TableForm)
+    (station : StationValue) (bytes text : List ℕ) : Type 0 where
   -- The bytes state these directions, one for each target of the station.
   pub directions : List ℤ
   pub states : IsTableText form station.targets bytes directions
   -- The rows of the targets, with these directions and the least-squares ones.
   pub rows : List TargetDifference
   pub compared : AreCompared station directions rows
-  pub text_is : text ≡ differences_text printed rows
+  pub text_is : text ≡ written rows
+
+-- This is the text, with its rows in a form, of the differences of a table's bytes from a station.
+abbrev pub IsDifferencesText : TableForm → RowForm → StationValue → List ℕ → List ℕ → Type 0
+IsDifferencesText form printed = IsTextOfRows (differences_text printed) form
