@@ -1,11 +1,13 @@
 //! Laws of the definitions that contracts cite. The functions do nothing.
 ghost use Rattle.std.specs.Prelude.{◌≡◌, ◌≤◌, ℕ, List, All, ℤ, length, pos, true};
+ghost use Rattle.adjust_kernel.specs.Names.{IsName};
 ghost use Rattle.adjust_kernel.specs.Stations.{StationValue};
 ghost use Rattle.adjust_kernel.specs.Within.{IsWithin};
 ghost use Rattle.direction_table.specs.declared.form.TableForm.{TableForm};
 ghost use Rattle.directions_apart.specs.Apart.{stated_by};
 ghost use Rattle.least_directions.specs.LeastDirections.{AreApart};
 ghost use Rattle.station_differences.specs.Differences.{AreCompared, differences_of};
+ghost use Rattle.station_differences.specs.JsonLines.{is_escaped, needs_escape};
 ghost use Rattle.station_differences.specs.Medians.{is_median, median_of};
 ghost use Rattle.station_differences.specs.Stating.{IsTextOfRows};
 ghost use Rattle.station_differences.specs.declared.compared.TargetDifference.{TargetDifference};
@@ -36,4 +38,11 @@ pub fn one_median()
         → is_median rows (median_of rows) ≡ true }
     ensures only { (rows : List TargetDifference) (a b : ℤ) → is_median rows a ≡ true
         → is_median rows b ≡ true → a ≡ b }
+{}
+
+/// Of the bytes of a name those alone need an escape in JSON that are escaped: quotation marks and
+/// backslashes.
+pub fn two_are_escaped()
+    ensures { (name : List ℕ) → IsName name
+        → All (λ byte. needs_escape byte ≡ is_escaped byte) name }
 {}
