@@ -106,7 +106,8 @@ class CompletionsTest(ProgramTest):
             self.assertEqual([""], self.of_bash(command, own[-1], ""))
         self.assertEqual(FACE_LIMITS, self.of_bash("check", "field.gsi", "--two"))
         self.assertEqual([*FACE_LIMITS, "--csv", "--decimal-comma", "--help"], self.of_bash("list", "-"))
-        of_differences = [*TABLE_FORMS, *FACE_LIMITS, "--residual", "--decimal-comma", "--help"]
+        own = ["--residual", "--decimal-comma", "--json"]
+        of_differences = [*TABLE_FORMS, *FACE_LIMITS, *own, "--help"]
         self.assertEqual(of_differences, self.of_bash("differences", "-"))
         self.assertEqual([*FACE_LIMITS, "--help"], self.of_bash("means", "-"))
         options = ["--station", "--same-set-up", "--again", "--station-code"]

@@ -103,6 +103,7 @@ def command_line():
     parser.add_argument("--all", action="store_true")
     parser.add_argument("--csv", action="store_true")
     parser.add_argument("--decimal-comma", action="store_true")
+    parser.add_argument("--json", action="store_true")
     parser.add_argument("--degrees", action="store_const", const="degrees", dest="unit", default="gon")
     parser.add_argument("--dmmss", action="store_const", const="dmmss", dest="unit")
     parser.add_argument("--columns", type=columns)
@@ -163,6 +164,8 @@ def model_answer(case):
         return (2, b"", b"")
     if asked.decimal_comma and asked.command in ["list", "report"] and not asked.csv:
         return (2, b"", b"")
+    if asked.json and (asked.command != "differences" or asked.decimal_comma):
+        return (2, b"", b"")
     notes = model.ReportNotes(asked.date, asked.note, asked.signature)
     if notes != model.ReportNotes() and (asked.command != "report" or asked.csv):
         return (2, b"", b"")
@@ -210,6 +213,7 @@ def model_answer(case):
     if asked.command == "directions":
         return model.directions(files[0], station, limits, asked.decimals, fails[0], **held, **formed)
     if asked.command == "differences":
+        formed["as_json"] = asked.json
         return model.differences(files[0], station, files[1], limits, form, fails, **held, **formed)
     if asked.command == "report" and asked.csv:
         return model.reported_rows(files[0], station, limits, fails[0], **held, **formed)

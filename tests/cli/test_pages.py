@@ -69,6 +69,7 @@ LIMIT = re.compile(r"^\| `(\w+)`.* \| ([\d.]+) mgon.* \| ([\d,]+) \|$", re.MULTI
 # A path in the text of a page: of the repository, or below crates/.
 NAMED = re.compile(r"`(\w+(?:/[\w.-]+)+)`")
 
+ADDING = ROOT / "docs" / "ADDING.md"
 TESTS = ROOT / "docs" / "TESTS.md"
 
 # The head of the guide's table of refusals, the faults of `mark` that have no row there, and the
@@ -252,7 +253,8 @@ class PagesTest(TimedTest):
     def test_a_change_goes_to_files_that_are_there(self):
         section = ARCHITECTURE.read_text().partition("## Where a change goes")[2].partition("\n## ")[0]
         # What is made stands below build/, and not in a fresh clone.
-        paths = [path for path in NAMED.findall(section) if not path.startswith("build/")]
+        named = NAMED.findall(section) + NAMED.findall(ADDING.read_text())
+        paths = [path for path in named if not path.startswith("build/")]
         self.assertGreater(len(paths), 20)
         for path in paths:
             with self.subTest(path):

@@ -4,13 +4,14 @@ difference is beside W of `compare`, and each is that of the columns before it b
 
 import csv
 import io
+import json
 import unittest
 from random import Random
 
 import model
 from against_model import AgainstModel, Case
 from generated import SEED, changed_table, station_to_adjust
-from program import EXAMPLE, SWEEP, ProgramTest, Run, answer_of
+from program import EXAMPLE, EXAMPLE_TABLE, SWEEP, ProgramTest, Run, answer_of
 from test_directions import CHAIN, one_set
 from test_means import largest
 from test_station_residuals import units
@@ -149,13 +150,72 @@ class DifferencesTest(ProgramTest):
             self.assertEqual((row["stated"], "0.000"), (row["least squares"], row["difference"]))
 
 
+# The keys of an object that `--json` prints, in their order, and the titles of the same in rows.
+TITLE_OF = {
+    "target": "target",
+    "stated": "stated",
+    "least_squares": "least squares",
+    "difference": "difference",
+    "from_median": "from the median",
+}
+
+COMMA_IN_JSON = b"error: '--json' writes numbers with points: not with '--decimal-comma'\n"
+
+
+class JsonTest(AgainstModel):
+    def assert_objects_are_rows(self, words):
+        """Each line is an object that Python reads, with the name and the numbers of its row, digit
+        by digit."""
+        rows = answer_of(["differences", *words])
+        lines = answer_of(["differences", "--json", *words])
+        self.assertEqual((0, 0, rows[2]), (rows[0], lines[0], lines[2]))
+        read = [json.loads(line, parse_float=str) for line in lines[1].decode().splitlines()]
+        found = list(csv.DictReader(io.StringIO(rows[1].decode())))
+        self.assertEqual(found, [{TITLE_OF[key]: of[key] for key in of} for of in read])
+        self.assertEqual([list(TITLE_OF)] * len(found), [list(of) for of in read])
+        self.assertEqual(len(found), lines[1].count(b"\n"))
+        return [of["target"] for of in read]
+
+    def test_the_objects_are_the_rows(self):
+        table = self.folder / "table.csv"
+        for name, file, text, _ in PRINTED:
+            table.write_bytes(text)
+            with self.subTest(name):
+                self.assert_objects_are_rows([self.file_of(file), "S1", table])
+
+    def test_a_quotation_mark_and_a_backslash_are_escaped(self):
+        """Of all bytes that a name can have these two alone."""
+        names = ['"', "\\", '\\"', "A\\nB", '"A" "B"', "a/b", "\\u0041"]
+        printable = "".join(map(chr, range(ord(" "), ord("~") + 1)))
+        names += [f"~{printable[place:place + 6]}~" for place in range(0, len(printable), 6)]
+        field = self.file_of(one_set(*[(name, 7 + place) for place, name in enumerate(names)]))
+        table = self.folder / "table.csv"
+        table.write_bytes(answer_of(["directions", field, "S1"])[1])
+        self.assertEqual(names, self.assert_objects_are_rows([field, "S1", table]))
+
+    def test_a_decimal_comma_beside_it_is_a_mistake(self):
+        for more in [[], ["--degrees"], ["--columns=1,2"]]:
+            words = ["differences", "--json", "--decimal-comma", *more, EXAMPLE, "S1", EXAMPLE_TABLE]
+            status, stdout, stderr = answer_of(words)
+            with self.subTest(more):
+                self.assertEqual((2, b""), (status, stdout))
+                self.assertTrue(stderr.startswith(COMMA_IN_JSON), stderr)
+
+    def file_of(self, data):
+        path = self.folder / "field.gsi"
+        path.write_bytes(data)
+        return path
+
+
 class GeneratedTest(AgainstModel):
     def test_generated_tables_beside_the_model(self):
         for place in range(STATIONS):
             random = Random(f"{SEED} differences {place}")
             file = station_to_adjust(random)
             [station] = model.survey_of(file, model.Limits())
-            self.compare([Case(f"{place}", "differences", file, changed_table(random, station))])
+            table = changed_table(random, station)
+            self.compare([Case(f"{place}", "differences", file, table)])
+            self.compare([Case(f"{place} as JSON", "differences", file, table, as_json=True)])
 
     def test_the_largest_difference_is_how_far_a_table_is_apart(self):
         """Of stations up to the largest: within `compare` in size, and one reaches it but for less than

@@ -31,6 +31,7 @@ class Case(NamedTuple):
     degrees: bool = False
     stated: model.StatedSets = model.StatedSets()  # of `mark`
     decimal_comma: bool = False
+    as_json: bool = False  # of `differences`
     left_out: tuple[int, ...] = ()  # of `change`: the numbers of lines
     names: tuple[tuple[int, str], ...] = ()  # of `change`: numbers of lines, and names of points
 
@@ -58,6 +59,7 @@ class Case(NamedTuple):
         if self.command == "directions":
             return model.directions(self.gsi, name, limits, self.decimals, **formed)
         if self.command == "differences":
+            formed["as_json"] = self.as_json
             return model.differences(self.gsi, name, self.sheet, limits, self.form(), **formed)
         if self.command == "report":
             return model.reported(self.gsi, bytes(gsi), name, limits, residual=residual)
@@ -90,6 +92,8 @@ class Case(NamedTuple):
             options.append("--degrees")
         if self.decimal_comma:
             options.append("--decimal-comma")
+        if self.as_json:
+            options.append("--json")
         if self.command == "mark":
             named = [] if self.station is None else [f"--station={self.station}"]
             return ["mark", *named, *self.stated.options(), gsi]

@@ -66,6 +66,7 @@ is_simple_rule argument.Decimals = refl
 is_simple_rule argument.Digests = refl
 is_simple_rule argument.Rows = refl
 is_simple_rule argument.DecimalComma = refl
+is_simple_rule argument.Json = refl
 is_simple_rule argument.StatedTable = refl
 is_simple_rule argument.StatedName = refl
 is_simple_rule argument.SameSetUp = refl

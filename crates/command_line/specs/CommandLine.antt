@@ -25,7 +25,7 @@ use Rattle.command_line.specs.Stated.{StatesNoLimits, StatesNoNumber}
 use Rattle.command_line.specs.Stated.{StatesNoResidual, StatesNoWithin, StatesNumber}
 use Rattle.command_line.specs.Stated.{StatesResidual, StatesRowForm, StatesTableForm}
 use Rattle.command_line.specs.Stated.{StatesWithin}
-use Rattle.command_line.specs.Stated.{IsCommaAlone}
+use Rattle.command_line.specs.Stated.{IsCommaAlone, IsCommaInJson}
 use Rattle.command_line.specs.StatedChanges.{StatesChanges, StatesNoChanges}
 use Rattle.command_line.specs.StatedNotes.{SpeaksOfNotes, StatesNoNotes, StatesNotes}
 use Rattle.command_line.specs.StatedNumbers.{StatesNoNumbers, StatesNumbers}
@@ -45,6 +45,7 @@ use Rattle.command_line.specs.declared.request.TableText.TheVariants as table_te
 use Rattle.direction_table.specs.TableRows.{unstated}
 use Rattle.direction_table.specs.declared.form.TableForm.{TableForm}
 use Rattle.direction_table.specs.declared.unit.AngleUnit.TheVariants.{Gon}
+use Rattle.row_forms.specs.declared.form.RowForm.TheVariants.{Commas}
 
 -- What is asked for, with the paths of its files.
 abbrev pub Asked : Type 0
@@ -110,16 +111,19 @@ AsksForTexts name found (texts.ReportRows form) =
     (name ≡ codes "report") × StatesForm found (Rows form) × ¬ SpeaksOfNotes found
 
 -- Which text of a station and of the table of this path: by `compare` the comparison, with its
--- limit or none, and with digests or without; by `differences` the differences in a form; by
--- `report`, where all stations are not asked for, the report with the table of its option and with
--- its notes, and all else as for `compare`.
+-- limit or none, and with digests or without; by `differences` the differences in a form, or as JSON
+-- lines, which have points; by `report`, where all stations are not asked for, the report with the
+-- table of its option and with its notes, and all else as for `compare`.
 abbrev pub AsksForTableText : Text → Found → List ℕ → TableText → Type 0
 AsksForTableText name found table (table_text.Comparison within digests) =
     (name ≡ codes "compare") × IsGiven found (codes "TABLE") table × StatesWithin found within
     × StatesDigests found digests
 AsksForTableText name found table (table_text.Differences form) =
     (name ≡ codes "differences") × IsGiven found (codes "TABLE") table
-    × StatesRowForm found form
+    × StatesRowForm found form × StatesFlag found (codes "json") false
+AsksForTableText name found table table_text.JsonLines =
+    (name ≡ codes "differences") × IsGiven found (codes "TABLE") table
+    × StatesRowForm found Commas × StatesFlag found (codes "json") true
 AsksForTableText name found table (table_text.Report within digests notes) =
     (name ≡ codes "report") × IsGiven found (codes "table") table × StatesWithin found within
     × StatesDigests found digests × StatesForm found Lines × StatesNotes found notes
@@ -215,10 +219,11 @@ LacksToCompare found =
     LacksResult found ⊎ IsMissing found (codes "TABLE") ⊎ StatesNoColumns found
     ⊎ StatesNoWithin found
 
--- What `differences` needs isn't found.
+-- What `differences` needs isn't found, or what it has doesn't go together.
 abbrev pub LacksForDifferences : Found → Type 0
 LacksForDifferences found =
     LacksResult found ⊎ IsMissing found (codes "TABLE") ⊎ StatesNoColumns found
+    ⊎ IsCommaInJson found
 
 -- What `directions` needs isn't found.
 abbrev pub LacksForDirections : Found → Type 0

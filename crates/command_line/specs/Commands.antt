@@ -103,6 +103,10 @@ csv_rule = flag_rule (codes "csv")
 abbrev pub decimal_comma_rule : Rule
 decimal_comma_rule = flag_rule (codes "decimal-comma")
 
+-- The flag `--json`: JSON lines are printed.
+abbrev pub json_rule : Rule
+json_rule = flag_rule (codes "json")
+
 -- The flag `--signature`: a report ends with lines for a signature.
 abbrev pub signature_rule : Rule
 signature_rule = flag_rule (codes "signature")
@@ -199,6 +203,7 @@ rule_for argument.Decimals = decimals_rule
 rule_for argument.Digests = digests_rule
 rule_for argument.Rows = csv_rule
 rule_for argument.DecimalComma = decimal_comma_rule
+rule_for argument.Json = json_rule
 rule_for argument.StatedTable = stated_table_rule
 rule_for argument.StatedName = stated_name_rule
 rule_for argument.SameSetUp = same_set_up_rule
@@ -231,7 +236,7 @@ compare_words = of_rules (codes "compare")
 abbrev pub differences_words : Shape
 differences_words = of_rules (codes "differences")
     (field_file_rule ∷ station_rule ∷ table_rule ∷ degrees_rule ∷ dmmss_rule ∷ columns_rule
-    ∷ two_c_rule ∷ two_i_rule ∷ residual_rule ∷ decimal_comma_rule ∷ [])
+    ∷ two_c_rule ∷ two_i_rule ∷ residual_rule ∷ decimal_comma_rule ∷ json_rule ∷ [])
 
 -- `directions GSI STATION`, or `directions --all GSI`
 abbrev pub directions_words : Shape

@@ -6,8 +6,8 @@ use Rattle.command_line.specs.CountOptions.{count_is_not_in, count_largest, coun
 use Rattle.command_line.specs.CountOptions.{count_name, count_place}
 use Rattle.command_line.specs.LimitOptions.{option_largest, option_limits, option_name, option_unit}
 use Rattle.command_line.specs.LimitOptions.{place}
-use Rattle.command_line.specs.Stated.{IsCommaAlone, IsGiven, NoLimitIsStated, StatesDigests}
-use Rattle.command_line.specs.Stated.{StatesFlag}
+use Rattle.command_line.specs.Stated.{IsCommaAlone, IsCommaInJson, IsGiven, NoLimitIsStated}
+use Rattle.command_line.specs.Stated.{StatesDigests, StatesFlag}
 use Rattle.command_line.specs.Stated.{StatesNoCode, StatesNoColumns, StatesUnit}
 use Rattle.changed_lines.specs.Stated.{IsFirstUnsaid}
 use Rattle.changed_lines.specs.declared.stated.EditKind.{EditKind}
@@ -86,13 +86,14 @@ IsWrongChange found kind text = IsFirstUnsaid kind (texts_of found (change_name 
 abbrev pub IsWrongNote : Found → List ℕ → Type 0
 IsWrongNote found text = IsFirstUnnoted (texts_of found (codes "note")) text
 
--- This mistake is there: the text of an option is no limit; a text states no columns; rows are asked
--- for, and something beside them; the limit of a comparison, or how a table is read, is stated
--- without a table; a decimal comma is stated, and no rows; a text of an option that states numbers
--- can't stand where it does; the code of the stations is none that may be; a text of an option that
--- states changes of lines says none; a text of `--note` states no note; all stations are asked for,
--- and something that is of one; a name is stated for a station. That no station is named, and not all
--- are asked for, is told where no other mistake is there: no more is said of it.
+-- This mistake is there: the text of an option is no limit; a text states no columns; JSON lines are
+-- asked for, and decimal commas; rows are asked for, and something beside them; the limit of a
+-- comparison, or how a table is read, is stated without a table; a decimal comma is stated, and no
+-- rows; a text of an option that states numbers can't stand where it does; the code of the stations
+-- is none that may be; a text of an option that states changes of lines says none; a text of `--note`
+-- states no note; all stations are asked for, and something that is of one; a name is stated for a
+-- station. That no station is named, and not all are asked for, is told where no other mistake is
+-- there: no more is said of it.
 abbrev pub IsThere : Found → Mistake → Type 0
 IsThere found (mistake.Limit option text) = IsNoLimit found option text.now
 IsThere found (mistake.Columns text) = IsWrongColumns found text.now
@@ -100,6 +101,7 @@ IsThere found mistake.Rows = StatesFlag found (codes "csv") true × StandsBeside
 IsThere found mistake.Within =
     ¬ (HasOption found (codes "table")) × HasOption found (codes "within")
 IsThere found mistake.Form = ¬ (HasOption found (codes "table")) × HasForm found
+IsThere found mistake.Json = IsCommaInJson found
 IsThere found mistake.DecimalComma = IsCommaAlone found
 IsThere found (mistake.Count option text fault) = IsWrongCount found option text.now fault
 IsThere found (mistake.Code text) = IsWrongCode found text.now
@@ -110,13 +112,15 @@ IsThere found mistake.Name = HasOption found (codes "station")
 IsThere found mistake.NoStation = ⊤
 
 -- The place of a mistake in the order in which mistakes are told: wrong limits by the places of
--- their options, then columns, then rows, then what is stated without a table, a decimal comma,
--- numbers, a code, changes of lines, notes, all stations beside one, a name, and that none is named
--- last. Texts come before what doesn't go together: only `report` has an option of a table, and all
--- others that read one would lack it.
+-- their options, then columns, then JSON lines or rows, of which no command has both, then what is
+-- stated without a table, a decimal comma, numbers, a code, changes of lines, notes, all stations
+-- beside one, a name, and that none is named last. What other commands than `report` are told stands
+-- before what is stated without a table: it alone has that option, and those that read a table lack
+-- it.
 abbrev pub rank : Mistake → ℕ
 rank (mistake.Limit option text) = place option
 rank (mistake.Columns text) = 4
+rank mistake.Json = 5
 rank mistake.Rows = 5
 rank mistake.Within = 6
 rank mistake.Form = 7
@@ -189,6 +193,7 @@ mistake_text mistake.Form =
 mistake_text (mistake.Columns text) =
     codes "invalid value '" ++ text.now ++ codes "' for '--columns <TARGET,DIRECTION>': "
     ++ columns_why
+mistake_text mistake.Json = codes "'--json' writes numbers with points: not with '--decimal-comma'"
 mistake_text mistake.DecimalComma =
     codes "'--decimal-comma' says how rows are written: print rows with '--csv'"
 mistake_text (mistake.Count option text fault) =

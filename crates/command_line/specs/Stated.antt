@@ -122,6 +122,11 @@ abbrev pub IsCommaAlone : Found → Type 0
 IsCommaAlone found =
     StatesFlag found (codes "csv") false × StatesFlag found (codes "decimal-comma") true
 
+-- JSON lines are asked for, and decimal commas, which JSON does not have.
+abbrev pub IsCommaInJson : Found → Type 0
+IsCommaInJson found =
+    StatesFlag found (codes "json") true × StatesFlag found (codes "decimal-comma") true
+
 -- A table states degrees with minutes and seconds after the point where the flag of these stands;
 -- else degrees where that of degrees stands; and else gon.
 abbrev pub StatesUnit : Found → AngleUnit → Type 0

@@ -68,6 +68,9 @@ pub(crate) const CSV: &str = "csv";
 /// The flag that prints semicolons between cells and commas in numbers.
 pub(crate) const DECIMAL_COMMA: &str = "decimal-comma";
 
+/// The flag that prints JSON lines.
+pub(crate) const JSON: &str = "json";
+
 /// The option of the path of a table.
 pub(crate) const STATED_TABLE: &str = "table";
 
@@ -173,6 +176,9 @@ pub(crate) enum Argument {
     /// That rows have semicolons between cells and commas in numbers.
     DecimalComma,
 
+    /// That JSON lines are printed.
+    Json,
+
     /// The path of a table, as an option.
     StatedTable,
 
@@ -247,6 +253,7 @@ impl Argument {
             Argument::Digests => flag(alloc, SHA256),
             Argument::Rows => flag(alloc, CSV),
             Argument::DecimalComma => flag(alloc, DECIMAL_COMMA),
+            Argument::Json => flag(alloc, JSON),
             Argument::StatedTable => stated_table(alloc),
             Argument::StatedName => text_option(alloc, STATED_NAME, "NAME"),
             Argument::SameSetUp => flag(alloc, SAME_SET_UP),
@@ -286,6 +293,7 @@ impl Argument {
             Argument::Digests => "Print the SHA-256 digests of what was read, after the answer",
             Argument::Rows => "Print rows for other programs, as CSV",
             Argument::DecimalComma => help::DECIMAL_COMMA_HELP,
+            Argument::Json => "Print each target as a JSON object on a line of its own",
             Argument::StatedTable => {
                 "A table of directions, which stands beside the adjusted ones"
             }
@@ -321,6 +329,7 @@ impl Argument {
             Argument::Digests => help::SHA256_LONG_HELP,
             Argument::Rows => help::CSV_LONG_HELP,
             Argument::DecimalComma => help::DECIMAL_COMMA_LONG_HELP,
+            Argument::Json => help::JSON_LONG_HELP,
             Argument::StatedTable => help::STATED_TABLE_LONG_HELP,
             Argument::Copy => help::COPY_LONG_HELP,
             Argument::StatedName => help::STATION_LONG_HELP,

@@ -172,7 +172,7 @@ const COMPARE: [Argument; 11] = [
 ];
 
 /// The arguments and options of `differences`.
-const DIFFERENCES: [Argument; 10] = [
+const DIFFERENCES: [Argument; 11] = [
     Argument::FieldFile,
     Argument::Station,
     Argument::Table,
@@ -183,6 +183,7 @@ const DIFFERENCES: [Argument; 10] = [
     Argument::TwoI,
     Argument::Residual,
     Argument::DecimalComma,
+    Argument::Json,
 ];
 
 /// The arguments and options of `directions`.

@@ -386,6 +386,9 @@ what a report notes";
 pub const COMMA_ALONE: &str = "\
 '--decimal-comma' says how rows are written: print rows with '--csv'";
 
+pub const JSON_WITH_POINTS: &str = "\
+'--json' writes numbers with points: not with '--decimal-comma'";
+
 pub const WITHIN_ALONE: &str = "\
 '--within <LIMIT>' limits how far a table may be off: name it with '--table <TABLE>'";
 
@@ -566,6 +569,11 @@ Write rows for a spreadsheet that is set to German or French";
 pub const DECIMAL_COMMA_LONG_HELP: &str = "\
 Write semicolons between cells and commas in numbers, for a spreadsheet that is set to
 German or French: there -0.134 is read as -134. 'list' and 'report' need '--csv'";
+
+pub const JSON_LONG_HELP: &str = "\
+Print each target as a JSON object on a line of its own, and no titles. It has what the
+row has, digit by digit, under the keys target, stated, least_squares, difference and
+from_median";
 
 pub const SHA256_LONG_HELP: &str = "\
 Print the SHA-256 digest of each file after the answer. They are those of the bytes that

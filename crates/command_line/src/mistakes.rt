@@ -10,10 +10,12 @@ ghost use Rattle.command_line.specs.Mistakes.{IsThere, NoneIsBefore, NoneIsBetwe
 ghost use Rattle.command_line.specs.Mistakes.{StandsBesideAll, StandsBesideRows};
 ghost use Rattle.command_line.specs.Mistakes.{count_why, mistake_text};
 ghost use Rattle.command_line.specs.declared.mistakes.Mistake.TheVariants as mistake;
-ghost use Rattle.command_line.specs.Stated.{IsCommaAlone, StatesNoCode, StatesNoColumns};
+ghost use Rattle.command_line.specs.Stated.{IsCommaAlone, IsCommaInJson, StatesNoCode};
+ghost use Rattle.command_line.specs.Stated.{StatesNoColumns};
 
 use crate::arguments::{
-    ALL, COLUMNS, CSV, DECIMAL_COMMA, STATED_NAME, STATED_TABLE, STATION, STATION_CODE, WITHIN,
+    ALL, COLUMNS, CSV, DECIMAL_COMMA, JSON, STATED_NAME, STATED_TABLE, STATION, STATION_CODE,
+    WITHIN,
 };
 use crate::commands::command_named;
 use crate::count_option::CountOption;
@@ -65,6 +67,9 @@ pub(crate) enum Mistake<'a> {
 
     /// The text of the columns of a table states none.
     Columns(&'a str),
+
+    /// JSON lines are asked for, and decimal commas.
+    Json,
 
     /// A decimal comma is stated, and no rows.
     DecimalComma,
@@ -123,6 +128,7 @@ fn message_of(alloc: Global, mistake: Mistake<'_>) -> Result<String, AllocError>
             "invalid value '{text}' for '--columns <TARGET,DIRECTION>': {}",
             help::NO_COLUMNS
         ),
+        Mistake::Json => help::JSON_WITH_POINTS.to_string(alloc),
         Mistake::DecimalComma => help::COMMA_ALONE.to_string(alloc),
         Mistake::Count(option, text, fault) => {
             let (number, why) = told_of(option, fault);
@@ -188,6 +194,9 @@ fn mistake_beside_copies<'a>(found: &ArgMatches<'a>) -> Option<Mistake<'a>>
     if let Some(text) = wrong_columns(found) {
         return Some(Mistake::Columns(text));
     }
+    if has_comma_in_json(found) {
+        return Some(Mistake::Json);
+    }
     if has_rows_and_more(found) {
         return Some(Mistake::Rows);
     }
@@ -198,6 +207,13 @@ fn mistake_beside_copies<'a>(found: &ArgMatches<'a>) -> Option<Mistake<'a>>
         return Some(Mistake::Form);
     }
     None
+}
+
+/// Whether JSON lines are asked for, and decimal commas.
+fn has_comma_in_json(found: &ArgMatches<'_>) -> bool
+    ensures { IsTrue result ↔ IsCommaInJson (found_of found.now) }
+{
+    has_flag(found, JSON) && has_flag(found, DECIMAL_COMMA)
 }
 
 /// Whether rows are asked for, and something beside them.

@@ -126,6 +126,9 @@ pub enum TableText<'a> {
         form: RowForm,
     },
 
+    /// The same as JSON lines.
+    JsonLines,
+
     /// The report of the station, with these notes and with the table beside its directions: they
     /// agree as for `Comparison`.
     Report {

@@ -13,7 +13,7 @@ ghost use Rattle.command_line.specs.Stated.{IsMissing, IsStatedForm, StatesFlag}
 ghost use Rattle.command_line.specs.StatedNotes.{StatesNotes};
 ghost use Rattle.command_line.specs.StatedNumbers.{StatesNumbers};
 
-use crate::arguments::{AGAIN, ALL, COPY, GSI, OTHERS, SHEET, STATED_TABLE, STATION, TABLE};
+use crate::arguments::{AGAIN, ALL, COPY, GSI, JSON, OTHERS, SHEET, STATED_TABLE, STATION, TABLE};
 use crate::count_option::CountOption;
 use crate::found::{
     beginnings_of, count_of, decimals_of, digests_of, form_of, has_flag, limits_of, residual_of,
@@ -30,6 +30,7 @@ use clap::ArgMatches;
 use direction_table::{AngleUnit, TableForm};
 use job_statements::{Stated, StatedNumber};
 use report_notes::Notes;
+use row_forms::RowForm;
 use station_book::{Limits, ResultLimits};
 use std::alloc::{AllocError, Global};
 
@@ -141,11 +142,13 @@ fn differences_request<'a>(found: &ArgMatches<'a>) -> Option<Request<'a, &'a str
         file: found.get_str(TABLE)?,
         form: table_form_of(found)?,
     };
-    let form = row_form_of(found);
-    Some(Request::Table {
-        beside,
-        text: TableText::Differences { form },
-    })
+    let text = match (has_flag(found, JSON), row_form_of(found)) {
+        (false, form) => TableText::Differences { form },
+        (true, RowForm::Commas) => TableText::JsonLines,
+        // Decimal commas, which JSON does not have.
+        (true, RowForm::Semicolons) => return None,
+    };
+    Some(Request::Table { beside, text })
 }
 
 fn directions_request<'a>(found: &ArgMatches<'a>) -> Option<Request<'a, &'a str, &'a str>>

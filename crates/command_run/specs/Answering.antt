@@ -63,7 +63,7 @@ use Rattle.station_record.specs.declared.named.NamedReader.{NamedReader}
 use Rattle.table_answers.specs.Comparisons.{IsCompareRun}
 use Rattle.table_answers.specs.Printing.{PrintsReport, PrintsText}
 use Rattle.table_answers.specs.Runs.{IsTableRun}
-use Rattle.table_answers.specs.Saying.{SaysDifferences, SaysTableReport}
+use Rattle.table_answers.specs.Saying.{SaysDifferences, SaysJsonLines, SaysTableReport}
 use Rattle.table_answers.specs.Telling.{RunTold}
 use Rattle.table_report.specs.Stating.{ReportAsked}
 
@@ -143,6 +143,10 @@ PrintsBeside files out err its (table_text.Comparison within digests.Printed) st
 PrintsBeside {F} files out err its (table_text.Differences rows) status =
     (table' : F) × IsTakenIn files its.station.gsi.reader (λ gsi. RunTold {A = ⊤}
     (IsTableRun (SaysDifferences its.form rows) PrintsText its.form its.station.limits gsi
+    (change_of files its.file.reader table') its.station.name.now) status out err)
+PrintsBeside {F} files out err its table_text.JsonLines status =
+    (table' : F) × IsTakenIn files its.station.gsi.reader (λ gsi. RunTold {A = ⊤}
+    (IsTableRun (SaysJsonLines its.form) PrintsText its.form its.station.limits gsi
     (change_of files its.file.reader table') its.station.name.now) status out err)
 PrintsBeside {F} files out err its (table_text.Report within digests.Omitted notes) status =
     (table' : F) × IsTakenIn files its.station.gsi.reader (λ gsi. RunTold {A = ⊤}

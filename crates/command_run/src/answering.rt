@@ -37,7 +37,7 @@ use station_record::{
 };
 use station_report::Head;
 use std::alloc::Global;
-use table_answers::{Differences, run_compare, run_table_answer};
+use table_answers::{Differences, JsonLines, run_compare, run_table_answer};
 use table_report::Asked;
 
 /// The exit status of a request. All its files are opened before any is read, the field file first.
@@ -541,6 +541,16 @@ fn print_beside<F: Source, W: Sink, E: Sink>(
                 err,
             )
         }
+        TableText::JsonLines => run_table_answer(
+            alloc,
+            gsi.reader,
+            &mut table.reader,
+            name,
+            limits,
+            &JsonLines { form },
+            out,
+            err,
+        ),
         TableText::Report {
             within,
             digests,

@@ -5,6 +5,7 @@ pub mod Differences
 pub mod Medians
 pub mod ByAdjustment
 pub mod DifferenceTexts
+pub mod JsonLines
 pub mod Stating
 -- The inside.
 pub mod Angles

@@ -4,6 +4,7 @@ use Rattle.station_book.specs.Stations.{SurveyedStation}
 use Rattle.station_book.specs.declared.result_limits.ResultLimits.{ResultLimits}
 use Rattle.row_forms.specs.declared.form.RowForm.TheVariants.{Commas}
 use Rattle.station_differences.proofs.TextLaws.{one_text}
+use Rattle.station_differences.specs.DifferenceTexts.{differences_text}
 use Rattle.table_answers.specs.OneCompared.{one_compared}
 use Rattle.table_answers.specs.Wholes.{IsWhole, WholeValue, beyond_in, whole_text}
 use Rattle.table_report.proofs.OneReport.{one_of_table}
@@ -17,8 +18,8 @@ one_whole asked limits its bytes a b p q =
     one_compared asked.form its.station limits.residual bytes asked.within a.compared b.compared
     p.compares q.compares in
     let differences : p.differences ≡ q.differences =
-    one_text asked.form Commas its.station bytes p.differences q.differences p.are_differences
-    q.are_differences in
+    one_text (differences_text Commas) asked.form its.station bytes p.differences q.differences
+    p.are_differences q.are_differences in
     let reports = one_of_table asked limits its bytes
     (record { text = p.report; beyond = beyond_in a.compared })
     (record { text = q.report; beyond = beyond_in b.compared }) p.is_report q.is_report in

@@ -2,6 +2,7 @@
 ghost use Rattle.std.specs.Prelude.{ℕ, List};
 ghost use Rattle.byte_ends.specs.Writers.{writer_change};
 ghost use Rattle.station_differences.proofs.TextLaws.{one_text};
+ghost use Rattle.station_differences.specs.DifferenceTexts.{differences_text};
 ghost use Rattle.table_answers.specs.Printing.{PrintsText};
 ghost use Rattle.table_answers.specs.Saying.{SaysDifferences};
 
@@ -65,8 +66,8 @@ impl TableAnswer for Differences {
         Ok(())
     }
 
-    ghost one = { λ asked _ its bytes a b p q. one_text asked.form asked.rows its.station bytes a
-        b p q };
+    ghost one = { λ asked _ its bytes a b p q. one_text (differences_text asked.rows) asked.form
+        its.station bytes a b p q };
 
     ghost compares = { λ asked _ its bytes text p. record {
       directions = p.directions;

@@ -31,6 +31,7 @@ complete -c station_check -n '__fish_seen_subcommand_from compare differences di
 complete -c station_check -n '__fish_seen_subcommand_from compare report' -l within -x -d "How near the directions must be, as 0.05mgon: to 1000mgon, by 0.001; or in units of 0.001 mgon: 0 to 1000000"
 complete -c station_check -n '__fish_seen_subcommand_from compare report check' -l sha256 -d "Print the SHA-256 digest of each file after the answer"
 complete -c station_check -n '__fish_seen_subcommand_from differences directions report list' -l decimal-comma -d "Write semicolons between cells and commas in numbers, for a spreadsheet that is set to German or French: there -0.134 is read as -134. 'list' and 'report' need '--csv'"
+complete -c station_check -n '__fish_seen_subcommand_from differences' -l json -d "Print each target as a JSON object on a line of its own, and no titles"
 complete -c station_check -n '__fish_seen_subcommand_from directions report' -l all -d "Answer all stations of the file, in its order, in the place of one: of each what its own command prints"
 complete -c station_check -n '__fish_seen_subcommand_from directions' -l decimals -x -d "How many decimals of a gon a direction is written with: 1 to 8"
 complete -c station_check -n '__fish_seen_subcommand_from report' -l table -r -F -d "A table of directions, as 'compare' reads it, which stands beside the adjusted ones with the differences and whether it agrees"

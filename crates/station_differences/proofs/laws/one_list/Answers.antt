@@ -6,4 +6,4 @@ pub returns-clause-compared : goal.returns-clause-compared
 returns-clause-compared c = λ station stated a b p q. one_list station stated a b p q
 
 pub returns-clause-text : goal.returns-clause-text
-returns-clause-text c = λ form station bytes a b p q. one_text form station bytes a b p q
+returns-clause-text c = one_text
