@@ -6,3 +6,4 @@ pub mod FaceLaws
 pub mod FrontLaws
 pub mod ComputedLaws
 pub mod NoteLaws
+pub mod NotesApart
