@@ -95,7 +95,7 @@ class ReportTest(ProgramTest):
 
     def test_what_was_typed_stands_in_the_head(self):
         """As it was typed; but no note makes lines of its own, or moves what a terminal shows."""
-        keys = ["Project", "Ger\u00e4t", "K" * 21, "K" * 40, "a\nb", "\x1b[31m", " "]
+        keys = ["Project", "Ger\u00e4t", "K" * 21, "K" * 40, "a\nb", "\x1b[31m", " ", "Set up", "a  b"]
         texts = ["", "=", "Dam = north", "a\nSets                  9", "\\", "\u00e9" * 90, "\x7f"]
         for key, text in product(keys, texts):
             typed = [f"--note={key}={text}", f"--date={text}", f"--note={text or key}={key}", "--signature"]
@@ -110,10 +110,13 @@ class ReportTest(ProgramTest):
                 self.assertEqual(model.reported(STATION, bytes(EXAMPLE), b"S1", notes=notes), found)
 
     def test_a_label_of_the_head_is_no_note(self):
-        for label in model.OWN_LABELS:
-            status, printed, said = answer_of(["report", b"--note=%s=x" % label, EXAMPLE, "S1"])
-            self.assertEqual((2, b""), (status, printed))
-            self.assertIn(b"invalid value '%s=x' for '--note <KEY=TEXT>'" % label, said)
+        """Nor is one with blanks that would make its line that of the label."""
+        for label, form in product(model.OWN_LABELS, [b"%s", b"%s ", b"%-21s", b"%-22sS9", b" %s"]):
+            key = form % label
+            with self.subTest(key=key):
+                status, printed, said = answer_of(["report", b"--note=%s=x" % key, EXAMPLE, "S1"])
+                self.assertEqual((2, b""), (status, printed))
+                self.assertIn(b"invalid value '%s=x' for '--note <KEY=TEXT>'" % key, said)
 
     def test_the_first_fault_is_named(self):
         for name, file, station, fault in FAULTS:

@@ -4,10 +4,13 @@ use Rattle.std.specs.Prelude.{if◌then◌else◌}
 use Rattle.book_answers.specs.declared.arrangement.Arrangement.{Arrangement}
 use Rattle.book_answers.specs.declared.arrangement.Arrangement.TheVariants.{Pages, Rows}
 use Rattle.book_answers.specs.declared.arrangement.Arrangement.TheVariants.{NamedDirections}
-use Rattle.book_answers.specs.declared.arrangement.TheConstants.{FORM_FEED}
 use Rattle.csv.specs.Machine.{line_feed}
 use Rattle.list_rows.specs.RowPieces.{cell_text}
 use Rattle.row_forms.specs.declared.form.RowForm.TheVariants.{Commas, Semicolons}
+
+-- The byte that begins a page, a form feed.
+abbrev pub form_feed : ℕ
+form_feed = 12
 
 -- What stands after the first line of a text.
 unfoldable pub after_line : List ℕ → List ℕ
@@ -31,7 +34,7 @@ head arrangement = []
 -- each of its rows behind the cell of its name.
 abbrev pub piece : Arrangement → Bool → List ℕ × List ℕ → List ℕ
 piece Pages true own = own.1
-piece Pages false own = FORM_FEED ∷ own.1
+piece Pages false own = form_feed ∷ own.1
 piece Rows true own = own.1
 piece Rows false own = after_line own.1
 piece (NamedDirections form) first own = behind true (cell_text form own.0) own.1

@@ -174,8 +174,9 @@ columns_why = codes "two numbers of columns from 1, with a comma between, as 2,6
 
 -- What is told of a text that states no note.
 abbrev pub note_why : List ℕ
-note_why = codes "state KEY=TEXT, where KEY is not empty, and no label that the head has of its own, "
-    ++ codes "as 'Station'"
+note_why =
+    codes "state KEY=TEXT, where KEY is not empty, has blanks one at a time and none at an end, "
+    ++ codes "and is no label that the head has of its own, as 'Station'"
 
 -- The text of a mistake.
 abbrev pub mistake_text : Mistake → List ℕ

@@ -373,11 +373,12 @@ pub const NOTE_LONG_HELP: &str = "\
 Print a line in the head of the report: KEY, and in the column of the head TEXT, as it is
 typed. It may be stated several times, and the lines stand in this order:
 --note 'Project=Dam, epoch 7' --note Observer=Huber. KEY is what stands before the first
-=, and no label that the head has of its own";
+=, with blanks one at a time and none at an end, and no label that the head has of its own";
 
 /// What may be stated as a note.
 pub const NOTES: &str = "\
-state KEY=TEXT, where KEY is not empty, and no label that the head has of its own, as 'Station'";
+state KEY=TEXT, where KEY is not empty, has blanks one at a time and none at an end, and is no \
+label that the head has of its own, as 'Station'";
 
 pub const ROWS_ALONE: &str = "\
 '--csv' prints rows alone: not with '--table', how it is read, '--within', '--sha256', or \

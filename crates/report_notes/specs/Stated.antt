@@ -1,13 +1,27 @@
 -- The notes that texts state, as those of an option of a command line.
-use Rattle.std.specs.Prelude.{◌≡◌, ◌≢◌, ◌<◌, ◌==◌, ℕ, Bool, List, [], ◌∷◌, ◌++◌, ⊤, codes, length}
+use Rattle.std.specs.Prelude.{◌≡◌, ◌≢◌, ◌<◌, ◌==◌, ◌&&◌, ℕ, Bool, true, false, not, List, [], ◌∷◌}
+use Rattle.std.specs.Prelude.{◌++◌, ⊤, codes, if◌then◌else◌, length}
 use Rattle.std.specs.List.{AllZip, after_first, before_first, position_or_len}
 use Rattle.report_notes.specs.declared.notes.Note.{Note}
 use Rattle.report_notes.specs.declared.stated.Unnoted.{Unnoted}
 use Rattle.report_notes.specs.declared.stated.Unnoted.TheVariants as unnoted
 
--- A note may be of this: it is not empty, and no label that the head of a report has of its own.
+-- The blank.
+abbrev pub blank : ℕ
+blank = 32
+
+-- Whether blanks stand in a text one at a time, and at neither end; `after` is whether a blank
+-- stands before it, or nothing. A text without a byte has none that could stand so: it isn't.
+abbrev pub is_spaced : Bool → List ℕ → Bool
+is_spaced after [] = not after
+is_spaced after (byte ∷ text) =
+    if byte == blank then not after && is_spaced true text else is_spaced false text
+
+-- A note may be of this: it is not empty, it has blanks one at a time and inside alone, and it is no
+-- label that the head of a report has of its own. With blanks as the head has them after a label, a
+-- note would print the very line of that label.
 abbrev pub IsFree : List ℕ → Type 0
-IsFree key = (key ≢ []) × (key ≢ codes "Field file") × (key ≢ codes "Station")
+IsFree key = (is_spaced true key ≡ true) × (key ≢ codes "Field file") × (key ≢ codes "Station")
     × (key ≢ codes "Date") × (key ≢ codes "Sets") × (key ≢ codes "Targets")
     × (key ≢ codes "Two-face directions") × (key ≢ codes "Missing directions")
     × (key ≢ codes "Limit of 2c") × (key ≢ codes "Limit of 2i")

@@ -3,6 +3,7 @@ ghost use Rattle.std.specs.Prelude.{◌≡◌, ◌++◌, ◌∷◌, [], IfErr, I
 ghost use Rattle.std.specs.Prelude.{true, false, map};
 ghost use Rattle.report_notes.specs.Stated.{AddsNote, AreNoted, AreUnnoted, IsFree, IsUnnoted};
 ghost use Rattle.report_notes.specs.Stated.{StatesNote};
+ghost use Rattle.report_notes.specs.Stated as spec;
 ghost use Rattle.report_notes.specs.declared.notes.Note.{Note};
 ghost use Rattle.report_notes.specs.declared.stated.Unnoted.TheVariants.{Memory};
 
@@ -26,18 +27,34 @@ impl<'a> From<AllocError> for Unnoted<'a> {
     }
 }
 
-/// Whether a note may be of this: it is not empty, and no label that the head of a report has of its
-/// own.
+/// The blank.
+const BLANK: u8 = b' ';
+
+/// Whether blanks stand in a text one at a time, and at neither end; a text without a byte isn't so.
+fn is_spaced(text: &[u8]) -> bool
+    ensures { result ≡ spec.is_spaced true text.now }
+{
+    let mut after = true;
+    'bytes: for &byte in text {
+        if byte == BLANK && after {
+            return false;
+        }
+        after = byte == BLANK;
+    }
+    !after
+}
+
+/// Whether a note may be of this: it is not empty, it has blanks one at a time and inside alone, and
+/// it is no label that the head of a report has of its own.
 fn is_free(key: &str) -> bool
     ensures yes { result ≡ true → IsFree key.now }
     ensures no { result ≡ false → ¬ (IsFree key.now) }
 {
     match key {
-        "" => false,
         "Field file" | "Station" | "Date" | "Sets" | "Targets" => false,
         "Two-face directions" | "Missing directions" => false,
         "Limit of 2c" | "Limit of 2i" | "Limit of residuals" => false,
-        _ => true,
+        _ => is_spaced(key.as_bytes()),
     }
 }
 
@@ -80,8 +97,8 @@ fn add<'a>(notes: &mut Vec<Note<'a>>, text: &'a str) -> Result<(), Unnoted<'a>>
 ///
 /// # Errors
 ///
-/// The first text that states none, which has no `=`, nothing before it, or a label of the head of a
-/// report before it; or that memory ran out.
+/// The first text that states none, which has no `=`, or before it nothing, a blank at an end or
+/// beside another, or a label of the head of a report; or that memory ran out.
 pub fn notes_of<'a>(alloc: Global, texts: &[&'a str]) -> Result<Vec<Note<'a>>, Unnoted<'a>>
     ensures noted { IfOk result
         (λ notes. AreNoted (map (λ text. text.now) texts.now) notes.items) }

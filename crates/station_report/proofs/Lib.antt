@@ -7,3 +7,4 @@ pub mod FrontLaws
 pub mod ZenithLaws
 pub mod ComputedLaws
 pub mod NoteLaws
+pub mod NotesApart

@@ -1,6 +1,6 @@
 -- The lines of a report that say what it was told to note, and those at its end for a signature
 -- (profile: as forms have them).
-use Rattle.std.specs.Prelude.{ℕ, Bool, if◌then◌else◌, ◌-◌, List, [], ◌++◌, codes, nat_le}
+use Rattle.std.specs.Prelude.{◌≡◌, ◌⊎◌, ℕ, Bool, if◌then◌else◌, ◌-◌, List, [], ◌++◌, codes, nat_le}
 use Rattle.std.specs.Prelude.{nat_lt, ◌||◌, Option, Some, None, replicate}
 use Rattle.std.specs.List.{count_by, flat_map}
 use Rattle.std.specs.Borrow.{Bor}
@@ -42,6 +42,14 @@ characters_of text = count_by begins_character text
 abbrev pub label_text : List ℕ → List ℕ
 label_text label =
     label ++ (replicate (21 - characters_of label) blank ++ codes " ")
+
+-- A label that the head has of its own: a line begins with it, in a column of 22.
+abbrev pub IsOwnLabel : List ℕ → Type 0
+IsOwnLabel label = (label ≡ codes "Field file") ⊎ (label ≡ codes "Station")
+    ⊎ (label ≡ codes "Date") ⊎ (label ≡ codes "Sets") ⊎ (label ≡ codes "Targets")
+    ⊎ (label ≡ codes "Two-face directions") ⊎ (label ≡ codes "Missing directions")
+    ⊎ (label ≡ codes "Limit of 2c") ⊎ (label ≡ codes "Limit of 2i")
+    ⊎ (label ≡ codes "Limit of residuals")
 
 -- The line of a note: what it is of, and what is said of that, each as it was typed, but with its
 -- control bytes escaped as those of a path, so that no note makes lines of its own.

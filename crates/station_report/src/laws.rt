@@ -1,5 +1,5 @@
 //! Laws of the definitions that contracts cite. The functions do nothing.
-ghost use Rattle.std.specs.Prelude.{◌≡◌, ◌≤◌, ℕ, ℤ, pos, ◌+ℤ◌, List, Option, length};
+ghost use Rattle.std.specs.Prelude.{◌≡◌, ◌≢◌, ◌≤◌, ℕ, ℤ, pos, ◌+ℤ◌, List, Option, length};
 ghost use Rattle.adjust_kernel.specs.Matching.{Key};
 ghost use Rattle.adjust_kernel.specs.Stations.{StationValue};
 ghost use Rattle.station_book.specs.Faults.{angles_at};
@@ -7,6 +7,9 @@ ghost use Rattle.station_book.specs.Limits.{AreLimits, FaceLimits};
 ghost use Rattle.station_book.specs.Places.{History};
 ghost use Rattle.station_book.specs.Recorded.{IsRecordedWith};
 ghost use Rattle.station_book.specs.declared.faces.Faces.{Faces};
+ghost use Rattle.report_notes.specs.Stated.{IsFree};
+ghost use Rattle.station_report.specs.NoteTexts.{IsOwnLabel, note_text};
+ghost use Rattle.station_report.specs.ReportTexts.{entry_text};
 ghost use Rattle.station_report.specs.Readings.{reading_one, reading_two, zenith_mean};
 ghost use Rattle.station_report.specs.Readings.{zenith_one, zenith_two};
 ghost use Rattle.station_report.specs.Stating.{IsComputed};
@@ -50,4 +53,11 @@ pub fn one_computed()
         (m n : ℕ) (d e : Option Accuracy)
         → IsComputed station ds rs m d → IsComputed station es ss n e
         → (ds ≡ es) × (rs ≡ ss) × (m ≡ n) × (d ≡ e) }
+{}
+
+/// No note that may be stated prints a line that the head has under a label of its own, whatever
+/// that line says.
+pub fn notes_apart()
+    ensures { (label key said entry : List ℕ) → IsOwnLabel label → IsFree key
+        → note_text key said ≢ entry_text label entry }
 {}
