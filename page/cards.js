@@ -671,10 +671,6 @@ function showDigests(/** @type {Card} */ card, /** @type {Element} */ parent) {
   }
 }
 
-/** By what a card is known, whatever else is answered. */
-export const keyOfCard = (/** @type {Card} */ { file, title }) =>
-  `${originalOf(file).shown} ${title}`;
-
 /**
  * Shows a card.
  * @param {Card} card

@@ -63,6 +63,10 @@ SMALLEST_LETTER = 11
 # page/README.md has times that were measured.
 LARGE, SOON, HELD = (400, 40, 10), 20_000, 1_500
 
+# Stations, sets and targets of a file of many stations, one of these that is in sight, and the parts of
+# lists that one slice of a drawing has at most.
+MANY, NTH, SLICE = (400, 2, 5), 200, 40
+
 # Stations, sets and targets of a wide station, for print.
 WIDE = (1, 40, 30)
 
@@ -170,7 +174,7 @@ PLAIN_TEXTS = """(() => {
   const walk = document.createTreeWalker(document.body, NodeFilter.SHOW_TEXT), found = [];
   while (walk.nextNode()) {
     const node = walk.currentNode, parent = node.parentElement;
-    if (parent.closest('script, style, noscript, pre, code, samp, [lang=en]:not(html), .name, tbody, option'))
+    if (parent.closest('script, style, noscript, pre, code, samp, [lang=en][translate=no], .name, tbody, option'))
       continue;
     if (!parent.checkVisibility()) continue;
     let left = node.data, before;
@@ -222,6 +226,14 @@ WATCH = """{
   }, 20);
 }"""
 
+
+# How many cards and rows of their table each task puts into the page.
+SLICES = """{
+  slices = [];
+  const isPart = one => one instanceof Element && one.matches('.card, #overview tbody tr');
+  new MutationObserver(all => slices.push(all.flatMap(one => [...one.addedNodes]).filter(isPart).length))
+    .observe($('main'), { childList: true, subtree: true });
+}"""
 
 # Stops the work once, when it comes to the file of a name.
 STOP_AT = (
@@ -1662,7 +1674,7 @@ class PageInBrowserTest(TimedTest):
         page = self.page(self.file("wide.gsi", bench.field_file(bench.Shape("wide", *WIDE)).encode()))
         pages = self.printed(page)
         text = "".join(pages)
-        shown = " ".join(page.texts(".results td > span:first-child, #protocol .across .caption, #protocol .picture text"))
+        shown = " ".join(page.texts(".results td, #protocol .across .caption, #protocol .picture text"))
         values = re.compile(r"(?<![\d.])[+\u2212]\d+\.\d\d\d?(?!\d)")
         self.assertEqual(Counter(values.findall(shown)), Counter(values.findall(text)))
         for number, one in enumerate(pages, 1):
@@ -2171,6 +2183,35 @@ class PageInBrowserTest(TimedTest):
         self.assertLess(page.js("performance.now()") - start, SOON)
         self.assertEqual(LARGE[0], len(page.texts(".card")))
         self.assertLess(page.js("longest"), HELD)
+
+    def test_many_stations_are_drawn_slice_by_slice_and_first_what_is_in_sight(self):
+        """With another language and another limit what the user did stays, and where it was."""
+        page, card = self.page(), f"document.querySelectorAll('.card')[{NTH}]"
+        page.js(SLICES)
+        page.give(self.file("many.gsi", bench.field_file(bench.Shape("many", *MANY)).encode()))
+        self.assertEqual(MANY[0], len(page.texts(".card")))
+        self.assertEqual(2 * MANY[0], sum(page.js("slices")))
+        page.js(f"{card}.querySelector('.results').open = true; {card}.scrollIntoView(); {card}.querySelector('summary').focus()")
+        page.settle()
+        look = f"[{card}.querySelector('.filled') !== null, document.activeElement === {card}.querySelector('summary'), {card}.querySelector('h2').textContent]"
+        before, top = page.js(look), page.js(f"{card}.getBoundingClientRect().top")
+        self.assertEqual([True, True], before[:2])
+        drawn = page.js(f"(languages.value = 'de', languages.onchange(), [{card}, {card}.parentElement.lastChild].map(one => one.lang))")
+        self.assertEqual(["de", "en"], drawn)
+        page.settle()
+        self.assertEqual({"de"}, {*page.js("[...document.querySelectorAll('.card')].map(one => one.lang)")})
+        self.assertEqual(before, page.js(look))
+        page.fill("within", "0.5")
+        self.assertEqual(before, page.js(look))
+        self.assertAlmostEqual(top, page.js(f"{card}.getBoundingClientRect().top"), delta=2)
+        self.assertGreaterEqual(sum(page.js("slices")), 6 * MANY[0])
+        self.assertLessEqual(max(page.js("slices")), SLICE)
+        # As long as some are those of an earlier state, none can be used.
+        stale = "$('answered').matches('.stale')"
+        self.assertTrue(page.js(f"go({{ cards: now.cards.map(one => ({{ ...one }})) }}), {stale}"))
+        page.settle()
+        self.assertFalse(page.js(stale))
+        self.assertEqual([], page.complaints())
 
     def test_what_is_stopped_leaves_nothing_green_that_was_not_judged(self):
         """A file of a station that was not reached, and one whose field file was not."""
