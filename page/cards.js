@@ -151,6 +151,7 @@ function askColumns(table, { verdict }, desk, parent) {
  */
 const PROPOSED = {
   lastSet: ['proposedLastSet', 'leaveLastSetOut'], closing: ['proposedClosing', 'leaveClosingOut'],
+  before: ['proposedBefore', 'leaveBeforeOut'],
 };
 
 /**

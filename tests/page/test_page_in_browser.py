@@ -368,6 +368,20 @@ class PageInBrowserTest(TimedTest):
         self.assertEqual(["read", "Station P7"], self.cards(page)[0][:2])
         self.assertEqual([], page.complaints())
 
+    def test_sights_before_the_first_set_up_line_are_proposed_and_no_name_is_asked_for(self):
+        """As those of a resection: a line further on names the station."""
+        page = self.page(self.file("free.gsi", sights_of("ABab|ABCcbaABCcba")))
+        self.assertEqual([["open", "free.gsi", NOTHING_RECOGNIZED]], self.cards(page))
+        self.assertEqual("refused: block 1: mark: NoSetUp", page.text(".exact samp"))
+        buttons = ["Leave this line out", "Rename", "Leave these readings out"]
+        self.assertEqual(buttons, page.texts("#answers form button"))
+        self.assertEqual(["1", "2", "3", "4"], page.texts(".proposal .number"))
+        self.changed(page, buttons[-1], "resection")
+        said = "blocks 1\u20134 left out, before the first set-up line: resection "
+        self.assertEqual([said], page.js("[...document.querySelectorAll('.changes > li')].map(one => one.firstChild.data)"))
+        self.assertEqual([["read", "Station P7", "Read without a fault: 2 sets, 3 targets, 6 directions."]], self.cards(page))
+        self.assertEqual([], page.complaints())
+
     def test_what_else_was_changed_stays_and_lines_have_the_numbers_of_the_field_file(self):
         """A reading that was cut short, and then a last set that was broken off."""
         first, *others = sights_of("|ABCcbaABCc").splitlines(keepends=True)
