@@ -158,7 +158,7 @@ async function cardsWithoutSets(field, readings, limits) {
   const marked = await answerOfMark(field, field.station);
   if (isWithoutName(marked)) return [{ ...card, ...await tried(marked) }];
   if (!marked.other) return [{ ...card, marked, recognized: toldBeside(marked) }];
-  const told = recognizedIn(marked.line), cards = await cardsOfField(marked.other, limits);
+  const { told = [] } = marked, cards = await cardsOfField(marked.other, limits);
   return cards.map((one, nth) => {
     const recognized = told.filter(({ station, sets }) =>
       sets === 0 ? nth === 0 : !one.station || station === one.title);
@@ -253,6 +253,7 @@ async function answerOfMark(field, station = '') {
   // At a refusal its line comes after what is told of each station.
   const text = status === ACCEPTED ? beside : beside.trimEnd().split('\n').at(-1) ?? '';
   const told = recognizedIn(beside);
+  for (const one of told) if (one.fault) one.explanation = await explanationOf(one.fault);
   const answer = await answered({ status, text }, { asked: 'mark', command, field, told });
   if (isOf(answer, 'NoSuchStation') && forgets(field, told)) return answerOfMark(field, station);
   if (status !== ACCEPTED) return answer;

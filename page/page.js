@@ -121,6 +121,18 @@ function drawVerdict() {
     });
   });
   part.className = said[0].mood;
+  document.title = [...answerInShort(said), NAME].join(' \u2013 ');
+}
+
+/** What the page is called where nothing is answered, and not printed. */
+const NAME = document.title;
+
+/** What the tab of the browser says of the answers, before the name of the page. */
+function answerInShort(/** @type {{ said: string, isLeading?: boolean }[]} */ said) {
+  const { phase, cards } = now, [card] = cards;
+  if (phase.is !== 'done' || !card) return [];
+  return cards.length > 1 ? [said.map(one => one.said).join(text('between'))]
+    : [text('labelled', { label: text(MOODS[card.mood]), said: titleOf(card) })];
 }
 
 /** Leads to a card, or to what it asks for. */
@@ -399,6 +411,11 @@ function loaded(/** @type {Card[]} */ cards) {
 /** What the cards ask of the page. */
 const desk = {
   get limits() { return now.limits; },
+  /** @type {import('./cards.js').Desk['called']} */
+  called(card) {
+    const isAlone = now.cards.filter(({ title }) => title === card.title).length === 1;
+    return isAlone ? card.title : nameOfProtocol(card);
+  },
   async load(/** @type {StationCard} */ card) {
     if (now.cards.includes(card) && !now.loading.includes(card)) await loaded([card]);
   },
@@ -445,12 +462,13 @@ const desk = {
   },
 };
 
-/** What the page is called while it isn't printed. */
-const UNPRINTED = document.title;
+/** What the page was called before it was printed. */
+let unprinted = NAME;
 
 onbeforeprint = () => {
   const { inputs, limits, only } = now, cards = isStale() ? [] : now.cards;
   const [alone] = only ? [only] : cards.length === 1 ? cards : [];
+  unprinted = document.title;
   // (by its title the file is called that a browser prints to)
   if (inputs.length > 0)
     document.title = alone ? nameOfProtocol(alone) : text('contents', { n: inputs.length });
@@ -459,7 +477,7 @@ onbeforeprint = () => {
   else if (inputs.length > 0)
     showProtocols(inputs, cards, limits, $('verdict').textContent ?? '', $('protocol'));
 };
-onafterprint = () => { document.title = UNPRINTED; };
+onafterprint = () => { document.title = unprinted; };
 
 // ---------------------------------------------------------------- files
 

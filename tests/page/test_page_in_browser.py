@@ -869,7 +869,7 @@ class PageInBrowserTest(TimedTest):
         page = self.page(self.file("others.gsi", job))
         self.assertEqual([["open", "others.gsi", NOTHING_RECOGNIZED]], self.cards(page))
         self.assertIn("Station P1: 1 set, 2 targets, from A to B. No reading stays outside.", page.text(".card"))
-        told = "Station P2: not recognized, block 9: FaceMissing. Its 3 readings stay outside"
+        told = "Station P2: not recognized, block 9: A target is read in one face only before the next set begins. Its 3 readings stay outside"
         self.assertIn(told, page.text(".card"))
         with page.answered():
             page.press("Leave the stations that are not recognized outside")
@@ -896,7 +896,7 @@ class PageInBrowserTest(TimedTest):
         for name in wrong:
             self.state_name(page, name)
             self.assertIn("A station cannot have this name", page.text(".card"))
-            self.assertEqual("open", self.cards(page)[0][0])
+            self.assertEqual([["open", "plain.gsi", NOTHING_NAMED]], self.cards(page))
         self.state_name(page, "P7")
         self.assertEqual(["read", "Station P7"], self.cards(page)[0][:2])
 
@@ -1861,10 +1861,28 @@ class PageInBrowserTest(TimedTest):
     def test_what_is_printed_is_called_by_its_field_file_and_its_station(self):
         page = self.page(P7_FIELD, P7_SHEET)
         names = [page.js("document.title"), page.js("(onbeforeprint(), document.title)"), page.js("(onafterprint(), document.title)")]
-        self.assertEqual(["station_check", "station_p7_P7", "station_check"], names)
+        title = "Computed rightly: Station P7 \u2013 station_check"
+        self.assertEqual([title, "station_p7_P7", title], names)
         page.give(FIELD)
         self.assertEqual("Check of 3 files", page.js("(onbeforeprint(), document.title)"))
         self.assertEqual("station_s1_S1", page.js("(now.only = now.cards[1], onbeforeprint(), now.only = undefined, document.title)"))
+
+    def test_the_tab_says_what_came_of_all_files(self):
+        page = self.page()
+        for files, said in [((), ""), ((P7_FIELD,), "Not compared: Station P7 \u2013 "), ((FIELD, P7_SHEET), "1 read, not compared; 1 computed rightly \u2013 ")]:
+            if files:
+                page.give(*files)
+            self.assertEqual(f"{said}station_check", page.js("document.title"))
+        self.speak(page, "de")
+        self.assertEqual("1 gelesen, nicht verglichen; 1 richtig berechnet \u2013 station_check", page.js("document.title"))
+        page.fill("two-c", "x")
+        self.assertEqual("station_check", page.js("document.title"))
+
+    def test_what_is_saved_of_two_stations_of_one_name_is_told_apart(self):
+        page = self.page(P7_FIELD, self.file("monday.gsi", P7_FIELD.read_bytes()))
+        self.assertTrue(page.saved("Save directions (CSV)", "station_p7_P7_directions.csv"))
+        page.js("document.querySelectorAll('.card')[0].remove()")
+        self.assertTrue(page.saved("Save directions (CSV)", "monday_P7_directions.csv"))
 
     def test_each_table_has_one_caption_and_each_verdict_is_a_heading(self):
         page = self.page(P7_FIELD, P7_SHEET, self.file("four.csv", FOUR_DECIMALS))
