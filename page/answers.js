@@ -21,10 +21,12 @@ import { zenithsOf } from './zeniths.js';
  * The answer of a command: its line or text, the fault in the words of the program where it is a
  * refusal, the greatest residual where it accepts a sheet, the verdict on a table in fields, with the
  * text of the differences where it was compared and the note of one that was read by a pair of its
- * columns, what it told of each station where it puts codes in.
+ * columns, what it told of each station where it puts codes in, and whether there a line further on
+ * sets up a station.
  * @typedef {{ command: string, asked: string, status: number, line: string, explanation: string,
  *   field: Input, other?: Input, station?: Station, greatest?: import('./records.js').Residual,
- *   verdict?: import('./records.js').Verdict, differences?: string, note?: string, told?: import('./records.js').Recognized[] }} Answer
+ *   verdict?: import('./records.js').Verdict, differences?: string, note?: string,
+ *   told?: import('./records.js').Recognized[], isSetUpLater?: boolean }} Answer
  * What came of the limit of residuals, to which each station is held: whether it is kept, the
  * residuals of which that was seen, with the greatest, and the command by which the program itself
  * holds the station to it. An accepted sheet was held to it by its own call, and so was one that
@@ -156,7 +158,7 @@ async function cardsWithoutSets(field, readings, limits) {
   const marked = await answerOfMark(field, field.station);
   if (isWithoutName(marked)) return [{ ...card, ...await tried(marked) }];
   if (!marked.other) return [{ ...card, marked, recognized: toldBeside(marked) }];
-  const told = recognizedIn(marked.line), cards = await cardsOfField(marked.other, limits);
+  const { told = [] } = marked, cards = await cardsOfField(marked.other, limits);
   return cards.map((one, nth) => {
     const recognized = told.filter(({ station, sets }) =>
       sets === 0 ? nth === 0 : !one.station || station === one.title);
@@ -170,7 +172,7 @@ const isOf = (/** @type {Answer} */ { explanation }, /** @type {string} */ fault
 
 /** Whether codes could not be put in since nothing names the station. */
 export const isWithoutName = (/** @type {Answer} */ answer) =>
-  !answer.field.station && isOf(answer, 'NoSetUp');
+  !answer.field.station && !answer.isSetUpLater && isOf(answer, 'NoSetUp');
 
 /** Whether the number of sets, or of targets, has to be stated. */
 export const isUncounted = (/** @type {Answer} */ answer) => isOf(answer, 'ByTargets');
@@ -189,7 +191,9 @@ export const isTwice = (/** @type {Answer} */ answer) => isOf(answer, 'StationTw
  */
 async function tried(marked) {
   const answer = await answerOfMark(marked.field, NAME_TO_TRY);
-  return answer.status === ACCEPTED ? { marked, recognized: recognizedIn(answer.line) }
+  // (then what stands before that line is in the way, and no name is missing)
+  if (isOf(answer, 'HasSetUp')) return { marked: { ...marked, isSetUpLater: true } };
+  return answer.status === ACCEPTED ? { marked, recognized: answer.told }
     : { marked: answer, recognized: toldBeside(answer) };
 }
 
@@ -249,6 +253,7 @@ async function answerOfMark(field, station = '') {
   // At a refusal its line comes after what is told of each station.
   const text = status === ACCEPTED ? beside : beside.trimEnd().split('\n').at(-1) ?? '';
   const told = recognizedIn(beside);
+  for (const one of told) if (one.fault) one.explanation = await explanationOf(one.fault);
   const answer = await answered({ status, text }, { asked: 'mark', command, field, told });
   if (isOf(answer, 'NoSuchStation') && forgets(field, told)) return answerOfMark(field, station);
   if (status !== ACCEPTED) return answer;

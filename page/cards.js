@@ -32,12 +32,13 @@ import { text } from './texts.js';
  * @typedef {import('./answers.js').ReadyCard} ReadyCard
  * @typedef {import('./answers.js').UnmarkedCard} UnmarkedCard
  * @typedef {import('./answers.js').Answer} Answer
- * What a card asks of the page: the limits, to load its results, what its protocol says of what
- * else was handed in, to print it, to name the station of a field file, or the code whose blocks
+ * What a card asks of the page: the limits, what is saved of it is called, to load its results, what
+ * its protocol says of what else was handed in, to print it, to name the station of a field file, or the code whose blocks
  * begin its stations, to state the numbers of sets and targets of stations, what one is whose name
  * comes again, that stations that aren't recognized stay outside, by which columns a table is to be
  * read, or to have lines changed in a copy, which answers why that can't be.
- * @typedef {{ limits: import('./limits.js').Limits, load: (card: StationCard) => Promise<void>,
+ * @typedef {{ limits: import('./limits.js').Limits, called: (card: StationCard) => string,
+ *   load: (card: StationCard) => Promise<void>,
  *   beside: (card: Card) => string[], print: (card: Card) => void,
  *   name: (field: Input, station: string) => void,
  *   begin: (field: Input, code: string) => void,
@@ -151,6 +152,7 @@ function askColumns(table, { verdict }, desk, parent) {
  */
 const PROPOSED = {
   lastSet: ['proposedLastSet', 'leaveLastSetOut'], closing: ['proposedClosing', 'leaveClosingOut'],
+  before: ['proposedBefore', 'leaveBeforeOut'],
 };
 
 /**
@@ -359,7 +361,8 @@ function ofReport({ station, field }, limits) {
  * @param {Element} parent
  */
 function showButtons(card, desk, parent) {
-  const { station, results, field } = card, { listed } = station, name = listed.name;
+  const { station, results, field } = card, { listed } = station, { name } = listed;
+  const called = desk.called(card);
   const part = element('div', '', parent, { className: 'buttons' });
   button(text('printProtocol'), part, () => desk.print(card), 'button primary');
   const menu = menuOf(text('save'), part);
@@ -384,26 +387,26 @@ function showButtons(card, desk, parent) {
   offer('saveProtocol', protocol, () => protocolFile(card, desk.limits, desk.beside(card)),
     'text/html');
   if (results.directions.status === ACCEPTED)
-    offer('saveDirections', `${name}_directions.csv`, () => `${results.directions.line}\n`);
+    offer('saveDirections', `${called}_directions.csv`, () => `${results.directions.line}\n`);
   if (results.residuals.status === ACCEPTED) {
     const { line } = results.residuals, title = text('residualsOf', { name });
     const origin = [field.name, text('digest', { digest: field.digest })];
-    offer('saveResiduals', `${name}_residuals.csv`, () => `${line}\n`);
+    offer('saveResiduals', `${called}_residuals.csv`, () => `${line}\n`);
     const deviation = results.accuracy?.deviation ?? '';
     const picture = () => pictureFile(title, origin, residualsIn(line), deviation);
-    offer('savePicture', `${name}_residuals.svg`, picture, 'image/svg+xml');
+    offer('savePicture', `${called}_residuals.svg`, picture, 'image/svg+xml');
   }
   if (results.report.status === ACCEPTED) {
     const content = () => `${results.report.line}\n`;
     const more = () => ofReport(card, desk.limits);
-    offer('saveReport', `${name}_report.txt`, content, 'text/plain', more);
+    offer('saveReport', `${called}_report.txt`, content, 'text/plain', more);
   }
   for (const { differences, other } of card.answers) {
     const file = `${stemOf(other ?? field)}_differences.csv`;
     if (differences) offer('saveDifferences', file, () => differences);
   }
-  offer('saveFaces', `${name}_faces.csv`, () => facesFile(station));
-  if (isComplete(listed)) offer('saveMeans', `${name}.csv`, async () => {
+  offer('saveFaces', `${called}_faces.csv`, () => facesFile(station));
+  if (isComplete(listed)) offer('saveMeans', `${called}.csv`, async () => {
     const { status, text: sheet } = await meansOf(station, desk.limits);
     if (status !== ACCEPTED) said.textContent = sheet.trimEnd();
     return status === ACCEPTED ? sheet : null;
@@ -630,7 +633,7 @@ function showUnmarked(card, desk, parent) {
   if (!isAsked && field.station) askName(field, desk, 'changeName', parent);
   if (!isAsked && field.code) askCode(field, desk, 'changeCode', parent);
   const outside = text('outside', { n: card.readings ?? 0 });
-  if (!recognized) element('p', outside, parent, { className: 'quiet' });
+  if (!recognized && !isWrong) element('p', outside, parent, { className: 'quiet' });
   showCommand(marked, parent);
 }
 
@@ -670,10 +673,6 @@ function showDigests(/** @type {Card} */ card, /** @type {Element} */ parent) {
     ofProgram('code', text('digest', { digest }), item);
   }
 }
-
-/** By what a card is known, whatever else is answered. */
-export const keyOfCard = (/** @type {Card} */ { file, title }) =>
-  `${originalOf(file).shown} ${title}`;
 
 /**
  * Shows a card.

@@ -77,7 +77,7 @@ export const stillOf = (changes, before, now) => changes.filter(({ block }) =>
   lineOf(before, block).join() === lineOf(now, block).join());
 
 /** What is said of a line that is left out as the page proposed it. */
-const OUT = { lastSet: 'lineOutOfSet', closing: 'lineOutClosing' };
+const OUT = { lastSet: 'lineOutOfSet', closing: 'lineOutClosing', before: 'lineOutBefore' };
 
 /** Numbers in their order, those that follow each other as a range: `5, 9-11`. */
 function rangesOf(/** @type {number[]} */ numbers) {

@@ -62,17 +62,28 @@ export function menuOf(content, parent) {
  */
 
 function cellOf(/** @type {Cell} */ { text: content, mark = '', bar }, /** @type {Element} */ row) {
-  const cell = element('td', '', row, { className: mark });
-  element('span', content, cell);
+  const cell = element('td', bar === undefined ? content : '', row, { className: mark });
   if (bar === undefined) return;
+  element('span', content, cell);
   const line = element('span', '', cell, { className: bar < 0 ? 'bar below' : 'bar' });
   line.style.setProperty('--part', String(Math.abs(bar)));
   line.setAttribute('aria-hidden', 'true');
 }
 
 /**
- * Makes a table with these headings and rows, whose first cells are headings too. It can be
- * scrolled where it is wider than the page.
+ * Makes a row of a table, whose first cell is a heading.
+ * @param {[string, ...Cell[]]} cells
+ * @param {Element} parent
+ */
+export function rowOf([first, ...cells], parent) {
+  const row = element('tr', '', parent);
+  element('th', first, row, { scope: 'row' });
+  for (const cell of cells) cellOf(cell, row);
+  return row;
+}
+
+/**
+ * Makes a table with these headings and rows. It can be scrolled where it is wider than the page.
  * @param {string} caption
  * @param {string[]} headings
  * @param {[string, ...Cell[]][]} rows
@@ -80,15 +91,11 @@ function cellOf(/** @type {Cell} */ { text: content, mark = '', bar }, /** @type
  */
 export function tableOf(caption, headings, rows, parent, className = '') {
   const around = element('div', '', parent, { className: 'wide' });
-  const table = element('table', '', around, { className });
+  const table = /** @type {HTMLTableElement} */ (element('table', '', around, { className }));
   element('span', caption, element('caption', '', table, { className: 'caption' }));
   const head = element('tr', '', element('thead', '', table)), body = element('tbody', '', table);
   for (const heading of headings) element('th', heading, head, { scope: 'col' });
-  for (const [first, ...cells] of rows) {
-    const row = element('tr', '', body);
-    element('th', first, row, { scope: 'row' });
-    for (const cell of cells) cellOf(cell, row);
-  }
+  for (const row of rows) rowOf(row, body);
   return table;
 }
 

@@ -41,7 +41,3 @@ export function toldOf(/** @type {string} */ explanation) {
     todo: typeset(todo), isByCopy: / a copy/.test(texts.en?.[name]?.todo),
   };
 }
-
-/** What the fault of a name is, where the language says it; else its name. */
-export const nameOrWhat = (/** @type {string} */ name) =>
-  typeset(texts[spoken()]?.[name]?.what ?? `${name}.`);

@@ -45,6 +45,9 @@ import { each, recordsOf } from './records.js';
 /** So many bytes at the beginning of a file tell what it is. */
 export const HEAD = 4096;
 
+/** So many bytes of a sheet have the station of its first row: it is asked for again and again. */
+const FIRST_ROW = 256;
+
 /** The first two bytes of a text in UTF-16, in either order. */
 const UTF16_MARKS = [0xfffe, 0xfeff];
 
@@ -148,7 +151,7 @@ export function kindOf(/** @type {string} */ name, /** @type {Uint8Array} */ byt
 
 /** The station that a sheet is of, by its first row. */
 export function stationOfSheet(/** @type {Input} */ sheet) {
-  const text = textOf(sheet.bytes), separator = text.match(SHEET)?.[1];
+  const text = textOf(sheet.bytes.subarray(0, FIRST_ROW)), separator = text.match(SHEET)?.[1];
   return recordsOf(text, separator)[0]?.fields[2] ?? '';
 }
 

@@ -65,18 +65,24 @@ async function filesOfPath(one, before = '') {
   return all.length > 0 || before ? all : [{ path: `${path}/` }];
 }
 
+/** What ends the name of a file, and of hardly any folder. */
+const ENDING = /\.[a-z]\w*$/i;
+
 /**
- * What is dropped. The browser tells it only as long as it is, so all is asked for at once.
+ * What is dropped. The browser tells it only as long as it is, so all is asked for at once: for an
+ * entry, which takes long, only where there is no handle, or where that may be refused for a folder.
  * @param {DataTransfer} transfer
  * @returns {Promise<Given[]>}
  */
 export async function dropped(transfer) {
   const items = /** @type {any[]} */ ([...transfer.items]).filter(({ kind }) => kind === 'file');
-  const asked = items.map(item => ({
-    file: item.getAsFile(),
-    entry: item.webkitGetAsEntry?.(),
-    handle: item.getAsFileSystemHandle?.().catch(/** @type {() => any} */ (() => null)),
-  }));
+  const asked = items.map(item => {
+    const file = item.getAsFile(), isFile = item.getAsFileSystemHandle && ENDING.test(file?.name);
+    return {
+      file, entry: isFile ? null : item.webkitGetAsEntry?.(),
+      handle: item.getAsFileSystemHandle?.().catch(/** @type {() => any} */ (() => null)),
+    };
+  });
   /** @type {Given[]} */
   const all = [];
   for (const { file, entry, handle } of asked) {

@@ -2,7 +2,7 @@
 import {
   ACCEPTED, OUT_OF_RANGE, TOO_LITTLE_ROOM, isCountedOtherwise, isTwice, isUncounted, isWithoutName,
 } from './answers.js';
-import { nameOrWhat, toldOf } from './faults.js';
+import { toldOf } from './faults.js';
 import { columnsIn, isUsed, originalOf, stationOfSheet } from './files.js';
 import { APART, HALF, mgonOf } from './numbers.js';
 import { differencesIn, sizeOf } from './records.js';
@@ -86,9 +86,10 @@ export const countsOf = ({ sets, targets, directions }) => ({
 /** What was recognized of the sets of a station, in words. */
 function setsText(/** @type {import('./records.js').Recognized} */ one) {
   const { station, sets, targets, opening, turning, before, after, fault, block } = one;
+  const { explanation = '' } = one;
   if (fault)
     return text('recognizedNot', {
-      station, block: String(block), fault: nameOrWhat(fault), n: after,
+      station, block: String(block), fault: toldOf(explanation).what, n: after,
     });
   if (sets + after === 0) return text('recognizedUnread', { station });
   if (sets === 0) return text('recognizedNone', { station, n: after });
@@ -123,7 +124,8 @@ export function headlineOfCard(/** @type {Card} */ card) {
 
 /** Why a job without codes was not checked. */
 function headlineOfMark(/** @type {Answer} */ marked) {
-  if (isWithoutName(marked)) return 'nothingNamed';
+  // (a name that can't be one is stated where one is missing)
+  if (isWithoutName(marked) || marked.status === OUT_OF_RANGE) return 'nothingNamed';
   if (isUncounted(marked)) return 'nothingCounted';
   if (isTwice(marked)) return 'nothingSetUp';
   return isCountedOtherwise(marked) ? 'countedOtherwise' : 'nothingRecognized';

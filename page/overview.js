@@ -1,6 +1,6 @@
 // The table above several cards, and on the page before their protocols: each with what came of it.
 import { ACCEPTED } from './answers.js';
-import { tableOf } from './elements.js';
+import { rowOf, tableOf } from './elements.js';
 import { originalOf } from './files.js';
 import { greatestOf, residualsIn } from './records.js';
 import { numeral, text } from './texts.js';
@@ -22,20 +22,31 @@ function accuracyOf(/** @type {Card} */ { station }) {
 }
 
 /**
+ * The row of a card; what heads it is filled.
+ * @param {Card} card
+ * @param {(card: Card, head: Element) => void} fill
+ * @param {Element} parent
+ */
+export function overviewRow(card, fill, parent) {
+  const { station, mood } = card, said = { text: text(MOODS[mood]), mark: `said ${mood}` };
+  const counts = [station?.listed.sets ?? NONE, station?.listed.targets ?? NONE].map(String);
+  const numbers = [...accuracyOf(card), ...counts].map(one => ({ text: one }));
+  const file = { text: station ? originalOf(station.field).shown : NONE };
+  const row = rowOf(['', said, ...numbers, file], parent);
+  fill(card, row.children[0]);
+  return row;
+}
+
+/**
  * The table of these cards; what heads each row is filled.
  * @param {Card[]} cards
  * @param {(card: Card, head: Element) => void} fill
  * @param {Element} parent
  */
 export function overviewTable(cards, fill, parent) {
-  const rows = cards.map(card => {
-    const { station, mood } = card, said = { text: text(MOODS[mood]), mark: `said ${mood}` };
-    const counts = [station?.listed.sets ?? NONE, station?.listed.targets ?? NONE].map(String);
-    const numbers = [...accuracyOf(card), ...counts].map(one => ({ text: one }));
-    return ['', said, ...numbers, { text: station ? originalOf(station.field).shown : NONE }];
-  });
   const names = ['stationOrFile', 'answer', 'greatestResidual', 's', 'sets', 'targetsRead'];
   const heads = [...names, 'fieldFile'].map(name => text(name));
-  const table = tableOf(text('overview'), heads, /** @type {any} */ (rows), parent, 'overview');
-  table.querySelectorAll('tbody th').forEach((head, nth) => fill(cards[nth], head));
+  const table = tableOf(text('overview'), heads, [], parent, 'overview');
+  for (const card of cards) overviewRow(card, fill, table.tBodies[0]);
+  return table;
 }

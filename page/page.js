@@ -1,8 +1,8 @@
 // What the user does: files come in, limits are stated. All that is shown is drawn of one state.
 import { isOfStation, judge, makeCards, resultsOf } from './answers.js';
-import { keyOfCard, showCard } from './cards.js';
+import { showCard } from './cards.js';
 import { asHandedIn, changeLines, changesOf, stillOf } from './changes.js';
-import { isOther, redraw, redrawEach } from './drawing.js';
+import { drawInTurn, drawNow, isOther, partsInSight, redraw, redrawEach } from './drawing.js';
 import { button, element, save } from './elements.js';
 import {
   HEAD, UNITS, isChosen, isUsed, kindOf, originalOf, placeName, tellApart,
@@ -11,7 +11,7 @@ import { dropped, givenBy, givenOf } from './gather.js';
 import { kindText, saidOfCard, titleOf } from './headlines.js';
 import { limitsLine, limitsNow, LIMITS, showLimit, wrongLimit } from './limits.js';
 import { recallNotes } from './notes.js';
-import { overviewTable } from './overview.js';
+import { MOODS, overviewRow, overviewTable } from './overview.js';
 import {
   besideOf, nameOfProtocol, protocolsFile, showProtocol, showProtocols,
 } from './protocol.js';
@@ -121,12 +121,24 @@ function drawVerdict() {
     });
   });
   part.className = said[0].mood;
+  document.title = [...answerInShort(said), NAME].join(' \u2013 ');
+}
+
+/** What the page is called where nothing is answered, and not printed. */
+const NAME = document.title;
+
+/** What the tab of the browser says of the answers, before the name of the page. */
+function answerInShort(/** @type {{ said: string, isLeading?: boolean }[]} */ said) {
+  const { phase, cards } = now, [card] = cards;
+  if (phase.is !== 'done' || !card) return [];
+  return cards.length > 1 ? [said.map(one => one.said).join(text('between'))]
+    : [text('labelled', { label: text(MOODS[card.mood]), said: titleOf(card) })];
 }
 
 /** Leads to a card, or to what it asks for. */
 function leadTo(/** @type {Card | undefined} */ card) {
   if (!card) return;
-  const part = $('answers').children[now.cards.indexOf(card)];
+  const part = drawNow($('answers').children[now.cards.indexOf(card)]);
   // (there is none of an earlier state)
   if (!(part instanceof HTMLElement)) return;
   const asked = card.mood === 'open' && part.querySelector('input');
@@ -152,6 +164,9 @@ const ORDER = { bad: 0, open: 1, read: 2, good: 2 };
 
 /** Of more stations a choice is filled when it is turned to: all of each would hold the window. */
 const FEW_STATIONS = 20;
+
+/** Of so many files those out of sight are not laid out, and so many rows have fixed columns. */
+const MANY = 100;
 
 /** Whether a file is of a station, which may be chosen. */
 const isOfOne = (/** @type {Input} */ { kind }) => ['sheet', 'table', 'workbook'].includes(kind);
@@ -220,6 +235,7 @@ function drawInputs() {
   // (what is not used comes first, so that it is seen)
   const shown = [...inputs.filter(input => !isUsed(input)), ...inputs.filter(isUsed)];
   document.body.classList.toggle('has-files', inputs.length > 0);
+  $('inputs').className = inputs.length < MANY ? '' : 'many';
   write('choose-text', text(inputs.length > 0 ? 'addMore' : 'choose'));
   const of = (/** @type {Input} */ input) =>
     [input, isOfOne(input) && cards, input.choice, input.unit, kindText(input)];
@@ -239,10 +255,8 @@ function drawInputs() {
 
 /** The words that stand in the page, in the language that is spoken. */
 function drawWords() {
-  const page = document.documentElement;
   // (the texts come after the page)
-  if (!isOther(page, [spoken(), text('ready')])) return;
-  page.lang = spoken();
+  if (!isOther(document.body, [spoken(), text('ready')])) return;
   /** @type {(selector: string) => NodeListOf<HTMLElement>} */
   const all = selector => document.querySelectorAll(selector);
   const about = /** @type {Record<string, string>} */ ({ ...$('made').dataset });
@@ -257,7 +271,6 @@ function drawWords() {
 /** That something is under way, how far it is, and whether it can be begun again. */
 function drawProgress() {
   const { phase, far } = now, bar = /** @type {HTMLProgressElement} */ ($('progress-bar'));
-  $('main').setAttribute('aria-busy', String(isBusy()));
   $('progress').hidden = !isBusy();
   write('progress-text', far ? text('working', far) : '');
   $('again').hidden = phase.is !== 'failed' || !(phase.error instanceof Stopped);
@@ -267,31 +280,61 @@ function drawProgress() {
   if (!far || far.all === 1) bar.removeAttribute('value');
 }
 
+/** By what a card is known, whatever else is answered. */
+const keyOfCard = (/** @type {Card} */ { file, title }) => `${originalOf(file).shown} ${title}`;
+
+/** The table above several cards. */
+function drawOverview() {
+  const { cards } = now, words = text('ready'), part = $('overview');
+  const lead = (/** @type {Card} */ card, /** @type {Element} */ head) =>
+    button(card.title, head, () => leadTo(card), 'to name');
+  $('several').hidden = cards.length < 2;
+  part.className = cards.length < MANY ? '' : 'many';
+  if (cards.length < 2) return part.replaceChildren();
+  const before = part.querySelector('table'), room = document.createElement('div');
+  const table = before ?? overviewTable([], lead, part);
+  if (isOther(table, [words]) && before)
+    ({ caption: table.caption, tHead: table.tHead } = overviewTable([], lead, room));
+  redrawEach(table.tBodies[0], cards, keyOfCard,
+    card => [card, words, card.mood, card.station?.whole],
+    (card, body) => overviewRow(card, lead, body));
+}
+
 /** The cards, and of several the table above them. */
 function drawCards() {
   const { cards, limits } = now, words = text('ready'), isFew = cards.length <= FEW;
-  const lead = (/** @type {Card} */ card, /** @type {Element} */ head) =>
-    button(card.title, head, () => leadTo(card), 'to name');
-  const seen = cards.flatMap(({ mood, station }) => [mood, station?.whole]);
-  $('several').hidden = cards.length < 2;
-  redraw($('overview'), [cards, words, ...seen], room => {
-    if (cards.length > 1) overviewTable(cards, lead, room);
-  });
-  $('answered').classList.toggle('stale', isStale());
+  drawOverview();
   $('answers').className = isFew ? '' : 'many';
   redrawEach($('answers'), cards, keyOfCard,
     card => [card, words, limits, card.mood, card.judged, card.results],
     (card, room) => showCard(card, desk, isFew, room));
 }
 
-/** Draws the state. */
+/**
+ * The cards that were drawn last, to the last of them.
+ * @type {Card[]}
+ */
+let shown = [];
+
+/** Draws the state: of long lists slice by slice. */
 function draw() {
+  const seen = partsInSight();
   drawWords();
   drawVerdict();
   drawProgress();
   write('in-force', limitsLine(now.limits, { residual: true, within: true }));
   drawInputs();
   drawCards();
+  drawInTurn(seen, isLeft => {
+    const page = document.documentElement;
+    if (!isLeft) shown = now.cards;
+    // (that styles all of the page anew)
+    if (!isLeft && page.lang !== spoken()) page.lang = spoken();
+    // (until all are drawn, some may still be those of an earlier state)
+    const isMixed = shown !== now.cards && shown.length > 0;
+    $('answered').classList.toggle('stale', isMixed || isStale());
+    $('main').setAttribute('aria-busy', String(isLeft || isBusy()));
+  });
 }
 
 // ---------------------------------------------------------------- work
@@ -368,6 +411,11 @@ function loaded(/** @type {Card[]} */ cards) {
 /** What the cards ask of the page. */
 const desk = {
   get limits() { return now.limits; },
+  /** @type {import('./cards.js').Desk['called']} */
+  called(card) {
+    const isAlone = now.cards.filter(({ title }) => title === card.title).length === 1;
+    return isAlone ? card.title : nameOfProtocol(card);
+  },
   async load(/** @type {StationCard} */ card) {
     if (now.cards.includes(card) && !now.loading.includes(card)) await loaded([card]);
   },
@@ -414,12 +462,13 @@ const desk = {
   },
 };
 
-/** What the page is called while it isn't printed. */
-const UNPRINTED = document.title;
+/** What the page was called before it was printed. */
+let unprinted = NAME;
 
 onbeforeprint = () => {
   const { inputs, limits, only } = now, cards = isStale() ? [] : now.cards;
   const [alone] = only ? [only] : cards.length === 1 ? cards : [];
+  unprinted = document.title;
   // (by its title the file is called that a browser prints to)
   if (inputs.length > 0)
     document.title = alone ? nameOfProtocol(alone) : text('contents', { n: inputs.length });
@@ -428,7 +477,7 @@ onbeforeprint = () => {
   else if (inputs.length > 0)
     showProtocols(inputs, cards, limits, $('verdict').textContent ?? '', $('protocol'));
 };
-onafterprint = () => { document.title = UNPRINTED; };
+onafterprint = () => { document.title = unprinted; };
 
 // ---------------------------------------------------------------- files
 
@@ -576,7 +625,7 @@ languages.onchange = () => {
 for (const done of ['click', 'submit', 'change']) {
   $('answered').addEventListener(done, event => {
     const { target } = event, isPressed = target instanceof Element && target.closest('button');
-    if (!isStale() || done === 'click' && !isPressed) return;
+    if (!$('answered').matches('.stale') || done === 'click' && !isPressed) return;
     event.preventDefault();
     event.stopPropagation();
   }, true);

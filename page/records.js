@@ -108,13 +108,15 @@ const ZENITHS = /^note: station (?:.*): the zenith angles of (.*) differ by (\d+
  * directions are missing of how many, and how many targets after the sets seem to be of another
  * station; whether the target that opens sets by targets is read again after them; which sets are
  * equal, and the targets whose zenith angles differ. Of one without sets no more than its readings,
- * as if all came after; and of one that isn't recognized these, its fault, and the number of the
- * block. Of each how often its set-up line was written again.
+ * as if all came after; and of one that isn't recognized these, its fault, the number of the block,
+ * and the explanation of the fault, once that was asked for. Of each how often its set-up line was
+ * written again.
  * @typedef {{ station: string, isAgain: boolean, writtenAgain: number, sets: number,
  *   targets: number, opening: string, turning: string, before: number, after: number,
  *   missing: number, full: number, others: number, isOpenedAgain: boolean,
  *   equal: { earlier: string, later: string }[],
- *   zeniths: { target: string, mgon: number }[], fault?: string, block?: number }} Recognized
+ *   zeniths: { target: string, mgon: number }[], fault?: string, block?: number,
+ *   explanation?: string }} Recognized
  */
 
 /** @type {Omit<Recognized, 'station'>} */

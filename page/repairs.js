@@ -1,6 +1,7 @@
 // Which lines the page proposes to leave out of a copy: the last set of a station, where it was not
-// ended, and closing sights. They are found by the rules of examples/prepare.py, and proposed where a
-// refusal is of them and nothing else is likely: a misspelled name, a single reading that was lost.
+// ended, and closing sights, which are found by the rules of examples/prepare.py; and sights before
+// the first set-up line. They are proposed where a refusal is of them and nothing else is likely: a
+// misspelled name, a single reading that was lost.
 // The user sees the lines first, and the proved call makes the copy.
 
 /**
@@ -9,7 +10,7 @@
  * A reading with a direction: its block, its target, and its face, 0 if that isn't clear.
  * @typedef {{ block: number, target: string, face: number }} Reading
  * What is proposed to be left out, and its lines, with the numbers of their blocks.
- * @typedef {{ what: 'lastSet' | 'closing', lines: { block: number, line: string }[] }} Proposal
+ * @typedef {{ what: 'lastSet' | 'closing' | 'before', lines: { block: number, line: string }[] }} Proposal
  */
 
 // ---------------------------------------------------------------- lines
@@ -364,6 +365,8 @@ function brokenSet(/** @type {Reading[]} */ readings) {
 /** The faults at which closing sights may be in the way, and those of a set that isn't whole. */
 const OF_CLOSING = /^(mark: ReadTwice|mark: OneTarget|FaceTwice)$/;
 const OF_LAST_SET = /^(mark: FaceMissing|mark: EndsElsewhere|OneFace|EmptySet)$/;
+/** That of readings before the first set-up line. */
+const OF_BEFORE = /^mark: NoSetUp$/;
 
 /** So many lines before the one at which a refusal stands a closing sight may stand. */
 const CLOSES_BEFORE = 1;
@@ -429,9 +432,10 @@ const ifMeant = (found, block) =>
 
 /**
  * The blocks of a proposal, of a file with codes or of a job without them, where the refusal stands
- * at a block: none where that is of other readings, or it is doubtful.
+ * at a block: none where that is of other readings, or it is doubtful. `isLast` says that no station
+ * of the job follows.
  * @typedef {{ byCodes: (lines: string[], codes: (string | undefined)[], block: number) => number[],
- *   inJob: (readings: Reading[], block: number) => number[] }} Rule
+ *   inJob: (readings: Reading[], block: number, isLast: boolean) => number[] }} Rule
  * @type {Record<Proposal['what'], Rule>}
  */
 const RULES = {
@@ -466,6 +470,15 @@ const RULES = {
       return isDoubtful || isOther ? [] : ifMeant(found, block);
     },
   },
+  before: {
+    byCodes: () => [],
+    inJob(readings, block, isLast) {
+      // (what is read more often may be sets, of which the set-up line was lost)
+      const count = countedIn(readings);
+      const areOnce = readings.every(({ target, face }) => count(target, face) === 1);
+      return areOnce && !isLast ? blocksOf(readings) : [];
+    },
+  },
 };
 
 /**
@@ -478,7 +491,8 @@ const RULES = {
  * @returns {Proposal | undefined}
  */
 export function proposalFor(bytes, block, fault, isAnother) {
-  const what = OF_CLOSING.test(fault) ? 'closing' : OF_LAST_SET.test(fault) ? 'lastSet' : undefined;
+  const what = OF_CLOSING.test(fault) ? 'closing' : OF_LAST_SET.test(fault) ? 'lastSet'
+    : OF_BEFORE.test(fault) ? 'before' : undefined;
   if (!what) return undefined;
   const lines = blockLinesOf(bytes), codes = lines.map(codeIn);
   const blocks = codes.includes(SET_CODE) ? RULES[what].byCodes(lines, codes, block)
@@ -498,5 +512,5 @@ function blocksInJob(lines, block, rule, isAnother) {
   const station = stationAround(lines.map(setUpIn), block - 1, isAnother);
   if (!station) return [];
   const { first, end } = station, readings = readingsAmong(lines.slice(first, end), first + 1);
-  return haveFaces(readings) ? rule.inJob(readings, block) : [];
+  return haveFaces(readings) ? rule.inJob(readings, block, end === lines.length) : [];
 }

@@ -20,12 +20,13 @@ SCRIPTS = {
     "calls": ["calls.js", "numbers.js", "packed.js", "records.js", "zeniths.js", "worker.js"],
     "page": [
         "texts.js", "numbers.js", "records.js", "zeniths.js", "files.js", "packed.js", "stored.js",
-        "work.js", "limits.js", "notes.js", "place.js", "answers.js", "changes.js", "elements.js",
-        "tables.js",
-        "faults.js", "headlines.js", "refusals.js", "overview.js", "drawing.js", "cards.js",
-        "gather.js", "workbook.js", "page.js",
+        "work.js", "limits.js", "notes.js", "answers.js", "elements.js", "faults.js", "headlines.js",
+        "overview.js", "drawing.js", "gather.js", "page.js",
     ],
-    "later": ["repairs.js", "readings.js", "picture.js", "results.js", "protocol.js"],
+    "later": [
+        "place.js", "changes.js", "repairs.js", "tables.js", "readings.js", "picture.js", "results.js",
+        "refusals.js", "protocol.js", "cards.js", "workbook.js",
+    ],
     "residuals": [
         "texts.js", "numbers.js", "records.js", "elements.js", "tables.js", "picture.js",
         "residuals.js",

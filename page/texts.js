@@ -448,6 +448,16 @@ export const TEXTS = {
     de: 'Abschlussvisuren weglassen',
     fr: 'Omettre les visées de fermeture',
   },
+  proposedBefore: {
+    en: 'Proposed by the page, which is not proved: {n} reading stands before the first set-up line, as a sight of a resection. See it:|Proposed by the page, which is not proved: {n} readings stand before the first set-up line, as sights of a resection. See their lines:',
+    de: 'Vorschlag der Seite, nicht bewiesen: {n} Ablesung steht vor der ersten Aufstellungszeile, wie eine Visur einer freien Stationierung. Sehen Sie sie an:|Vorschlag der Seite, nicht bewiesen: {n} Ablesungen stehen vor der ersten Aufstellungszeile, wie Visuren einer freien Stationierung. Sehen Sie ihre Zeilen an:',
+    fr: 'Proposé par la page, non prouvé : {n} lecture précède la première ligne de mise en station, comme une visée de station libre. Voyez-la :|Proposé par la page, non prouvé : {n} lectures précèdent la première ligne de mise en station, comme des visées de station libre. Voyez leurs lignes :',
+  },
+  leaveBeforeOut: {
+    en: 'Leave these readings out',
+    de: 'Diese Ablesungen weglassen',
+    fr: 'Omettre ces lectures',
+  },
   needReason: {
     en: 'Write the reason first: it stands in the protocol and in the log.',
     de: 'Schreiben Sie zuerst den Grund: Er steht im Protokoll und im Log.',
@@ -494,6 +504,11 @@ export const TEXTS = {
     en: 'block {block} left out, a closing sight: {why}|blocks {block} left out, closing sights: {why}',
     de: 'Block {block} weggelassen, Abschlussvisur: {why}|Blöcke {block} weggelassen, Abschlussvisuren: {why}',
     fr: 'bloc {block} omis, visée de fermeture : {why}|blocs {block} omis, visées de fermeture : {why}',
+  },
+  lineOutBefore: {
+    en: 'block {block} left out, before the first set-up line: {why}|blocks {block} left out, before the first set-up line: {why}',
+    de: 'Block {block} weggelassen, vor der ersten Aufstellungszeile: {why}|Blöcke {block} weggelassen, vor der ersten Aufstellungszeile: {why}',
+    fr: 'bloc {block} omis, avant la première mise en station : {why}|blocs {block} omis, avant la première mise en station : {why}',
   },
   lineNamed: {
     en: 'block {block}, point renamed to {name}: {why}',

@@ -63,6 +63,10 @@ SMALLEST_LETTER = 11
 # page/README.md has times that were measured.
 LARGE, SOON, HELD = (400, 40, 10), 20_000, 1_500
 
+# Stations, sets and targets of a file of many stations, one of these that is in sight, and the parts of
+# lists that one slice of a drawing has at most.
+MANY, NTH, SLICE = (400, 2, 5), 200, 40
+
 # Stations, sets and targets of a wide station, for print.
 WIDE = (1, 40, 30)
 
@@ -170,7 +174,7 @@ PLAIN_TEXTS = """(() => {
   const walk = document.createTreeWalker(document.body, NodeFilter.SHOW_TEXT), found = [];
   while (walk.nextNode()) {
     const node = walk.currentNode, parent = node.parentElement;
-    if (parent.closest('script, style, noscript, pre, code, samp, [lang=en]:not(html), .name, tbody, option'))
+    if (parent.closest('script, style, noscript, pre, code, samp, [lang=en][translate=no], .name, tbody, option'))
       continue;
     if (!parent.checkVisibility()) continue;
     let left = node.data, before;
@@ -222,6 +226,14 @@ WATCH = """{
   }, 20);
 }"""
 
+
+# How many cards and rows of their table each task puts into the page.
+SLICES = """{
+  slices = [];
+  const isPart = one => one instanceof Element && one.matches('.card, #overview tbody tr');
+  new MutationObserver(all => slices.push(all.flatMap(one => [...one.addedNodes]).filter(isPart).length))
+    .observe($('main'), { childList: true, subtree: true });
+}"""
 
 # Stops the work once, when it comes to the file of a name.
 STOP_AT = (
@@ -354,6 +366,20 @@ class PageInBrowserTest(TimedTest):
         said = "blocks 5, 9, 13, 17 left out, closing sights: horizon closed "
         self.assertEqual([said], page.js("[...document.querySelectorAll('.changes > li')].map(one => one.firstChild.data)"))
         self.assertEqual(["read", "Station P7"], self.cards(page)[0][:2])
+        self.assertEqual([], page.complaints())
+
+    def test_sights_before_the_first_set_up_line_are_proposed_and_no_name_is_asked_for(self):
+        """As those of a resection: a line further on names the station."""
+        page = self.page(self.file("free.gsi", sights_of("ABab|ABCcbaABCcba")))
+        self.assertEqual([["open", "free.gsi", NOTHING_RECOGNIZED]], self.cards(page))
+        self.assertEqual("refused: block 1: mark: NoSetUp", page.text(".exact samp"))
+        buttons = ["Leave this line out", "Rename", "Leave these readings out"]
+        self.assertEqual(buttons, page.texts("#answers form button"))
+        self.assertEqual(["1", "2", "3", "4"], page.texts(".proposal .number"))
+        self.changed(page, buttons[-1], "resection")
+        said = "blocks 1\u20134 left out, before the first set-up line: resection "
+        self.assertEqual([said], page.js("[...document.querySelectorAll('.changes > li')].map(one => one.firstChild.data)"))
+        self.assertEqual([["read", "Station P7", "Read without a fault: 2 sets, 3 targets, 6 directions."]], self.cards(page))
         self.assertEqual([], page.complaints())
 
     def test_what_else_was_changed_stays_and_lines_have_the_numbers_of_the_field_file(self):
@@ -843,7 +869,7 @@ class PageInBrowserTest(TimedTest):
         page = self.page(self.file("others.gsi", job))
         self.assertEqual([["open", "others.gsi", NOTHING_RECOGNIZED]], self.cards(page))
         self.assertIn("Station P1: 1 set, 2 targets, from A to B. No reading stays outside.", page.text(".card"))
-        told = "Station P2: not recognized, block 9: FaceMissing. Its 3 readings stay outside"
+        told = "Station P2: not recognized, block 9: A target is read in one face only before the next set begins. Its 3 readings stay outside"
         self.assertIn(told, page.text(".card"))
         with page.answered():
             page.press("Leave the stations that are not recognized outside")
@@ -870,7 +896,7 @@ class PageInBrowserTest(TimedTest):
         for name in wrong:
             self.state_name(page, name)
             self.assertIn("A station cannot have this name", page.text(".card"))
-            self.assertEqual("open", self.cards(page)[0][0])
+            self.assertEqual([["open", "plain.gsi", NOTHING_NAMED]], self.cards(page))
         self.state_name(page, "P7")
         self.assertEqual(["read", "Station P7"], self.cards(page)[0][:2])
 
@@ -1662,7 +1688,7 @@ class PageInBrowserTest(TimedTest):
         page = self.page(self.file("wide.gsi", bench.field_file(bench.Shape("wide", *WIDE)).encode()))
         pages = self.printed(page)
         text = "".join(pages)
-        shown = " ".join(page.texts(".results td > span:first-child, #protocol .across .caption, #protocol .picture text"))
+        shown = " ".join(page.texts(".results td, #protocol .across .caption, #protocol .picture text"))
         values = re.compile(r"(?<![\d.])[+\u2212]\d+\.\d\d\d?(?!\d)")
         self.assertEqual(Counter(values.findall(shown)), Counter(values.findall(text)))
         for number, one in enumerate(pages, 1):
@@ -1835,10 +1861,28 @@ class PageInBrowserTest(TimedTest):
     def test_what_is_printed_is_called_by_its_field_file_and_its_station(self):
         page = self.page(P7_FIELD, P7_SHEET)
         names = [page.js("document.title"), page.js("(onbeforeprint(), document.title)"), page.js("(onafterprint(), document.title)")]
-        self.assertEqual(["station_check", "station_p7_P7", "station_check"], names)
+        title = "Computed rightly: Station P7 \u2013 station_check"
+        self.assertEqual([title, "station_p7_P7", title], names)
         page.give(FIELD)
         self.assertEqual("Check of 3 files", page.js("(onbeforeprint(), document.title)"))
         self.assertEqual("station_s1_S1", page.js("(now.only = now.cards[1], onbeforeprint(), now.only = undefined, document.title)"))
+
+    def test_the_tab_says_what_came_of_all_files(self):
+        page = self.page()
+        for files, said in [((), ""), ((P7_FIELD,), "Not compared: Station P7 \u2013 "), ((FIELD, P7_SHEET), "1 read, not compared; 1 computed rightly \u2013 ")]:
+            if files:
+                page.give(*files)
+            self.assertEqual(f"{said}station_check", page.js("document.title"))
+        self.speak(page, "de")
+        self.assertEqual("1 gelesen, nicht verglichen; 1 richtig berechnet \u2013 station_check", page.js("document.title"))
+        page.fill("two-c", "x")
+        self.assertEqual("station_check", page.js("document.title"))
+
+    def test_what_is_saved_of_two_stations_of_one_name_is_told_apart(self):
+        page = self.page(P7_FIELD, self.file("monday.gsi", P7_FIELD.read_bytes()))
+        self.assertTrue(page.saved("Save directions (CSV)", "station_p7_P7_directions.csv"))
+        page.js("document.querySelectorAll('.card')[0].remove()")
+        self.assertTrue(page.saved("Save directions (CSV)", "monday_P7_directions.csv"))
 
     def test_each_table_has_one_caption_and_each_verdict_is_a_heading(self):
         page = self.page(P7_FIELD, P7_SHEET, self.file("four.csv", FOUR_DECIMALS))
@@ -2171,6 +2215,35 @@ class PageInBrowserTest(TimedTest):
         self.assertLess(page.js("performance.now()") - start, SOON)
         self.assertEqual(LARGE[0], len(page.texts(".card")))
         self.assertLess(page.js("longest"), HELD)
+
+    def test_many_stations_are_drawn_slice_by_slice_and_first_what_is_in_sight(self):
+        """With another language and another limit what the user did stays, and where it was."""
+        page, card = self.page(), f"document.querySelectorAll('.card')[{NTH}]"
+        page.js(SLICES)
+        page.give(self.file("many.gsi", bench.field_file(bench.Shape("many", *MANY)).encode()))
+        self.assertEqual(MANY[0], len(page.texts(".card")))
+        self.assertEqual(2 * MANY[0], sum(page.js("slices")))
+        page.js(f"{card}.querySelector('.results').open = true; {card}.scrollIntoView(); {card}.querySelector('summary').focus()")
+        page.settle()
+        look = f"[{card}.querySelector('.filled') !== null, document.activeElement === {card}.querySelector('summary'), {card}.querySelector('h2').textContent]"
+        before, top = page.js(look), page.js(f"{card}.getBoundingClientRect().top")
+        self.assertEqual([True, True], before[:2])
+        drawn = page.js(f"(languages.value = 'de', languages.onchange(), [{card}, {card}.parentElement.lastChild].map(one => one.lang))")
+        self.assertEqual(["de", "en"], drawn)
+        page.settle()
+        self.assertEqual({"de"}, {*page.js("[...document.querySelectorAll('.card')].map(one => one.lang)")})
+        self.assertEqual(before, page.js(look))
+        page.fill("within", "0.5")
+        self.assertEqual(before, page.js(look))
+        self.assertAlmostEqual(top, page.js(f"{card}.getBoundingClientRect().top"), delta=2)
+        self.assertGreaterEqual(sum(page.js("slices")), 6 * MANY[0])
+        self.assertLessEqual(max(page.js("slices")), SLICE)
+        # As long as some are those of an earlier state, none can be used.
+        stale = "$('answered').matches('.stale')"
+        self.assertTrue(page.js(f"go({{ cards: now.cards.map(one => ({{ ...one }})) }}), {stale}"))
+        page.settle()
+        self.assertFalse(page.js(stale))
+        self.assertEqual([], page.complaints())
 
     def test_what_is_stopped_leaves_nothing_green_that_was_not_judged(self):
         """A file of a station that was not reached, and one whose field file was not."""

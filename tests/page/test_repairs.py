@@ -37,7 +37,8 @@ PROPOSALS = """([hex, block, fault, isAnother]) => {
 }"""
 EACH = "console.log(JSON.stringify(JSON.parse(require('fs').readFileSync(0, 'utf8')).map(%s)))"
 
-MISSING, ELSEWHERE, TWICE, ONE = (f"mark: {name}" for name in ("FaceMissing", "EndsElsewhere", "ReadTwice", "OneTarget"))
+FAULTS = ("FaceMissing", "EndsElsewhere", "ReadTwice", "OneTarget", "NoSetUp")
+MISSING, ELSEWHERE, TWICE, ONE, UNNAMED = (f"mark: {name}" for name in FAULTS)
 
 
 class Case(NamedTuple):
@@ -158,6 +159,16 @@ class RepairsTest(TimedTest):
         again, other = sights_of(sights), stations_of(sights)
         found = proposed((again, 11, MISSING), (again, 11, MISSING, True), (other, 11, MISSING))
         self.assertEqual([None, [8, 9, 10, 11], [8, 9, 10, 11]], [one and one[1] for one in found])
+
+    def test_sights_before_the_first_set_up_line_are_left_out(self):
+        """As those of a resection: not one alone, which the refusal shows, nor what may be sets whose own
+        line was lost; and of a job without such a line none."""
+        sets = "ABCcbaABCcba"
+        jobs = [f"{before}|{sets}" for before in ("ABab", "ABba", "AaBb", "AB", "A", sets, "ABabA")]
+        found = proposed(*((sights_of(job), 1, UNNAMED) for job in [*jobs, sets]))
+        blocks = [one and one[1] for one in found]
+        self.assertEqual([[1, 2, 3, 4]] * 3 + [[1, 2]] + [None] * 4, blocks)
+        self.assertEqual({"before"}, {one[0] for one in found if one})
 
     def test_angles_in_other_units_or_without_a_face_are_in_doubt(self):
         field = sights_of("ABCcbaABCc")
