@@ -7,4 +7,5 @@ pub mod CopiedLines
 pub mod SaidChanges
 pub mod Stating
 pub mod Placing
+pub mod Ordered
 pub mod OneAnswer

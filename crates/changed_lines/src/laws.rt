@@ -1,6 +1,6 @@
 //! Laws of the definitions that the contract cites. The functions do nothing.
 
-ghost use Rattle.std.specs.Prelude.{◌≡◌, ◌<◌, ◌≤◌, ℕ, List, [], length, true};
+ghost use Rattle.std.specs.Prelude.{◌≡◌, ◌<◌, ◌≤◌, ◌++◌, ℕ, List, [], IsPermutation, length, true};
 ghost use Rattle.adjust_kernel.specs.Names.{IsName};
 ghost use Rattle.gsi_word.specs.Blocks.{GsiBlock, IsBlock, width_of};
 ghost use Rattle.gsi_word.specs.Names.{name_of};
@@ -10,6 +10,7 @@ ghost use Rattle.changed_lines.specs.ChangedFile.{changed, edited_lines};
 ghost use Rattle.changed_lines.specs.Answers.{AreMade, IsFirstFault};
 ghost use Rattle.changed_lines.specs.declared.fault.ChangeFault.{ChangeFault};
 ghost use Rattle.changed_lines.specs.declared.change.Change.{Change};
+ghost use Rattle.changed_lines.specs.Order.{AreOrdered, all_placed};
 ghost use Rattle.gsi_file.specs.Parts.{numbered_lines};
 ghost use Rattle.changed_lines.specs.Renaming.{renamed, renamed_block, IsBare, TakesName};
 
@@ -48,4 +49,13 @@ pub fn renamed_lines()
 pub fn name_is_read_back()
     ensures { (width : ℕ) (name : List ℕ) → 0 < length name → IsBare name
         → name_of (filled width name) ≡ name }
+{}
+
+/// Changes of two kinds that are put in order stand in the order of their lines, and are those that
+/// are stated: none is left out, and none stands there twice.
+pub fn in_order()
+    ensures ordered { (some others : List Change)
+        → AreOrdered 0 (all_placed (all_placed [] some) others) }
+    ensures same { (some others : List Change)
+        → IsPermutation (some ++ others) (all_placed (all_placed [] some) others) }
 {}
