@@ -147,11 +147,11 @@ Example:
 
 pub const REPORT_LONG_ABOUT: &str = "\
 Prints the protocol of a station's sets, complete or not, as text of fixed columns for the files of
-an office: by set and target what was read in both faces, the mean, 2c and 2i; the adjusted
-directions; the residuals, targets as rows and sets as columns; the greatest of them; and the
-standard deviation of one two-face direction with its degrees of freedom. They are those of the
-least-squares directions, orientations and full turns. A residual above 10 mgon, or the limit of
---residual, is a fault.
+an office: by set and target what was read in both faces, the mean, 2c and 2i; the zenith angles,
+and of each target their mean with its standard deviation; the adjusted directions; the residuals,
+targets as rows and sets as columns; the greatest of them; and the standard deviation of one
+two-face direction with its degrees of freedom. They are those of the least-squares directions,
+orientations and full turns. A residual above 10 mgon, or the limit of --residual, is a fault.
 
 With --table each direction of a table stands there too, in gon also if --degrees reads degrees,
 with its difference from the adjusted one and from the median, as 'differences' prints them, the
@@ -172,8 +172,8 @@ With --all the protocol of each station begins a page, after a form feed but for
 Directions are in gon. Face differences are in mgon with 2 decimals, residuals and the standard
 deviation in mgon with 3, each rounded from the exact fraction; the middle of two goes up. A mean is
 counted from that of the first row of its set. A dash stands where a set has no direction of a
-target. No line is wider than 100 bytes, but for the line of an agreement or of a longer path. A
-path stands as sha256sum prints it, a line feed as '\\n', but other control bytes as '\\x1b'.
+target. No line is wider than 78 bytes, but for those of paths, notes and what is missing. A path
+stands as sha256sum prints it, a line feed as '\\n', but other control bytes as '\\x1b'.
 
 STATION is a name of the field file, byte for byte, without the zeros on its left. Write '--' before
 a name that begins with '-'.";
