@@ -23,7 +23,7 @@
  * residuals, report, station) refuse it where a residual is above 10 mgon, the largest limit.
  *
  * Tables of directions: `unit` is one of those below. `names` and `directions` state the columns of
- * the names and of their directions, counted from 1, at most 999,999; where both are 0 none are
+ * the names and of their directions, two, counted from 1, at most 999,999; where both are 0 none are
  * stated: the table has two, or the one pair of its columns that fits is found. What was read by a
  * pair of columns is told in `note`, a line that says which they are, and how much was passed over;
  * else `note` is empty, and so it is at a refusal before the table was compared.

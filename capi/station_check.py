@@ -582,7 +582,7 @@ def _form(unit: str, columns: tuple[int, int] | None) -> Sequence[ctypes.c_uint3
     if unit not in _UNITS:
         raise ValueError(f"unit is {unit!r}: state one of {', '.join(_UNITS)}")
     pair = (0, 0) if columns is None else tuple(_whole("columns", column) for column in columns)
-    if len(pair) != 2:
+    if len(pair) != 2 or columns is not None and pair[0] == pair[1]:
         raise ValueError("columns are two: that of the names and that of the directions, as (2, 6)")
     return [ctypes.c_uint32(number) for number in (_UNITS[unit], *pair)]
 

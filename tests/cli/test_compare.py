@@ -503,9 +503,9 @@ class CompareTest(ProgramTest):
 
     def test_a_text_that_states_no_columns_is_explained(self):
         """By each command that reads a table, whatever else is stated."""
-        why = "two numbers of columns from 1, with a comma between, as 2,6"
+        why = "two columns by their numbers from 1, with a comma between, as 2,6"
         files = [EXAMPLE, "S1", EXAMPLE_TABLE]
-        for text in ["", "xx", "1", "1,", "0,1", "1,2,3", "1;2", "1000000,1"]:
+        for text in ["", "xx", "1", "1,", "0,1", "1,2,3", "1;2", "1000000,1", "2,2", "02,2"]:
             said = f"error: invalid value '{text}' for '--columns <TARGET,DIRECTION>': {why}\n".encode()
             for args in [
                 ["compare", *files],

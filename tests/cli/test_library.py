@@ -84,6 +84,7 @@ BEYOND: list[tuple[str, dict[str, Any]]] = [
     ("compare", {"unit": "rad"}),
     ("compare", {"columns": (0, 1)}),
     ("compare", {"columns": (1, 0)}),
+    ("compare", {"columns": (2, 2)}),
     ("compare", {"columns": (0, 0)}),
     ("compare", {"columns": (1_000_000, 1)}),
     ("compare", {"columns": (1, 1_000_000)}),
@@ -133,7 +134,7 @@ RANGED: dict[str, tuple[str, Callable[[int], Any]]] = {
     "residual": ("check", int),
     "within": ("compare", int),
     "decimals": ("directions", int),
-    "columns": ("compare", lambda number: (number, 1)),
+    "columns": ("compare", lambda number: (number, 2)),
     "sets": ("mark", lambda number: {"P7": number}),
     "targets": ("mark", lambda number: {"P7": number}),
 }
@@ -146,6 +147,12 @@ MISTAKES: list[tuple[str, dict[str, Any], type[Exception], str]] = [
     ("compare", {"within": True}, TypeError, "within is True: state a whole number"),
     ("compare", {"unit": "deg"}, ValueError, "unit is 'deg': state one of gon, degrees, dmmss"),
     ("compare", {"columns": (0, 2)}, ValueError, "columns is 0: state 1 to 999999"),
+    (
+        "table",
+        {"columns": (2, 2)},
+        ValueError,
+        "columns are two: that of the names and that of the directions, as (2, 6)",
+    ),
     (
         "compare",
         {"columns": (1, 2, 3)},

@@ -99,12 +99,13 @@ TABLES = [
 ]
 
 # How no table can be read: by a unit that there is not, and by columns of which one is not stated, or
-# is beyond the largest, or by both.
+# is beyond the largest, or by both; or that are one.
 BEYOND_FORMS = [
     ["--unit=3"],
     ["--unit=4294967295"],
     ["--columns=0,1"],
     ["--columns=1,0"],
+    ["--columns=2,2"],
     ["--columns=1000000,1"],
     ["--columns=1,1000000"],
     ["--columns=4294967295,4294967295"],

@@ -170,7 +170,7 @@ code_why = codes "a code has 1 to 16 characters of ASCII, and is none of 10, 20 
 
 -- What is told of a text that states no columns of a table.
 abbrev pub columns_why : List ℕ
-columns_why = codes "two numbers of columns from 1, with a comma between, as 2,6"
+columns_why = codes "two columns by their numbers from 1, with a comma between, as 2,6"
 
 -- What is told of a text that states no note.
 abbrev pub note_why : List ℕ

@@ -397,7 +397,7 @@ pub const FORM_ALONE: &str = "\
 '--degrees', '--dmmss' and '--columns' say how a table is read: name it with '--table <TABLE>'";
 
 /// What may be stated as the columns of a table.
-pub const NO_COLUMNS: &str = "two numbers of columns from 1, with a comma between, as 2,6";
+pub const NO_COLUMNS: &str = "two columns by their numbers from 1, with a comma between, as 2,6";
 
 /// What is said of a text that is no number of sets.
 pub const SETS_NUMBERS: &str = "state a whole number from 1 to 40, or NAME=N for one station";

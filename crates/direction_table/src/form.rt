@@ -47,13 +47,20 @@ fn column_of(digits: &[u8]) -> Option<u32>
 }
 
 /// The columns that a text states, as `2,6`: those of names and of directions, counted from 1
-/// there.
+/// there, which are two.
 pub fn stated_columns(text: &[u8]) -> Option<ColumnPair>
     ensures { result ≡ spec.stated_columns text.now }
 {
     let (names, directions) = cut(text, b',');
-    Some(ColumnPair {
-        names: column_of(names)?,
-        directions: column_of(directions)?,
-    })
+    two_columns(column_of(names)?, column_of(directions)?)
+}
+
+/// These columns, counted from 0, where they are two.
+fn two_columns(names: u32, directions: u32) -> Option<ColumnPair>
+    ensures { result ≡ spec.two_columns names directions }
+{
+    if names == directions {
+        return None;
+    }
+    Some(ColumnPair { names, directions })
 }

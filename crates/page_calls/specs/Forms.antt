@@ -1,5 +1,5 @@
 -- How a table is to be read, as numbers state it (profile).
-use Rattle.std.specs.Prelude.{◌≡◌, ◌≤◌, ◌⊎◌, ◌==◌, ◌-◌, ℕ, Option, Some, None, if◌then◌else◌}
+use Rattle.std.specs.Prelude.{◌≡◌, ◌≢◌, ◌≤◌, ◌⊎◌, ◌==◌, ◌-◌, ℕ, Option, Some, None, if◌then◌else◌}
 use Rattle.direction_table.specs.declared.form.ColumnPair.{ColumnPair}
 use Rattle.direction_table.specs.declared.form.TableForm.{TableForm}
 use Rattle.direction_table.specs.declared.unit.AngleUnit.{AngleUnit}
@@ -29,10 +29,11 @@ stated_form unit names directions = record {
 abbrev pub IsColumn : ℕ → Type 0
 IsColumn number = (1 ≤ number) × (number ≤ LARGEST_COLUMN)
 
--- The numbers are those of two columns, or both are 0.
+-- The numbers are those of two columns, which are not the same, or both are 0.
 abbrev pub AreColumns : ℕ → ℕ → Type 0
 AreColumns names directions =
-    ((names ≡ 0) × (directions ≡ 0)) ⊎ (IsColumn names × IsColumn directions)
+    ((names ≡ 0) × (directions ≡ 0))
+    ⊎ (IsColumn names × IsColumn directions × (names ≢ directions))
 
 -- The numbers state how a table is to be read.
 abbrev pub IsForm : ℕ → ℕ → ℕ → Type 0

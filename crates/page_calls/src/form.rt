@@ -15,7 +15,7 @@ pub const LARGEST_COLUMN: u32 = 999_999;
 
 /// How a table is to be read: the unit of its directions, 0 for gon, 1 for degrees and 2 for
 /// degrees with minutes and seconds after the point; and the columns of names and of directions,
-/// counted from 1, or 0 and 0 where none are stated.
+/// two, counted from 1, or 0 and 0 where none are stated.
 pub(crate) fn form_of(unit: u32, names: u32, directions: u32) -> Option<TableForm>
     ensures form { IfSome result (λ form. form ≡ spec.stated_form unit names directions) }
     ensures valid { IfSome result (λ _. IsForm unit names directions) }
@@ -41,7 +41,7 @@ fn unit_of(number: u32) -> Option<AngleUnit>
     }
 }
 
-/// The columns of two numbers, or that none are stated.
+/// The columns of two numbers, which are not the same, or that none are stated.
 fn columns_of(names: u32, directions: u32) -> Option<Option<ColumnPair>>
     ensures columns { IfSome result (λ columns. columns ≡ spec.stated_columns names directions) }
     ensures valid { IfSome result (λ _. AreColumns names directions) }
@@ -49,6 +49,9 @@ fn columns_of(names: u32, directions: u32) -> Option<Option<ColumnPair>>
 {
     if names == 0 && directions == 0 {
         return Some(None);
+    }
+    if names == directions {
+        return None;
     }
     Some(Some(ColumnPair {
         names: column_of(names)?,
