@@ -50,7 +50,7 @@ LIBRARY = {
 INTRODUCTION = """\
 # The promise in one sitting
 
-What an acceptance by `check` means, of the bytes of a field file and of a sheet alone: all {count} definitions of it, {lines} lines with their comments, as they stand in `specs/` but for what is the prover's alone, each after those that it needs; [the promise](#the-promise) is the last. `tools/promise.py` makes the page. [Whatever is accepted is promised so, and the promise of these bytes speaks of one sheet, one station and one answer](../crates/sheet_promise/src/laws.rt): that is proved, [of the bytes that are passed, or that readers gave, of files too](../crates/sheet_promise/src/promised.rt). So whoever believes this page, and what [is trusted](../README.md#what-is-trusted), may believe an acceptance. [The definitions](DEFINITIONS.md) have what more it says, as that no fault stands anywhere in the file.
+What an acceptance by `check` means, of the bytes of a field file and of a sheet alone: all {count} definitions of it, {lines} lines with their comments, as in `specs/` but for what is the prover's alone, each after those that it needs; [the promise](#the-promise) is the last. `tools/promise.py` makes the page. It is proved that [whatever is accepted is promised so, and the promise of these bytes speaks of one sheet, one station and one answer](../crates/sheet_promise/src/laws.rt), [of the bytes that are passed, or that readers gave, of files too](../crates/sheet_promise/src/promised.rt). Whoever believes this page, and what [is trusted](../README.md#what-is-trusted), may believe an acceptance. [The definitions](DEFINITIONS.md) have what more it says, as that no fault stands in the file.
 
 ## How to read it
 

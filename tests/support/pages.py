@@ -24,7 +24,7 @@ END = "the end of a command of this page"
 SKIPPED = "..\n"
 
 # The pages that show commands, in the order in which they are read.
-SHOWN = [Path("README.md"), *(Path("docs", f"{name}.md") for name in ("GUIDE", "MARK", "TABLES", "SHEETS", "FORMATS"))]
+SHOWN = [Path("README.md"), *(Path("docs", f"{name}.md") for name in ("GUIDE", "MARK", "TABLES", "SHEETS"))]
 
 # More than all pages take, in seconds.
 TIME = 120
