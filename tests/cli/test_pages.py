@@ -66,8 +66,9 @@ SAID = [
 # A limit that a call of the library takes: its unit, and how many of them it has at most.
 LIMIT = re.compile(r"^\| `(\w+)`.* \| ([\d.]+) mgon.* \| ([\d,]+) \|$", re.MULTILINE)
 
-# A path in the text of a page: of the repository, or below crates/.
+# A path in the text of a page: of the repository, or below crates/; and the name alone of a file of a crate.
 NAMED = re.compile(r"`(\w+(?:/[\w.-]+)+)`")
+NAMED_ALONE = re.compile(r"`(\w+\.(?:rt|antt))`")
 
 ADDING = ROOT / "docs" / "ADDING.md"
 TESTS = ROOT / "docs" / "TESTS.md"
@@ -253,12 +254,15 @@ class PagesTest(TimedTest):
     def test_a_change_goes_to_files_that_are_there(self):
         section = ARCHITECTURE.read_text().partition("## Where a change goes")[2].partition("\n## ")[0]
         # What is made stands below build/, and not in a fresh clone.
-        named = NAMED.findall(section) + NAMED.findall(ADDING.read_text())
-        paths = [path for path in named if not path.startswith("build/")]
+        text = section + ADDING.read_text()
+        paths = [path for path in NAMED.findall(text) if not path.startswith("build/")]
         self.assertGreater(len(paths), 20)
         for path in paths:
             with self.subTest(path):
                 self.assertTrue((ROOT / path).exists() or (ROOT / "crates" / path).exists())
+        for name in NAMED_ALONE.findall(text):
+            with self.subTest(name):
+                self.assertTrue(list(ROOT.glob(f"crates/*/*/{name}")))
 
     def test_each_crate_of_tests_is_named_for_its_library(self):
         crates = re.findall(r"^(\w+)[^:]*:", (ROOT / "crates.txt").read_text(), re.MULTILINE)
