@@ -148,7 +148,7 @@ MISTAKES: list[tuple[str, dict[str, Any], type[Exception], str]] = [
     ("compare", {"unit": "deg"}, ValueError, "unit is 'deg': state one of gon, degrees, dmmss"),
     ("compare", {"columns": (0, 2)}, ValueError, "columns is 0: state 1 to 999999"),
     (
-        "table",
+        "differences",
         {"columns": (2, 2)},
         ValueError,
         "columns are two: that of the names and that of the directions, as (2, 6)",

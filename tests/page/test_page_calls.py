@@ -175,7 +175,7 @@ def node():
 
 
 # What the program alone can be told: flags, and the beginnings of options with a text.
-OF_PROGRAM = "--csv", "--all", "--decimal-comma", "--signature"
+OF_PROGRAM = "--csv", "--json", "--all", "--decimal-comma", "--signature"
 NAMED_BY_PROGRAM = "--table", "--note", "--date"
 
 
