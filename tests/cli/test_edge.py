@@ -296,13 +296,14 @@ def changes_one(line, options):
 
 
 class EdgeTest(ProgramTest):
-    def test_what_no_contract_says_is_as_short_as_the_page_of_trust_says(self):
+    def test_what_no_contract_says_stands_on_the_page_of_trust(self):
+        """Word for word: `main`, and the host that a run has."""
         sources = [ROOT / "crates" / path for path in ["station_program/src/main.rt", "command_run/src/host.rt"]]
         main, host = (path.read_text() for path in sources)
-        lines = main.partition("\nfn main(")[2].partition("\n}\n")[0].count("\n") + 2
-        of_host = host.partition("\nimpl Host for HostRuntime {")[2].count("\n")
+        begun, of_main, _ = main.partition("\nfn main(")[1:2] + main.partition("\nfn main(")[2].partition("\n}\n")[:2]
+        of_host = "".join(host.partition("impl Host for HostRuntime {")[1:])
         page = (ROOT / "docs" / "TRUST.md").read_text()
-        for said in [f"the {lines} lines of `main`", f"the {of_host} of [`host.rt`]"]:
+        for said in [f"{begun}{of_main}\n}}\n", of_host]:
             self.assertIn(said, page)
 
     def assert_answers(self, runs):

@@ -121,7 +121,7 @@ NAMES_NONE = ["use std::io::{BufWriter, Write};", "use std::alloc::Global;", "Fi
 AT_THE_EDGE = ["byte_ends", "command_run/src/host.rt", "station_program/src/main.rt"]
 
 # A part of what is trusted, and how many lines it has.
-PART = re.compile(r"^\| `([\w./]+)`: .* \| (\d+) \|$", re.MULTILINE)
+PART = re.compile(r"`([\w./]+)`(?:: [^|\n]* \|)? (\d+)\b")
 
 LINK = re.compile(r"\]\(([^)#]*)(?:#([^)]*))?\)")
 
