@@ -47,8 +47,8 @@ RT = os.environ.get("RT", "rt")
 # Half units of a full circle, and units of 0.001 mgon in one.
 TURN, HALF_UNIT = 80_000_000, 5
 
-# What runs the scripts. In one thread, since a node that ends while another thread of it still compiles
-# the module now and then waits for that for ever.
+# What runs the scripts. In one thread: one run of thousands had no end within a minute, and why was
+# not seen; a thread that compiles the module is what may have held it up.
 NODE = ["node", "--no-warnings", "--single-threaded"]
 
 # The smallest module whose memory has addresses of 64 bits.
