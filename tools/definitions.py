@@ -56,14 +56,14 @@ LAW = re.compile(r"^pub fn (\w+)\(\)$|ensures \w+ \{ (\w+) ≡ (?:pos )?([\d_]+)
 INTRODUCTION = """\
 # Definitions
 
-Which files a verifier reads, in which order (`tools/definitions.py` makes this page). Each definition has a comment, in which *GSI manual* means Leica's description of the format, *textbook* the usual least-squares station adjustment, *profile* that this project decides.
+Which files a verifier reads, in which order (`tools/definitions.py` makes this page). In their comments *GSI manual* means Leica's description of the format, *textbook* the usual least-squares station adjustment, *profile* that this project decides.
 
 1. [What an answer says](TRUST.md), in words; of an acceptance [the promise](PROMISE.md) of the bytes alone, in one sitting.
-2. The promise as the contract has it: of an acceptance [`Accepted`](../crates/station_check/specs/Accepted.antt), of an agreement [`Agreeing`](../crates/station_compare/specs/Agreeing.antt); and what it cites, in the lists below, where each file rests on those before it alone: not the program written again, but relations on lines and sums over rows; where one goes line by line, a law says the same in another way.
+2. The promise as the contract has it: of an acceptance [`Accepted`](../crates/station_check/specs/Accepted.antt), of an agreement [`Agreeing`](../crates/station_compare/specs/Agreeing.antt); and what it cites, in the lists below, where each file rests on those before it alone: relations on lines and sums over rows, and not the program written again.
 3. [`check_bytes`](../crates/station_check/src/check.rt), whose contract it is, and [of which bytes](#of-which-bytes-it-is-said) it is said.
 4. [The lines that no contract reaches](TRUST.md#where-the-program-meets-the-system).
 
-Whoever believes these, and what [is trusted](../README.md#what-is-trusted), may believe an answer. On other definitions nothing here rests.
+Whoever believes these, and what [is trusted](../README.md#what-is-trusted), may believe an answer.
 """
 
 
