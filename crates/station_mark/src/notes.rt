@@ -1,6 +1,6 @@
 //! What is told of the stations of a field file.
 
-ghost use Rattle.std.specs.Prelude.{◌≡◌, ◌++◌, [], IfOk, OnOk, decimal, option_map};
+ghost use Rattle.std.specs.Prelude.{◌≡◌, ◌++◌, [], IfOk, OnOk, codes, decimal, drop, option_map};
 ghost use Rattle.station_mark.specs.Notes.{again_line, are_missing, counted, ends_text, fault_text};
 ghost use Rattle.station_mark.specs.Notes.{faultless_text, flaw_text, has_readings, is_named_again};
 ghost use Rattle.station_mark.specs.Notes.{left_outside_text, line_head, line_of_some, missing_text};
@@ -21,6 +21,10 @@ use std::alloc::{AllocError, Global};
 /// The last line of the notes.
 const LAST_LINE: &[u8] = b"note: compare this with the field book\n";
 
+/// Bytes of the line of a station, about: room for so many is made for each, so that the text is
+/// seldom moved.
+const USUAL_LINE: usize = 112;
+
 /// Units of 0.00001 gon in a mgon.
 const UNITS_IN_MGON: usize = 100;
 
@@ -29,7 +33,8 @@ const UNITS_IN_MGON: usize = 100;
 pub fn notes_text(alloc: Global, stations: &[Recognized]) -> Result<Vec<u8>, AllocError>
     ensures { IfOk result (λ text. text.items ≡ spec.notes_text stations.now) }
 {
-    let mut text = Vec::new(alloc);
+    let room = stations.len().saturating_mul(USUAL_LINE);
+    let mut text = Vec::with_capacity(alloc, room)?;
     add_stations(alloc, &mut text, stations)?;
     text.extend_from_slice(LAST_LINE)?;
     Ok(text)
@@ -44,7 +49,7 @@ pub(crate) fn add_stations(
     ensures { OnOk result
         (text.new.items ≡ text.old.items ++ stations_text [] stations.now) }
 {
-    let mut names = Names::new(alloc);
+    let mut names = Names::with_room(alloc, stations.len())?;
     let mut left = stations;
     'stations: while let Some((station, later)) = left.split_first() {
         add_next(text, &mut names, station, later)?;
@@ -110,7 +115,7 @@ fn add_times(text: &mut Vec<u8>, count: usize) -> Result<(), AllocError>
     ensures { OnOk result (text.new.items ≡ text.old.items ++ written_again_text count) }
 {
     text.extend_from_slice(b"set-up line written again ")?;
-    add_counted(text, count, b"time")?;
+    add_counted(text, count, b" time", b" times")?;
     text.extend_from_slice(b", taken as the same set-up")?;
     Ok(())
 }
@@ -251,7 +256,7 @@ fn add_without_sets(text: &mut Vec<u8>, readings: usize) -> Result<(), AllocErro
 fn add_left_outside(text: &mut Vec<u8>, readings: usize) -> Result<(), AllocError>
     ensures { OnOk result (text.new.items ≡ text.old.items ++ left_outside_text readings) }
 {
-    add_counted(text, readings, b"reading")?;
+    add_counted(text, readings, b" reading", b" readings")?;
     text.extend_from_slice(if readings == 1 {
         b" stays outside"
     } else {
@@ -274,9 +279,9 @@ fn add_with_sets(text: &mut Vec<u8>, station: &Recognized) -> Result<(), AllocEr
 fn add_sets(text: &mut Vec<u8>, station: &Recognized) -> Result<(), AllocError>
     ensures { OnOk result (text.new.items ≡ text.old.items ++ sets_text station.now) }
 {
-    add_counted(text, station.sets, b"set")?;
+    add_counted(text, station.sets, b" set", b" sets")?;
     text.extend_from_slice(b", ")?;
-    add_counted(text, station.targets, b"target")?;
+    add_counted(text, station.targets, b" target", b" targets")?;
     Ok(())
 }
 
@@ -285,7 +290,7 @@ fn add_outside(text: &mut Vec<u8>, station: &Recognized) -> Result<(), AllocErro
     ensures { OnOk result (text.new.items ≡ text.old.items ++ outside_text station.now) }
 {
     text.extend_from_slice(b"; ")?;
-    add_counted(text, station.before, b"reading")?;
+    add_counted(text, station.before, b" reading", b" readings")?;
     text.extend_from_slice(b" before them and ")?;
     add_count(text, station.after)?;
     text.extend_from_slice(b" after stay outside")?;
@@ -341,7 +346,7 @@ fn add_missing_count(text: &mut Vec<u8>, remarks: &Remarks) -> Result<(), AllocE
 {
     add_count(text, remarks.missing)?;
     text.extend_from_slice(b" of ")?;
-    add_counted(text, remarks.directions, b"direction")?;
+    add_counted(text, remarks.directions, b" direction", b" directions")?;
     add_are_missing(text, remarks.missing)?;
     Ok(())
 }
@@ -367,7 +372,7 @@ fn add_others(text: &mut Vec<u8>, name: &Name, remarks: &Remarks) -> Result<(), 
         return Ok(());
     }
     add_head(text, name)?;
-    add_counted(text, remarks.others, b"target")?;
+    add_counted(text, remarks.others, b" target", b" targets")?;
     text.extend_from_slice(b" after the sets in both faces: of another station?")?;
     text.extend_from_slice(b"\n")?;
     Ok(())
@@ -456,16 +461,15 @@ fn whole_mgon(units: u32) -> usize
     (units as usize + UNITS_IN_MGON / 2) / UNITS_IN_MGON
 }
 
-/// Adds so many of a thing.
-fn add_counted(text: &mut Vec<u8>, count: usize, thing: &[u8]) -> Result<(), AllocError>
-    ensures { OnOk result (text.new.items ≡ text.old.items ++ counted count thing.now) }
+/// Adds so many of a thing: after a blank, what one of it is called, or more of it.
+fn add_counted(text: &mut Vec<u8>, count: usize, one: &[u8], more: &[u8]) -> Result<(), AllocError>
+    requires blank { one.now ≡ codes " " ++ drop 1 one.now }
+    requires plural { more.now ≡ one.now ++ codes "s" }
+    ensures { OnOk result
+        (text.new.items ≡ text.old.items ++ counted count (drop 1 one.now)) }
 {
     add_count(text, count)?;
-    text.extend_from_slice(b" ")?;
-    text.extend_from_slice(thing)?;
-    if count != 1 {
-        text.extend_from_slice(b"s")?;
-    }
+    text.extend_from_slice(if count == 1 { one } else { more })?;
     Ok(())
 }
 
