@@ -1,0 +1,5 @@
+-- The public definitions, which public contracts cite.
+pub mod Answers
+pub mod Runs
+-- The inside: a text and what was kept. No public contract cites it.
+pub mod Telling

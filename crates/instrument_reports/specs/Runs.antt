@@ -1,0 +1,52 @@
+-- What the answer of a run says, and what `out` got.
+use Rattle.std.specs.Prelude.{◌≡◌, ℕ, List, Result}
+use Rattle.book_answers.specs.Refusals.{fault_of, of_no_one}
+use Rattle.book_answers.specs.declared.refusal.StationRefusal.{StationRefusal}
+use Rattle.byte_ends.specs.Sink.{WriterChange}
+use Rattle.byte_ends.specs.Source.{ReaderChange}
+use Rattle.instrument_reports.specs.Answers.{SaysReportOf, SaysTableReportOf, TellsReports}
+use Rattle.station_answers.specs.Answers.{TellsOf}
+use Rattle.station_book.specs.declared.result_limits.ResultLimits.{ResultLimits}
+use Rattle.station_check.specs.RunEndings.{PrintsAnswer}
+use Rattle.station_compare.specs.Hints.{IsHinted}
+use Rattle.station_compare.specs.Refusals.{by_fault, unhinted}
+use Rattle.station_compare.specs.Runs.{ReadsFieldFile}
+use Rattle.station_compare.specs.declared.fault.CompareFault.TheVariants.{Write}
+use Rattle.station_compare.specs.declared.refusal.Refusal.{Refusal}
+use Rattle.station_report.specs.NoteTexts.{ReportHead}
+use Rattle.table_answers.specs.Answers.{ReadsBoth, TellsBeside}
+use Rattle.table_answers.specs.Noting.{Noting}
+use Rattle.table_answers.specs.Printing.{PrintsReport}
+use Rattle.table_answers.specs.Runs.{PrintsBeside}
+use Rattle.table_answers.specs.Telling.{note_of}
+use Rattle.table_report.specs.Stating.{ReportAsked, ReportValue}
+
+-- A run of the report: all that it promises of its answer, with the hint of a refusal, and how the
+-- text was written.
+pub record IsReportRun {A : Type 0} (head : ReportHead) (limits : ResultLimits)
+    (gsi : ReaderChange) (name : List ℕ) (r : Result A Refusal) (out : WriterChange)
+    : Type 0 where
+  pub answer : Result (List ℕ) Refusal
+  pub tells : ReadsFieldFile gsi (by_fault answer) (λ file.
+      TellsOf (SaysReportOf file head limits) limits file name (by_fault answer)
+      × IsHinted limits file name answer)
+  pub printed : PrintsAnswer (λ text. text) (unhinted Write) answer r out
+
+-- The same of the reports of all stations.
+pub record IsReportsRun {A : Type 0} (head : ReportHead) (limits : ResultLimits)
+    (gsi : ReaderChange) (r : Result A StationRefusal) (out : WriterChange) : Type 0 where
+  pub answer : Result (List ℕ) StationRefusal
+  pub tells : ReadsFieldFile gsi (fault_of answer) (λ file. TellsReports head limits file answer)
+  pub printed : PrintsAnswer (λ text. text) (of_no_one Write) answer r out
+
+-- The same of the report with a table, and the note of the table.
+pub record IsTableReportRun {A : Type 0} (asked : ReportAsked) (limits : ResultLimits)
+    (gsi table : ReaderChange) (name : List ℕ) (r : Result A Refusal) (note : List ℕ)
+    (out : WriterChange) : Type 0 where
+  pub answer : Result (ReportValue × List ℕ) Refusal
+  pub tells : ReadsBoth gsi table (by_fault answer) (λ file stated.
+      TellsBeside (Noting (SaysTableReportOf file asked limits) asked.form) asked.form limits file
+      stated name (by_fault answer)
+      × IsHinted limits file name answer)
+  pub printed : PrintsBeside (λ noted. PrintsReport noted.0) answer r out
+  pub noted : note ≡ note_of answer
