@@ -50,6 +50,32 @@ FROM_THE_MEDIAN = b"""\
   P12                     345.209190        -0.500              0.000
 """
 
+# Words of the first block of a field file and of its last, and the lines of a report that tell them.
+RECORDED = [
+    (b"", b"", b""),
+    (b"14....+00345678 16....+00000001", b"20....+00000012", b""),
+    (b"12....+00345678", b"", b"  12 serial number    00345678\n"),
+    (b"", b"12....+00345678", b"  12 serial number    00345678\n"),
+    (b"12....-00345678", b"12..9.+00345678", b"  12 serial number    00345678\n"),
+    (b"12....+00345678", b"12....+00345679", b"  12 serial number    00345678 and others\n"),
+    (b"13..1.+0000TS16 13..1.+0000TS15", b"13..1.+0000TS16", b"  13 instrument type  0000TS16 and others\n"),
+    (b"17....+27112026", b"17....+28112026", b"  17 date             27112026 to 28112026\n"),
+    (b"18....+00002630 18....+00003121", b"18....+00002630", b"  18 time format 1    00002630\n"),
+    (b"19....+11270915 19....+11270917", b"", b"  19 time format 2    11270915 to 11270917\n"),
+    (
+        b"19....+11270915 18....+00002630 17....+27112026",
+        b"13....+      12 12....+00345678",
+        b"  12 serial number    00345678\n"
+        b"  13 instrument type        12\n"
+        b"  17 date             27112026\n"
+        b"  18 time format 1    00002630\n"
+        b"  19 time format 2    11270915\n",
+    ),
+]
+
+# Contents of such words.
+CONTENTS = [b"345678", b"345679", b"27112026", b"TS16", b" 1 "]
+
 # Names of files, and how a report shows them.
 PATHS = [
     ("a\nb", b"\\a\\nb"),
@@ -65,6 +91,25 @@ PATHS = [
 def lines_of(text, *beginnings):
     """The lines of a text that begin so."""
     return [line for line in text.splitlines() if line.startswith(beginnings)]
+
+
+def with_words(file, first, last):
+    """A file with these words at the end of its first block and of its last."""
+    lines = file.splitlines()
+    lines[0] = lines[0].rstrip() + b" " + first
+    lines[-1] = lines[-1].rstrip() + b" " + last
+    return b"\r\n".join(lines)
+
+
+def with_random_words(random, file):
+    """A file whose blocks have words of instrument and time."""
+    lines = [line.rstrip() for line in file.splitlines()]
+    for place, line in enumerate(lines):
+        width = 16 if line.startswith(b"*") else 8
+        for index in random.sample([12, 13, 17, 18, 19], random.choice([0, 0, 1, 2])):
+            content = random.choice(CONTENTS).rjust(width, b"0")
+            lines[place] += b" %d....%s%s" % (index, random.choice([b"+", b"+", b"-"]), content)
+    return b"\n".join(lines)
 
 
 class ReportTest(ProgramTest):
@@ -108,6 +153,21 @@ class ReportTest(ProgramTest):
                     continue
                 notes = model.ReportNotes(text.encode(), noted, True)
                 self.assertEqual(model.reported(STATION, bytes(EXAMPLE), b"S1", notes=notes), found)
+
+    def test_what_the_file_recorded_stands_below_its_path(self):
+        """As it stands, and nowhere else; with a table too, and above the digests."""
+        field, table = self.folder / "field.gsi", self.folder / "table.csv"
+        table.write_bytes(TABLE_15)
+        for options in [], ["--signature"], [f"--table={table}"]:
+            plain = self.report_of(STATION, *options).splitlines(keepends=True)
+            for first, last, recorded in RECORDED:
+                gsi = with_words(STATION, first, last)
+                with self.subTest(first=first, last=last, options=options):
+                    expected = b"".join([*plain[:3], recorded, *plain[3:]])
+                    self.assertEqual(expected, self.report_of(gsi, *options))
+                    digests = self.report_of(gsi, *options, "--sha256")
+                    self.assertTrue(digests.startswith(expected + b"\nSHA-256 digests"))
+                    self.assertEqual(self.report_of(STATION, "--csv"), self.report_of(gsi, "--csv"))
 
     def test_a_label_of_the_head_is_no_note(self):
         """Nor is one with blanks that would make its line that of the label."""
@@ -298,6 +358,12 @@ class GeneratedTest(AgainstModel):
         for place in range(STATIONS):
             file = station_to_adjust(Random(f"{SEED} report {place}"))
             self.compare([Case(f"{place}", command, file) for command in ["report", "report --csv"]])
+
+    def test_generated_words_of_instrument_and_time_beside_the_model(self):
+        for place in range(STATIONS):
+            random = Random(f"{SEED} words {place}")
+            file = with_random_words(random, station_to_adjust(random))
+            self.compare([Case(f"{place}", "report", file)])
 
     def test_zenith_angles_beside_the_model(self):
         """Of targets in one set and in up to forty, near each other and as far apart as they may be."""

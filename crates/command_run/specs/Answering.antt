@@ -27,12 +27,13 @@ use Rattle.command_line.specs.declared.request.StationsText.TheVariants as texts
 use Rattle.command_line.specs.declared.request.TableBeside.{TableBeside}
 use Rattle.command_line.specs.declared.request.TableText.{TableText}
 use Rattle.command_line.specs.declared.request.TableText.TheVariants as table_text
+use Rattle.instrument_reports.specs.Runs.{IsReportRun, IsReportsRun, IsTableReportRun}
 use Rattle.list_rows.specs.Runs.{IsRowsRun}
 use Rattle.report_notes.specs.Notes.{notes_value}
 use Rattle.report_notes.specs.declared.notes.Notes.{Notes}
 use Rattle.report_rows.specs.Stating.{AreReportRows}
 use Rattle.station_answers.specs.Runs.{IsAnswerRun}
-use Rattle.station_answers.specs.Saying.{SaysDirections, SaysReport}
+use Rattle.station_answers.specs.Saying.{SaysDirections}
 use Rattle.station_check.specs.ListNotes.{unchecked_note}
 use Rattle.station_check.specs.RunEndings.{Run, RunWithNotes, WritesOrFails}
 use Rattle.station_check.specs.Runs.{IsCheckRun, IsMeansRun, IsNotedListRun, IsWordsRun}
@@ -61,9 +62,9 @@ use Rattle.station_record.specs.Recorded.{IsRecordedTableReport}
 use Rattle.station_report.specs.NoteTexts.{ReportHead}
 use Rattle.station_record.specs.declared.named.NamedReader.{NamedReader}
 use Rattle.table_answers.specs.Comparisons.{IsCompareRun}
-use Rattle.table_answers.specs.Printing.{PrintsReport, PrintsText}
+use Rattle.table_answers.specs.Printing.{PrintsText}
 use Rattle.table_answers.specs.Runs.{IsTableRun}
-use Rattle.table_answers.specs.Saying.{SaysDifferences, SaysJsonLines, SaysTableReport}
+use Rattle.table_answers.specs.Saying.{SaysDifferences, SaysJsonLines}
 use Rattle.table_answers.specs.Telling.{RunTold}
 use Rattle.table_report.specs.Stating.{ReportAsked}
 
@@ -92,8 +93,7 @@ PrintsStation files out err its (text.Directions decimals form) status =
     (IsAnswerRun (SaysDirections form decimals) its.limits gsi its.name.now) status out err)
 PrintsStation files out err its (text.Report digests.Omitted notes) status =
     IsTakenIn files its.gsi.reader (λ gsi. Run {A = ⊤} refusal_text
-    (IsAnswerRun (SaysReport (head_with its.gsi.name.now notes) its.limits) its.limits gsi
-    its.name.now) status out err)
+    (IsReportRun (head_with its.gsi.name.now notes) its.limits gsi its.name.now) status out err)
 PrintsStation files out err its (text.Report digests.Printed notes) status =
     IsTakenIn files its.gsi.reader (λ gsi. Run {A = ⊤} refusal_text
     (IsRecordedReport (head_with its.gsi.name.now notes) its.limits gsi its.name.now)
@@ -112,8 +112,7 @@ PrintsStations files out err all (texts.Directions decimals form) status =
     status out err)
 PrintsStations files out err all (texts.Reports notes) status =
     IsTakenIn files all.gsi.reader (λ gsi. Run {A = ⊤} named_refusal_text
-    (IsRunOfAll (SaysReport (head_with all.gsi.name.now notes) all.limits) all.limits
-    arrangement.Pages gsi) status out err)
+    (IsReportsRun (head_with all.gsi.name.now notes) all.limits gsi) status out err)
 PrintsStations files out err all (texts.ReportRows rows) status =
     IsTakenIn files all.gsi.reader (λ gsi. Run {A = ⊤} named_refusal_text
     (IsRunOfAll (AreReportRows rows) all.limits arrangement.Rows gsi) status out err)
@@ -150,9 +149,8 @@ PrintsBeside {F} files out err its table_text.JsonLines status =
     (change_of files its.file.reader table') its.station.name.now) status out err)
 PrintsBeside {F} files out err its (table_text.Report within digests.Omitted notes) status =
     (table' : F) × IsTakenIn files its.station.gsi.reader (λ gsi. RunTold {A = ⊤}
-    (IsTableRun (SaysTableReport (asked_of its within notes) its.station.limits) PrintsReport its.form
-    its.station.limits gsi (change_of files its.file.reader table') its.station.name.now)
-    status out err)
+    (IsTableReportRun (asked_of its within notes) its.station.limits gsi
+    (change_of files its.file.reader table') its.station.name.now) status out err)
 PrintsBeside files out err its (table_text.Report within digests.Printed notes) status =
     IsTakenIn files its.station.gsi.reader (λ gsi. IsTakenIn files its.file.reader (λ table.
     RunTold {A = ⊤} (IsRecordedTableReport (asked_of its within notes)

@@ -24,9 +24,10 @@ use command_line::{
     Digests, FieldStation, FieldStations, ListForm, Request, SheetCheck, StationText, StationsText,
     TableBeside, TableText,
 };
+use instrument_reports::{run_report, run_reports, run_table_report};
 use list_rows::run_list_rows;
 use report_notes::Notes;
-use station_answers::{Directions, Report, ReportRows, run_answer};
+use station_answers::{Directions, ReportRows, run_answer};
 use station_change::run_change;
 use station_check::{run_check, run_list, run_means, run_words};
 use station_explain::Explanation;
@@ -434,10 +435,7 @@ fn print_station<F: Source, W: Sink, E: Sink>(
         StationText::Report { digests, notes } => {
             let head = head_with(gsi.name, &notes);
             match digests {
-                Digests::Omitted => {
-                    let asked = Report { head };
-                    run_answer(alloc, gsi.reader, name, limits, &asked, out, err)
-                }
+                Digests::Omitted => { run_report(alloc, gsi.reader, name, limits, head, out, err) }
                 Digests::Printed => {
                     let gsi = HeadedReader {
                         head,
@@ -476,9 +474,7 @@ fn print_stations<F: Source, W: Sink, E: Sink>(
         }
         StationsText::Reports { notes } => {
             let head = head_with(gsi.name, &notes);
-            let asked = Report { head };
-            let arrangement = Arrangement::Pages;
-            run_answer_of_all(alloc, gsi.reader, limits, &asked, arrangement, out, err)
+            run_reports(alloc, gsi.reader, limits, head, out, err)
         }
         StationsText::ReportRows { form } => {
             let asked = ReportRows { form };
@@ -564,7 +560,7 @@ fn print_beside<F: Source, W: Sink, E: Sink>(
                 within,
             };
             match digests {
-                Digests::Omitted => run_table_answer(
+                Digests::Omitted => run_table_report(
                     alloc,
                     gsi.reader,
                     &mut table.reader,

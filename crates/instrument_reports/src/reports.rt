@@ -57,8 +57,8 @@ fn answers_with(
     answer: Result<Vec<u8>, StationRefusal>,
     kept: Option<Vec<u8>>,
 ) -> Result<Vec<u8>, StationRefusal>
-    ensures { IsAnswerWith (λ text. text.items) (of_no_one Memory) (option_map (λ bytes. bytes.items) kept)
-        answer result }
+    ensures { IsAnswerWith (λ text. text.items) (of_no_one Memory)
+        (option_map (λ bytes. bytes.items) kept) answer result }
 {
     let text = answer?;
     Ok(text_with(alloc, &text, &kept)?)

@@ -33,8 +33,8 @@ pub(crate) fn answer_with(
     answer: Result<Vec<u8>, Refusal>,
     kept: Option<Vec<u8>>,
 ) -> Result<Vec<u8>, Refusal>
-    ensures { IsAnswerWith (λ text. text.items) (unhinted Memory) (option_map (λ bytes. bytes.items) kept)
-        answer result }
+    ensures { IsAnswerWith (λ text. text.items) (unhinted Memory)
+        (option_map (λ bytes. bytes.items) kept) answer result }
 {
     let text = answer?;
     Ok(text_with(alloc, &text, &kept)?)

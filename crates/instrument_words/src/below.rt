@@ -34,12 +34,7 @@ fn lines_above(above: usize, byte: u8) -> usize
 }
 
 /// Adds a byte of a text, and the lines where it ends the last line above them.
-fn push_byte(
-    whole: &mut Vec<u8>,
-    byte: u8,
-    above: usize,
-    lines: &[u8],
-) -> Result<(), AllocError>
+fn push_byte(whole: &mut Vec<u8>, byte: u8, above: usize, lines: &[u8]) -> Result<(), AllocError>
     ensures { OnOk result (whole.new.items ≡ whole.old.items
         ++ byte ∷ (if above == 1 && byte == spec.LINE_FEED then lines.now else [])) }
 {

@@ -16,7 +16,7 @@ use Rattle.station_check.specs.SheetInput.{sheet_left}
 use Rattle.station_check.specs.VerdictLines.{accepted_line}
 use Rattle.station_check.specs.declared.fault.Fault.{Fault}
 use Rattle.station_check.specs.declared.fault.Fault.TheVariants.{Write}
-use Rattle.station_record.proofs.Alike.{leaves_too}
+use Rattle.instrument_words.proofs.Alike.{leaves_too}
 use Rattle.station_record.specs.Recorded.{IsRecordedCheck, recorded_text}
 
 -- The promise of two digesting readers is one of the readers that they ask, of the same bytes.

@@ -7,10 +7,10 @@ use Rattle.byte_digests.specs.declared.digesting.Digesting.{Digesting}
 use Rattle.byte_ends.specs.Sink.{WriterChange}
 use Rattle.byte_ends.specs.Source.{Told, ReaderChange, reader_change}
 use Rattle.gsi_file.specs.FileAnswers.{FileAnswers}
+use Rattle.instrument_reports.specs.Answers.{SaysReportOf}
 use Rattle.sha2.specs.Hashers.{Holds256}
 use Rattle.sha2.specs.Sha256.{sha256}
 use Rattle.station_answers.specs.Answers.{HasNone, StatesOf}
-use Rattle.station_answers.specs.Saying.{SaysReport}
 use Rattle.direction_table.specs.declared.form.TableForm.{TableForm}
 use Rattle.station_book.specs.Stations.{SurveyedStation}
 use Rattle.station_book.specs.declared.result_limits.ResultLimits.{ResultLimits}
@@ -22,7 +22,7 @@ use Rattle.station_compare.specs.Runs.{ReadsFieldFile}
 use Rattle.station_compare.specs.declared.fault.CompareFault.{CompareFault}
 use Rattle.station_compare.specs.declared.fault.CompareFault.TheVariants.{Write}
 use Rattle.station_compare.specs.declared.refusal.Refusal.{Refusal}
-use Rattle.station_record.proofs.Alike.{leaves_too}
+use Rattle.instrument_words.proofs.Alike.{leaves_too}
 use Rattle.station_record.specs.Parts.{ArePartsOf}
 use Rattle.station_record.specs.Recorded.{IsRecordedBoth, IsRecordedReport, recorded_report_text}
 use Rattle.station_report.specs.NoteTexts.{ReportHead}
@@ -98,7 +98,7 @@ printed_too items print text (Err fault) out p = p
 pub recorded_report : {T A : Type 0} (items : T → List ℕ) (head : ReportHead) (limits : ResultLimits)
     (gsi : ReaderChange) (station : List ℕ) (answer : Result T Refusal)
     (a : ReadsFieldFile gsi (by_fault answer) (λ file. MatchResult (by_fault answer)
-    (λ text. StatesOf (SaysReport head limits) limits file station (items text))
+    (λ text. StatesOf (SaysReportOf file head limits) limits file station (items text))
     (HasNone limits file station) × IsHinted limits file station answer)) (d : List ℕ)
     → d ≡ sha256 a.came.given
     → (r : Result A Refusal) (out : WriterChange)
@@ -119,13 +119,13 @@ recorded_report items head limits gsi station (Err refusal) a d is_d r out p = r
 
 -- The same of an answer of both and its note, printed with two digests.
 pub recorded_both : {T V A : Type 0} (value : T → V)
-    (Says : SurveyedStation → List ℕ → V → Type 0)
+    (Says : FileAnswers → SurveyedStation → List ℕ → V → Type 0)
     (Prints : List ℕ → List ℕ → V → Result A CompareFault → WriterChange → Type 0)
     (form : TableForm) (limits : ResultLimits) (gsi table : ReaderChange) (station : List ℕ)
     (noted : Result (Noted T) Refusal) (answer : Result T Refusal) (note : List ℕ)
     → ArePartsOf noted answer note
     → (a : ReadsBoth gsi table (by_fault noted) (λ file stated. MatchResult (by_fault noted)
-    (λ noted. StatesBeside (Noting Says form) limits file stated station
+    (λ noted. StatesBeside (Noting (Says file) form) limits file stated station
     (value noted.answer, noted.note.items))
     (HasNoAnswer form limits file stated station)
     × IsHinted limits file station noted)) (d e : List ℕ)

@@ -5,9 +5,10 @@ use Rattle.byte_digests.specs.DigestLines.{digest_line}
 use Rattle.byte_ends.specs.Sink.{WriterChange}
 use Rattle.byte_ends.specs.Source.{ReaderChange}
 use Rattle.direction_table.specs.declared.form.TableForm.{TableForm}
+use Rattle.gsi_file.specs.FileAnswers.{FileAnswers}
+use Rattle.instrument_reports.specs.Answers.{SaysReportOf, SaysTableReportOf}
 use Rattle.sha2.specs.Sha256.{sha256}
 use Rattle.station_answers.specs.Answers.{TellsOf}
-use Rattle.station_answers.specs.Saying.{SaysReport}
 use Rattle.station_book.specs.Limits.{FaceLimits}
 use Rattle.station_book.specs.Stations.{SurveyedStation}
 use Rattle.station_book.specs.declared.result_limits.ResultLimits.{ResultLimits}
@@ -29,7 +30,6 @@ use Rattle.table_answers.specs.Comparisons.{SaysComparison, verdict}
 use Rattle.table_answers.specs.Noting.{Noting}
 use Rattle.table_answers.specs.Printing.{PrintsVerdict}
 use Rattle.table_answers.specs.Runs.{PrintsBeside}
-use Rattle.table_answers.specs.Saying.{SaysTableReport}
 use Rattle.table_answers.specs.Telling.{note_of}
 use Rattle.table_answers.specs.declared.compared.Compared.{Compared}
 use Rattle.table_report.specs.Stating.{ReportAsked, ReportValue}
@@ -54,13 +54,14 @@ pub record IsRecordedCheck {A : Type 0} (limits : FaceLimits) (limit : Option �
 -- A run of an answer of a station and a table that is recorded: all that is promised of the answer,
 -- with the hint of a refusal, how it was printed with the digests of the very bytes that the two
 -- readers gave and that the promise speaks of, and the note of the table.
-pub record IsRecordedBoth {V A : Type 0} (Says : SurveyedStation → List ℕ → V → Type 0)
+pub record IsRecordedBoth {V A : Type 0}
+    (Says : FileAnswers → SurveyedStation → List ℕ → V → Type 0)
     (Prints : List ℕ → List ℕ → V → Result A CompareFault → WriterChange → Type 0)
     (form : TableForm) (limits : ResultLimits) (gsi table : ReaderChange) (station : List ℕ)
     (r : Result A Refusal) (note : List ℕ) (out : WriterChange) : Type 0 where
   pub answer : Result (V × List ℕ) Refusal
   pub tells : ReadsBoth gsi table (by_fault answer) (λ file stated.
-      TellsBeside (Noting Says form) form limits file stated station (by_fault answer)
+      TellsBeside (Noting (Says file) form) form limits file stated station (by_fault answer)
       × IsHinted limits file station answer)
   pub printed : PrintsBeside (λ noted. Prints (sha256 tells.gsi_bytes) (sha256 tells.table_bytes)
       noted.0) answer r out
@@ -78,7 +79,7 @@ abbrev pub IsRecordedCompare : {A : Type 0} → TableForm → ResultLimits → O
     → ReaderChange → List ℕ → ReaderChange → List ℕ → Result A Refusal → List ℕ
     → WriterChange → Type 0
 IsRecordedCompare form limits within station gsi gsi_name table table_name r note out =
-    IsRecordedBoth (SaysComparison form within limits) (PrintsRecorded gsi_name table_name) form
+    IsRecordedBoth (λ _. SaysComparison form within limits) (PrintsRecorded gsi_name table_name) form
     limits gsi table station r note out
 
 -- The line above the digests of a report.
@@ -102,7 +103,7 @@ pub record IsRecordedReport {A : Type 0} (head : ReportHead) (limits : ResultLim
     : Type 0 where
   pub answer : Result (List ℕ) Refusal
   pub tells : ReadsFieldFile gsi (by_fault answer)
-      (λ file. TellsOf (SaysReport head limits) limits file station (by_fault answer)
+      (λ file. TellsOf (SaysReportOf file head limits) limits file station (by_fault answer)
       × IsHinted limits file station answer)
   pub printed : PrintsAnswer (λ text. recorded_report_text text (sha256 tells.came.given) head.path)
       (unhinted compare.Write) answer r out
@@ -118,5 +119,5 @@ PrintsRecordedReport asked gsi table report r out =
 abbrev pub IsRecordedTableReport : {A : Type 0} → ReportAsked → ResultLimits → ReaderChange
     → ReaderChange → List ℕ → Result A Refusal → List ℕ → WriterChange → Type 0
 IsRecordedTableReport asked limits gsi table station r note out =
-    IsRecordedBoth (SaysTableReport asked limits) (PrintsRecordedReport asked) asked.form limits gsi
-    table station r note out
+    IsRecordedBoth (λ file. SaysTableReportOf file asked limits) (PrintsRecordedReport asked)
+    asked.form limits gsi table station r note out

@@ -14,12 +14,12 @@ use crate::lines::write_recorded_report;
 use crate::named::HeadedReader;
 use byte_digests::Digesting;
 use byte_ends::{Sink, Source};
-use station_answers::{Report, answer_of};
+use instrument_reports::report_of;
 use station_book::ResultLimits;
 use station_compare::Refusal;
 use std::alloc::Global;
 
-/// Writes the report of a station as `run_answer` does, and answers its exit status. After the text
+/// Writes the report of a station as `run_report` does, and answers its exit status. After the text
 /// it writes a line for the field file, as `sha256sum` prints it: the digest of the bytes that were
 /// read, and the name.
 // Out of line, so that runs without it need no room for it on the stack.
@@ -39,8 +39,7 @@ pub fn run_report_recorded<R: Source, W: Sink, E: Sink>(
         (writer_change E.Sink err.old err.new)) }
 {
     let digested = Digesting::new(gsi.reader);
-    let asked = Report { head: gsi.head };
-    let (answer, digested) = answer_of(alloc, digested, station, limits, &asked);
+    let (answer, digested) = report_of(alloc, digested, station, limits, gsi.head);
     let digest = digested.digest();
     let printed = print_report(answer, digest, gsi.head.path, out);
     report(printed, err)

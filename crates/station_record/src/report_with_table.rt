@@ -13,13 +13,14 @@ use crate::compare::parts_of;
 use crate::lines::write_recorded_both;
 use byte_digests::Digesting;
 use byte_ends::{Sink, Source};
+use instrument_reports::table_report_of;
 use station_book::ResultLimits;
 use station_compare::Refusal;
 use std::alloc::Global;
-use table_answers::{table_answer_of, tell, verdict};
+use table_answers::{tell, verdict};
 use table_report::{Asked, TableReport};
 
-/// Writes the report of a station with a table as `run_table_answer` does, and answers its exit
+/// Writes the report of a station with a table as `run_table_report` does, and answers its exit
 /// status. After the text it writes one line for the field file and one for the table, as
 /// `sha256sum` prints them: the digest of the bytes that were read, and the name.
 // Out of line, so that runs without it need no room for it on the stack.
@@ -43,7 +44,7 @@ pub fn run_table_report_recorded<R: Source, Q: Source, W: Sink, E: Sink>(
 {
     let digested_gsi = Digesting::new(gsi);
     let mut digested_table = Digesting::new(table);
-    let (answer, digested_gsi) = table_answer_of(
+    let (answer, digested_gsi) = table_report_of(
         alloc,
         digested_gsi,
         &mut digested_table,

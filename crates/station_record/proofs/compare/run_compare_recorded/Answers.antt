@@ -28,7 +28,7 @@ returns g c =
     a.gsi_bytes c.new-digested_gsi.ensures.nothing a.gsi_reads).1 in
     let table_held = (digested g.Q.Source.told g.Q.Source.failed g.Q.Source.gave table table'
     a.table_bytes c.new-digested_table.ensures.nothing a.table_reads).1 in
-    let run = recorded_both (λ compared. compared) (SaysComparison c.args.form c.args.within
+    let run = recorded_both (λ compared. compared) (λ _. SaysComparison c.args.form c.args.within
     c.args.limits) (PrintsRecorded c.args.gsi.name.now c.args.table.name.now) c.args.form
     c.args.limits _ _ c.args.station.now answer parts.result.0 parts.result.1.items parts.ensures
     answers c.digest-gsi_digest.result c.digest-table_digest.result

@@ -4,7 +4,7 @@ use Rattle.std.proofs.KnownBytes.{Appends-trans}
 use Rattle.byte_digests.proofs.Written.{in_any_case, some_of_longer, then_some}
 use Rattle.byte_digests.specs.DigestLines.{digest_line}
 use Rattle.station_check.proofs.Partway.{some_of_all}
-use Rattle.station_record.proofs.Alike.{always_ok}
+use Rattle.instrument_words.proofs.Alike.{always_ok}
 use Rattle.station_record.specs.Recorded.{recorded_text}
 use Rattle.station_record.proofs.lines.write_recorded.Goals as goal
 

@@ -3,7 +3,7 @@ use Rattle.std.specs.Io.KnownBytes.{Appends}
 use Rattle.std.proofs.KnownBytes.{Appends-trans}
 use Rattle.byte_digests.proofs.Written.{in_any_case, some_of_longer, then_some}
 use Rattle.station_check.proofs.Partway.{some_of_all}
-use Rattle.station_record.proofs.Alike.{always_ok}
+use Rattle.instrument_words.proofs.Alike.{always_ok}
 use Rattle.station_record.specs.Recorded.{digests_title, recorded_report_text}
 use Rattle.station_record.proofs.lines.write_recorded_report.Goals as goal
 

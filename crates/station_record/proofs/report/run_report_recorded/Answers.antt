@@ -12,9 +12,9 @@ use Rattle.station_record.proofs.report.run_report_recorded.Goals as goal
 pub returns : goal.returns
 returns g c =
     let gsi = c.new-digested.result in
-    let gsi' = c.answer_of-answer.result.1 in
-    let answer = c.answer_of-answer.result.0 in
-    let a = c.answer_of-answer.ensures in
+    let gsi' = c.report_of-answer.result.1 in
+    let answer = c.report_of-answer.result.0 in
+    let a = c.report_of-answer.ensures in
     let out = writer_change g.W.Sink c.args.out.now
     c.print_report-printed.new.out in
     let printed = c.print_report-printed.result in

@@ -6,18 +6,18 @@ use Rattle.byte_ends.specs.Source.{reader_change}
 use Rattle.station_compare.specs.Refusals.{by_fault}
 use Rattle.station_record.specs.Recorded.{IsRecordedTableReport, PrintsRecordedReport}
 use Rattle.station_record.proofs.ReportUndigested.{both_of, recorded_both}
-use Rattle.table_answers.specs.Saying.{SaysTableReport}
+use Rattle.instrument_reports.specs.Answers.{SaysTableReportOf}
 use Rattle.table_report.specs.Values.{asked_of, value_of}
 use Rattle.station_record.proofs.report_with_table.run_table_report_recorded.Goals as goal
 
 pub returns : goal.returns
 returns g c =
     let gsi = c.new-digested_gsi.result in
-    let gsi' = c.table_answer_of-answer.result.1 in
+    let gsi' = c.table_report_of-answer.result.1 in
     let table = c.new-digested_table.result in
-    let table' = c.table_answer_of-answer.new.table in
-    let answer = c.table_answer_of-answer.result.0 in
-    let a = c.table_answer_of-answer.ensures in
+    let table' = c.table_report_of-answer.new.table in
+    let answer = c.table_report_of-answer.result.0 in
+    let a = c.table_report_of-answer.ensures in
     let parts = c.parts_of-report in
     let asked = asked_of c.args.asked.now in
     let out = writer_change g.W.Sink c.args.out.now
@@ -30,7 +30,7 @@ returns g c =
     a.gsi_bytes c.new-digested_gsi.ensures.nothing a.gsi_reads).1 in
     let table_held = (digested g.Q.Source.told g.Q.Source.failed g.Q.Source.gave table table'
     a.table_bytes c.new-digested_table.ensures.nothing a.table_reads).1 in
-    let run = recorded_both value_of (SaysTableReport asked c.args.limits)
+    let run = recorded_both value_of (λ file. SaysTableReportOf file asked c.args.limits)
     (PrintsRecordedReport asked) asked.form c.args.limits _ _ c.args.station.now answer
     parts.result.0 parts.result.1.items parts.ensures tells
     c.digest-gsi_digest.result c.digest-table_digest.result
