@@ -7,9 +7,8 @@ import {
 } from './files.js';
 import { commandOf, isWithin } from './limits.js';
 import {
-  accuracyIn, each, greatestOf, partsIn, readingsOf, recognizedIn, residualsIn, rowsIn,
+  accuracyIn, each, greatestOf, partsIn, recognizedIn, residualsIn, rowsIn,
 } from './records.js';
-import { zenithsOf } from './zeniths.js';
 
 /**
  * @typedef {import('./files.js').Input} Input
@@ -56,9 +55,7 @@ import { zenithsOf } from './zeniths.js';
  * All that is answered of a station: the table of its directions, its residuals among the rows of
  * its report, that report, and where it is adjusted how accurate it is.
  * @typedef {{ directions: Answer, residuals: Answer, report: Answer,
- *   accuracy?: { degrees: number, deviation: string } }} Whole
- * The results of a station: that, and the zenith angles that the page itself takes of it.
- * @typedef {Whole & { zeniths: import('./zeniths.js').Zeniths[] }} Results
+ *   accuracy?: { degrees: number, deviation: string } }} Results
  */
 
 /**
@@ -75,9 +72,6 @@ export const ACCEPTED = 0, REFUSED = 1, OUT_OF_RANGE = 2, TOO_LITTLE_ROOM = 3;
  * field file that have no results to be checked: of more they are judged when they are opened.
  */
 const MOST_READ = 200_000_000;
-
-/** Of more bytes no zenith angles are taken: all words of a file are read for them. */
-const MOST_ANGLES = 2_000_000;
 
 /** The name by which it is tried whether a job lacks nothing else: no station has it. */
 const NAME_TO_TRY = '?';
@@ -499,7 +493,7 @@ async function wholeOf(station, limits) {
  * What is answered of a station, each with the command that prints it.
  * @param {Station} station
  * @param {Limits} limits
- * @returns {Promise<Whole>}
+ * @returns {Promise<Results>}
  */
 async function answersOf({ field, listed: { name } }, limits) {
   const { twoC, twoI, decimals } = limits, faces = ['twoC', 'twoI'];
@@ -519,24 +513,6 @@ async function answersOf({ field, listed: { name } }, limits) {
   };
 }
 
-/**
- * The results of a station: asked for when they are first shown.
- * @param {StationCard} card
- * @param {Limits} limits
- * @returns {Promise<Results>}
- */
-export async function resultsOf({ station }, limits) {
-  const whole = await wholeOf(station, limits);
-  return { ...whole, zeniths: await zenithsIn(station, whole) };
-}
-
-/**
- * The zenith angles of a station.
- * @param {Station} station
- * @param {Whole} whole
- */
-async function zenithsIn({ field, listed }, { report }) {
-  if (report.status !== ACCEPTED || field.bytes.length > MOST_ANGLES) return [];
-  const { text } = await ask('angles', field.bytes, listed.name);
-  return zenithsOf(text, readingsOf(report.line));
-}
+/** The results of a station: asked for when they are first shown. */
+export const resultsOf = (/** @type {StationCard} */ { station }, /** @type {Limits} */ limits) =>
+  wholeOf(station, limits);

@@ -1,4 +1,5 @@
 // Elements of the page, made with their texts.
+import { text } from './texts.js';
 
 /**
  * Makes an element at the end of another.
@@ -62,7 +63,9 @@ export function menuOf(content, parent) {
  */
 
 function cellOf(/** @type {Cell} */ { text: content, mark = '', bar }, /** @type {Element} */ row) {
-  const cell = element('td', bar === undefined ? content : '', row, { className: mark });
+  const said = mark === 'greatest' ? { title: text('isGreatest') } : {};
+  const about = { className: mark, ...said };
+  const cell = element('td', bar === undefined ? content : '', row, about);
   if (bar === undefined) return;
   element('span', content, cell);
   const line = element('span', '', cell, { className: bar < 0 ? 'bar below' : 'bar' });

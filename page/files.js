@@ -39,7 +39,7 @@ import { each, recordsOf } from './records.js';
  * @typedef {'same' | 'another'} Again
  * A station of a field file, with all that is answered of it once that was asked for.
  * @typedef {{ field: Input, listed: import('./records.js').Listed,
- *   whole?: import('./answers.js').Whole }} Station
+ *   whole?: import('./answers.js').Results }} Station
  */
 
 /** So many bytes at the beginning of a file tell what it is. */

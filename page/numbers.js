@@ -51,3 +51,16 @@ export function unitsIn(mgon, perMgon) {
   const units = BigInt(found[1] + rest) * BigInt(perMgon), scale = 10n ** BigInt(rest.length);
   return units % scale === 0n ? Number(units / scale) : null;
 }
+
+/** An angle in gon with six decimals is so many of its last one, and a full circle. */
+const GON = 1_000_000n, CIRCLE = 400n * GON;
+
+const microgonOf = (/** @type {string} */ gon) => BigInt(gon.replace('.', ''));
+
+/** A direction in gon with six decimals, turned so that another one is 0. */
+export const turned = (/** @type {string} */ direction, /** @type {string} */ first) =>
+  decimal((microgonOf(direction) - microgonOf(first) + CIRCLE) % CIRCLE, GON, 6);
+
+/** The mean of angles in gon with six decimals. */
+export const averaged = (/** @type {string[]} */ angles) =>
+  decimal(angles.map(microgonOf).reduce((a, b) => a + b), GON * BigInt(angles.length), 6);

@@ -1,8 +1,8 @@
 // The readings of a station: a table for each set, two of which stand beside each other on paper.
 import { element, tableOf } from './elements.js';
+import { averaged } from './numbers.js';
 import { each, sizeOf } from './records.js';
 import { numeral, signedNumeral, text } from './texts.js';
-import { gonOf, meanZenithOf } from './zeniths.js';
 
 /**
  * The readings in both faces, a table for each set, the greatest 2c and the greatest 2i marked.
@@ -33,11 +33,12 @@ export function readingsTables(readings, parent) {
 }
 
 /**
- * The zenith angles: of all sets the mean of each target, of each set both faces and their mean.
- * @param {import('./zeniths.js').Zeniths[]} zeniths
+ * The zenith angles: of all sets the mean of each target's means, of each set both faces and their
+ * mean.
+ * @param {import('./records.js').Reading[]} readings
  * @param {Element} parent
  */
-export function zenithsTables(zeniths, parent) {
+export function zenithsTables(readings, parent) {
   element('p', text('zenithsCaption'), parent, { className: 'caption' });
   const around = element('div', '', parent, { className: 'sets' });
   /** @type {(title: string, heads: string[], rows: string[][]) => void} */
@@ -47,11 +48,11 @@ export function zenithsTables(zeniths, parent) {
     const headings = [title, ...heads.map(name => text(name))];
     tableOf(title, headings, /** @type {any} */ (all), around, 'numbers');
   };
-  show(text('allSets'), ['mean'], each(zeniths.map(one => one.target)).map(target =>
-    [target, meanZenithOf(zeniths.filter(one => one.target === target))]));
-  for (const set of each(zeniths.map(one => one.set))) {
-    const rows = zeniths.filter(one => one.set === set);
+  show(text('allSets'), ['mean'], each(readings.map(one => one.target)).map(target =>
+    [target, averaged(readings.filter(one => one.target === target).map(one => one.zenith))]));
+  for (const set of each(readings.map(one => one.set))) {
+    const rows = readings.filter(one => one.set === set);
     show(text('setNumber', { set }), ['faceOne', 'faceTwo', 'mean'], rows.map(one =>
-      [one.target, gonOf(one.one), gonOf(one.two), meanZenithOf([one])]));
+      [one.target, one.zenithOne, one.zenithTwo, one.zenith]));
   }
 }

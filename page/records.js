@@ -1,6 +1,8 @@
 // What stands in the texts of the program: records of comma-separated text, the parts of what is
-// answered of a station or a table, the stations of a list, the residuals and the report of a station, the
-// differences of a table. Nothing here decides anything.
+// answered of a station or a table, what is told of a job without codes, the stations of a list, the
+// residuals and the readings of a station, the differences of a table. Nothing here decides
+// anything.
+import { turned } from './numbers.js';
 
 /** @typedef {{ first: number, end: number, fields: string[] }} TextRecord */
 
@@ -269,23 +271,32 @@ export function accuracyIn(/** @type {string} */ text) {
  */
 
 /**
- * A target that a set reads in both faces, as the report has it: in gon what was read in face I and
- * in face II, and the mean of both counted from the first row of the set; in mgon 2c and 2i.
+ * A target that a set reads in both faces, by the row of the report: in gon what was read in face I
+ * and in face II, and the mean of both less that of the first row of the set; in mgon 2c and 2i; and
+ * the zenith angles of both faces and their mean.
  * @typedef {{ set: string, target: string, one: string, two: string, mean: string, twoC: string,
- *   twoI: string }} Reading
+ *   twoI: string, zenithOne: string, zenithTwo: string, zenith: string }} Reading
  */
 
-/** A row of the readings of a report, of which each column has its width. */
-const READING =
-  /^ *(\d+) {2}(.{16}) +(\d+\.\d{5}) +(\d+\.\d{5}) +(\d+\.\d{6}) +(-?\d+\.\d\d) +(-?\d+\.\d\d)$/gm;
+/** An angle that was read, without the zero that the row has at its end. */
+const asRead = (/** @type {string} */ gon) => gon.slice(0, -1);
 
 /**
- * The readings of a report, in its order.
+ * The readings of a station, in the order of the rows that the program wrote.
  * @returns {Reading[]}
  */
-export const readingsOf = (/** @type {string} */ report) =>
-  [...report.matchAll(READING)].map(([, set, target, one, two, mean, twoC, twoI]) =>
-    ({ set, target: target.trimEnd(), one, two, mean, twoC, twoI }));
+export function readingsIn(/** @type {string} */ text) {
+  let first = { set: '', direction: '' };
+  return rowsIn(text).map(({ set, target, direction, ...row }) => {
+    if (set !== first.set) first = { set, direction };
+    return {
+      set, target, one: asRead(row['face one']), two: asRead(row['face two']),
+      mean: turned(direction, first.direction), twoC: row['2c'], twoI: row['2i'],
+      zenithOne: asRead(row['zenith one']), zenithTwo: asRead(row['zenith two']),
+      zenith: row['zenith mean'],
+    };
+  });
+}
 
 // ---------------------------------------------------------------- differences
 

@@ -4,7 +4,7 @@ import { element, ofProgram } from './elements.js';
 import { columnsIn, decimalsIn, originalOf } from './files.js';
 import { hasZeniths } from './notes.js';
 import { showPicture } from './picture.js';
-import { differencesIn, readingsOf, residualsIn } from './records.js';
+import { differencesIn, readingsIn, residualsIn } from './records.js';
 import { showMeaning } from './refusals.js';
 import { readingsTables, zenithsTables } from './readings.js';
 import {
@@ -43,10 +43,10 @@ function showRefused(/** @type {Answer} */ answer, /** @type {Element} */ parent
  * @param {boolean} isOnPaper
  * @returns {Section[]}
  */
-function sectionsOfReadings({ station, results: { report, zeniths } }, isOnPaper) {
+function sectionsOfReadings({ station, results: { residuals } }, isOnPaper) {
   /** @type {Section} */
   const faces = { title: text('faces'), fill: part => facesTables(station, part) };
-  if (report.status !== ACCEPTED) return [faces];
+  if (residuals.status !== ACCEPTED) return [faces];
   const { listed: { name }, field } = station, unfolded = originalOf(field).unfolded ??= new Set();
   /** @type {(title: string, fill: (part: Element) => void) => Section} */
   const folded = (title, fill) => {
@@ -56,9 +56,10 @@ function sectionsOfReadings({ station, results: { report, zeniths } }, isOnPaper
     };
     return isOnPaper ? about : { ...about, isUnfolded: unfolded.has(key), unfold };
   };
-  const readings = folded('readings', part => readingsTables(readingsOf(report.line), part));
-  const angles = folded('zeniths', part => zenithsTables(zeniths, part));
-  const isWanted = zeniths.length > 0 && (hasZeniths() || !isOnPaper);
+  const read = readingsIn(residuals.line);
+  const readings = folded('readings', part => readingsTables(read, part));
+  const angles = folded('zeniths', part => zenithsTables(read, part));
+  const isWanted = hasZeniths() || !isOnPaper;
   return [...isOnPaper ? [] : [faces], readings, ...isWanted ? [angles] : []];
 }
 

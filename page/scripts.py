@@ -17,10 +17,10 @@ HERE = Path(__file__).resolve().parent
 # no page around it; of the page; what is run later in it, which needs the page's; and of the residuals
 # of a station in a file of their own.
 SCRIPTS = {
-    "calls": ["calls.js", "numbers.js", "packed.js", "records.js", "zeniths.js", "worker.js"],
+    "calls": ["calls.js", "numbers.js", "packed.js", "records.js", "worker.js"],
     "page": [
-        "texts.js", "numbers.js", "records.js", "zeniths.js", "files.js", "packed.js", "stored.js",
-        "work.js", "limits.js", "notes.js", "answers.js", "elements.js", "faults.js", "headlines.js",
+        "texts.js", "numbers.js", "records.js", "files.js", "packed.js", "stored.js", "work.js",
+        "limits.js", "notes.js", "answers.js", "elements.js", "faults.js", "headlines.js",
         "overview.js", "drawing.js", "gather.js", "page.js",
     ],
     "later": [

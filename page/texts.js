@@ -762,14 +762,19 @@ export const TEXTS = {
   },
   zeniths: { en: 'Zenith angles', de: 'Zenitwinkel', fr: 'Angles zénithaux' },
   zenithsCaption: {
-    en: 'In gon. The page alone takes and averages them, which is not proved; of the same lines it gets each direction and each 2i as the report has them.',
-    de: 'In gon. Die Seite allein entnimmt und mittelt sie, ohne Beweis; aus denselben Zeilen erhält sie jede Richtung und jedes 2i wie der Bericht.',
-    fr: 'En gon. La page seule les reprend et en fait la moyenne, sans preuve ; des mêmes lignes elle tire chaque direction et chaque 2i comme le rapport.',
+    en: 'In gon. Only the means of all sets are averaged by the page alone, which is not proved.',
+    de: 'In gon. Nur die Mittel aller Sätze bildet die Seite selbst, ohne Beweis.',
+    fr: 'En gon. Seules les moyennes de toutes les séries sont faites par la page, sans preuve.',
   },
   zenithsToo: {
     en: 'Zenith angles in protocols',
     de: 'Zenitwinkel in Protokollen',
     fr: 'Angles zénithaux dans les procès-verbaux',
+  },
+  isGreatest: {
+    en: 'The greatest in size',
+    de: 'Dem Betrag nach am größten',
+    fr: 'Le plus grand en valeur absolue',
   },
   allSets: { en: 'All sets', de: 'Alle Sätze', fr: 'Toutes les séries' },
   faceOne: { en: 'Face I', de: 'Lage I', fr: 'CG' },
@@ -885,9 +890,9 @@ export const TEXTS = {
   },
   aboutWho: { en: 'By whom', de: 'Von wem', fr: 'Par qui' },
   aboutWhoSaid: {
-    en: 'Rattle, the language of the module, checks the proofs each time that it is made. Whoever has the sources of this version can do it again, and compare the SHA-256 of the module with the one below.',
-    de: 'Rattle, die Sprache des Moduls, prüft die Beweise jedes Mal, wenn es gemacht wird. Wer die Quellen dieser Version hat, kann das wiederholen und die SHA-256 des Moduls mit der untenstehenden vergleichen.',
-    fr: 'Rattle, le langage du module, vérifie les preuves chaque fois qu’il est fait. Qui a les sources de cette version peut le refaire, et comparer le SHA-256 du module à celui ci-dessous.',
+    en: 'Rattle, the language of the module, checks the proofs each time that it is made. Whoever has the sources of this version can do it again, and compare the SHA-256 of the module with the one below. The page names no address and no licence: ask whoever handed this file to you, and report mistakes there.',
+    de: 'Rattle, die Sprache des Moduls, prüft die Beweise jedes Mal, wenn es gemacht wird. Wer die Quellen dieser Version hat, kann das wiederholen und die SHA-256 des Moduls mit der untenstehenden vergleichen. Die Seite nennt keine Anschrift und keine Lizenz: Fragen und Fehler bitte an die Stelle, von der Sie diese Datei haben.',
+    fr: 'Rattle, le langage du module, vérifie les preuves chaque fois qu’il est fait. Qui a les sources de cette version peut le refaire, et comparer le SHA-256 du module à celui ci-dessous. La page ne donne ni adresse ni licence : adressez questions et erreurs à qui vous a remis ce fichier.',
   },
   aboutFile: { en: 'This very file', de: 'Diese Datei selbst', fr: 'Ce fichier même' },
   aboutFileSaid: {

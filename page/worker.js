@@ -2,7 +2,6 @@
 import { calls } from './calls.js';
 import { unpacked } from './packed.js';
 import { partsIn, stationsOf } from './records.js';
-import { anglesIn } from './zeniths.js';
 
 /** @type {Promise<WebAssembly.Module>} */
 let core;
@@ -32,20 +31,8 @@ async function stations(module, ...inputs) {
   return { status, shown: [], told: { stations: stationsOf(rows), readings: Number(unchecked) } };
 }
 
-/**
- * The angles in the sets of a station, of the words of a field file.
- * @param {WebAssembly.Module} module
- * @param {Uint8Array} gsi
- * @param {Uint8Array} name
- */
-async function angles(module, gsi, name) {
-  const { status, shown: [words] } = await calls.words(module, gsi);
-  const [all, station] = [words, name].map(bytes => new TextDecoder().decode(bytes));
-  return { status, shown: [new TextEncoder().encode(anglesIn(all, station))] };
-}
-
 /** @type {typeof calls} */
-const asked = { ...calls, stations, angles };
+const asked = { ...calls, stations };
 
 onmessage = async ({ data: { module, id, name, inputs, forget } }) => {
   if (forget) return files.delete(forget);

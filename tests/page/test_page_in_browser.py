@@ -1794,8 +1794,8 @@ class PageInBrowserTest(TimedTest):
         of = {target: [one for (_, name), one in by_set.items() if name == target] for target in targets}
         return by_set, {target: sum(some) / len(some) for target, some in of.items()}
 
-    def test_zenith_angles_are_shown_where_their_lines_give_what_the_report_has(self):
-        """In the window folded, and said not to be proved; on paper where the user wants them."""
+    def test_zenith_angles_are_those_of_the_field_file(self):
+        """In the window folded; on paper where the user wants them."""
         by_set, of_all = self.zeniths()
         self.assertEqual(22, len(by_set))
         page = self.page(P7_FIELD)
@@ -1823,18 +1823,10 @@ class PageInBrowserTest(TimedTest):
         page.call("Page.reload")
         page.wait("document.readyState === 'complete' && typeof now !== 'undefined' && now.turn > 0")
         self.assertTrue(page.js("$('zeniths').checked"))
-        # Of lines that give another direction or another 2i, or none, nothing is shown.
-        page.give(P7_FIELD)
-        angles = page.js("ask('angles', now.cards[0].field.bytes, 'P7').then(({ text }) => text)")
-        self.assertTrue(angles.startswith("1\tTOWER\t0000000039999942\t0000000020000090\t0000000009812404\t0000000030187674\n"))
-        readings = "readingsOf(now.cards[0].results.report.line)"
-        for text in (angles.replace("39999942", "39999943"), angles.replace("09812404", "09812405"), "", angles.partition("\n")[2]):
-            self.assertEqual([], page.js(f"zenithsOf({json.dumps(text)}, {readings})"))
-        self.assertEqual(22, page.js(f"zenithsOf({json.dumps(angles)}, {readings}).length"))
         # In a job without codes they are those of the copy.
         page.empty()
         page.give(JOB)
-        self.assertEqual([22, 6], page.js("now.cards.map(card => card.results.zeniths.length)"))
+        self.assertEqual([22, 6], page.js("now.cards.map(card => readingsIn(card.results.residuals.line).length)"))
 
     def test_all_protocols_are_printed_and_saved_together(self):
         """Those that were not opened too; what is saved has a list of what is in it, which leads there."""

@@ -12,6 +12,12 @@ REFUSALS = ROOT / "page" / "refusals"
 EXPLANATIONS = ROOT / "crates" / "station_explain" / "src" / "explanations.rt"
 EXPLAINED = re.compile(r'^ +names: &\["([\w ]+)"', re.MULTILINE)
 
+# All names of a fault; the faults of which the page marks a word of the line, by the first of their
+# words; and how often names of faults stand in the page's scripts by themselves.
+NAMES = re.compile(r"names: &\[(.*?)\]", re.DOTALL)
+OF_WORDS = re.compile(r"^  \d\d: /\^\((.*?)\)/,$", re.MULTILINE)
+ASKED = re.compile(r"isOf\(\w+, '(\w+)'\)|fault === '(\w+)'|\.fault === '(\w+)'")
+
 # The languages, of which English says what a fault is in the words of the program.
 LANGUAGES = {"en": {"todo"}, "de": {"what", "todo"}, "fr": {"what", "todo"}}
 
@@ -32,6 +38,18 @@ class RefusalsTest(TimedTest):
             for name, texts in self.texts[language].items():
                 with self.subTest(language=language, name=name):
                     self.assertEqual(parts, {*texts})
+
+    def test_each_fault_that_a_script_names_is_one(self):
+        """Whose word of a line the page marks, and after which it asks what no line tells."""
+        explained = "".join(NAMES.findall(EXPLANATIONS.read_text()))
+        known = {name.split(" ")[0] for name in re.findall(r'"([\w ]+)"', explained)}
+        marked = OF_WORDS.findall((ROOT / "page" / "place.js").read_text())
+        self.assertEqual(4, len(marked))
+        scripts = "".join(path.read_text() for path in (ROOT / "page").glob("*.js"))
+        asked = {name for names in ASKED.findall(scripts) for name in names if name}
+        self.assertGreater(len(asked), 5)
+        named = asked | {name for names in marked for name in names.split("|")}
+        self.assertEqual(set(), named - known)
 
     def test_each_text_is_short_and_whole_sentences(self):
         for language, faults in self.texts.items():
