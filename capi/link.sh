@@ -3,7 +3,7 @@
 #
 #     sh capi/link.sh ARCHIVE LIBRARY
 #
-# The exports get the names of station_check.h, those of stated.c stand before four of them, and
+# The exports get the names of station_check.h, those of stated.c stand before five of them, and
 # nothing else is shown. Memory is the C library's: the kit's heap calls its malloc, realloc and
 # free.
 set -eu

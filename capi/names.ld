@@ -1,8 +1,11 @@
 /* What the shared library shows: the proved exports of station_page, by the names of station_check.h.
- * station_check_check, station_check_compare, station_check_table and station_check_mark stand in
- * stated.c. */
+ * station_check_check, station_check_compare, station_check_table, station_check_mark and
+ * station_check_mark_rows stand in stated.c. */
 station_check_differences = station_page_differences;
 station_check_directions = station_page_directions;
+station_check_comma_differences = station_page_comma_differences;
+station_check_comma_directions = station_page_comma_directions;
+station_check_comma_rows = station_page_comma_rows;
 station_check_residuals = station_page_residuals;
 station_check_report = station_page_report;
 station_check_station = station_page_station;

@@ -1,4 +1,4 @@
-/* The four calls that are told by numbers whether something is stated. The proved exports take a
+/* The five calls that are told by numbers whether something is stated. The proved exports take a
  * `bool`, which is 0 or 1 and nothing else: of another value they would see the lowest bit. These
  * take any number, of which 0 alone says that it is not stated, and hand on 0 or 1. link.sh links
  * them. */
@@ -39,6 +39,15 @@ uint8_t station_page_mark(const void *gsi, size_t gsi_length,
                           bool same_set_up, bool again, bool others,
                           char *copy, size_t room, size_t *length,
                           char *notes, size_t notes_room, size_t *notes_length);
+
+uint8_t station_page_mark_rows(const void *gsi, size_t gsi_length,
+                               const char *station, size_t station_length,
+                               const char *code, size_t code_length,
+                               const char *sets, size_t sets_length,
+                               const char *targets, size_t targets_length,
+                               bool same_set_up, bool again, bool others,
+                               char *copy, size_t room, size_t *length,
+                               char *rows, size_t rows_room, size_t *rows_length);
 
 uint8_t station_check_check(const void *gsi, size_t gsi_length,
                             const void *sheet, size_t sheet_length,
@@ -89,4 +98,18 @@ uint8_t station_check_mark(const void *gsi, size_t gsi_length,
                              sets, sets_length, targets, targets_length,
                              same_set_up != 0, again != 0, others != 0,
                              copy, room, length, notes, notes_room, notes_length);
+}
+
+uint8_t station_check_mark_rows(const void *gsi, size_t gsi_length,
+                                const char *station, size_t station_length,
+                                const char *code, size_t code_length,
+                                const char *sets, size_t sets_length,
+                                const char *targets, size_t targets_length,
+                                uint32_t same_set_up, uint32_t again, uint32_t others,
+                                char *copy, size_t room, size_t *length,
+                                char *rows, size_t rows_room, size_t *rows_length) {
+    return station_page_mark_rows(gsi, gsi_length, station, station_length, code, code_length,
+                                  sets, sets_length, targets, targets_length,
+                                  same_set_up != 0, again != 0, others != 0,
+                                  copy, room, length, rows, rows_room, rows_length);
 }

@@ -130,6 +130,26 @@ uint8_t station_check_directions(const void *gsi, size_t gsi_length,
                                  uint32_t two_c, uint32_t two_i, uint32_t decimals,
                                  char *text, size_t room, size_t *length);
 
+/* The same with a semicolon between the cells of a row and a comma in each number, for a spreadsheet
+ * that is set to German or French; and so the rows of `report --csv`. */
+uint8_t station_check_comma_directions(const void *gsi, size_t gsi_length,
+                                       const char *station, size_t station_length,
+                                       uint32_t two_c, uint32_t two_i, uint32_t decimals,
+                                       char *text, size_t room, size_t *length);
+uint8_t station_check_comma_rows(const void *gsi, size_t gsi_length,
+                                 const char *station, size_t station_length,
+                                 uint32_t two_c, uint32_t two_i,
+                                 char *text, size_t room, size_t *length);
+
+/* So the differences, by what station_check_differences takes. */
+uint8_t station_check_comma_differences(const void *gsi, size_t gsi_length,
+                                        const void *table, size_t table_length,
+                                        const char *station, size_t station_length,
+                                        uint32_t two_c, uint32_t two_i,
+                                        uint32_t unit, uint32_t names, uint32_t directions,
+                                        char *text, size_t room, size_t *length,
+                                        char *note, size_t note_room, size_t *note_length);
+
 /* The residuals of a station: a row of titles, and a row for each two-face direction, with the
  * adjusted direction in gon and the residual in mgon, exactly rounded. */
 uint8_t station_check_residuals(const void *gsi, size_t gsi_length,
@@ -207,6 +227,31 @@ uint8_t station_check_mark(const void *gsi, size_t gsi_length,
                            uint32_t same_set_up, uint32_t again, uint32_t others,
                            char *copy, size_t room, size_t *length,
                            char *notes, size_t notes_room, size_t *notes_length);
+
+/* The same copy, or the line of the refusal in its place, and in `rows` what is told of the stations
+ * as rows below their titles, at a refusal too where they were judged. Of each station first comes
+ * what is told as "set-up", and of each thing two numbers and two names:
+ *   told      first, second                                 name, other
+ *   set-up    how often its line was written again,
+ *             1 if an earlier station has its name
+ *   fault     the block, 0                                  the fault; it has no sets
+ *   sets      how many sets, how many targets
+ *   outside   readings before the sets, and after them
+ *   ends                                                    the opening target, the turning one
+ *   missing   directions that are missing, of how many
+ *   after     targets after the sets in both faces,
+ *             1 if the opening one is read again
+ *   equal     two sets that are the same
+ *   zeniths   by how many mgon zenith angles differ, 0      their target
+ * Those from "ends" on are of stations with sets alone. */
+uint8_t station_check_mark_rows(const void *gsi, size_t gsi_length,
+                                const char *station, size_t station_length,
+                                const char *code, size_t code_length,
+                                const char *sets, size_t sets_length,
+                                const char *targets, size_t targets_length,
+                                uint32_t same_set_up, uint32_t again, uint32_t others,
+                                char *copy, size_t room, size_t *length,
+                                char *rows, size_t rows_room, size_t *rows_length);
 
 /* A copy of a field file in which just the lines that `changes` names are changed: `N` leaves line N
  * out, `N=NAME` gives its point another name; a line feed stands between each two, in the order of

@@ -81,8 +81,10 @@ _RANGES = {
 _NAME = "1 to 16 letters, digits and signs of ASCII"
 
 # What can still be wrong of what a call is given, where all numbers and names are in their range.
+_OF_JOBS = "state a code that is none of 10, 20 and 30, and one number of each station"
 _BEYOND = {
-    "mark": "state a code that is none of 10, 20 and 30, and one number of each station",
+    "mark": _OF_JOBS,
+    "mark_rows": _OF_JOBS,
     "change": f"state numbers of lines from 1, and names of {_NAME}",
 }
 
@@ -148,6 +150,13 @@ class Marked(NamedTuple):
 
     copy: bytes
     notes: str
+
+
+class MarkedRows(NamedTuple):
+    """A copy with codes put in, and what was recognized as rows."""
+
+    copy: bytes
+    rows: str
 
 
 class Agreement(NamedTuple):
@@ -297,11 +306,13 @@ def differences(
     two_i: int = FACES,
     unit: str = "gon",
     columns: tuple[int, int] | None = None,
+    decimal_comma: bool = False,
 ) -> Noted:
     """The differences of the table, target by target, after the rotation that makes the largest
     smallest: exactly rounded, however large they are."""
     numbers = [*_numbers(two_c=two_c, two_i=two_i), *_form(unit, columns)]
-    return _told("differences", [gsi, table, _text(station)], numbers)
+    call = "comma_differences" if decimal_comma else "differences"
+    return _told(call, [gsi, table, _text(station)], numbers)
 
 
 def table(
@@ -332,11 +343,25 @@ def table(
 
 
 def directions(
-    gsi: File, station: str, *, two_c: int = FACES, two_i: int = FACES, decimals: int = 6
+    gsi: File,
+    station: str,
+    *,
+    two_c: int = FACES,
+    two_i: int = FACES,
+    decimals: int = 6,
+    decimal_comma: bool = False,
 ) -> str:
     """The table of the station's least-squares directions, in gon, exactly rounded."""
     numbers = _numbers(two_c=two_c, two_i=two_i, decimals=decimals)
-    return _answer("directions", [gsi, _text(station)], numbers).decode()
+    call = "comma_directions" if decimal_comma else "directions"
+    return _answer(call, [gsi, _text(station)], numbers).decode()
+
+
+def comma_rows(gsi: File, station: str, *, two_c: int = FACES, two_i: int = FACES) -> str:
+    """The rows of the station's report with semicolons between cells and decimal commas: for a
+    spreadsheet that is set to German or French."""
+    numbers = _numbers(two_c=two_c, two_i=two_i)
+    return _answer("comma_rows", [gsi, _text(station)], numbers).decode()
 
 
 def residuals(gsi: File, station: str, *, two_c: int = FACES, two_i: int = FACES) -> str:
@@ -410,14 +435,33 @@ def mark(
     names the open station begins nothing, and with `again` a name that comes again is another
     set-up. Each block of the code `station_code` begins a station. With `others` the readings of
     stations that aren't recognized stay outside of the sets, and the others are marked."""
-    names = [_name("station", station), _name("station_code", station_code)]
-    inputs: Sequence[File] = [gsi, *names, _lines("sets", sets), _lines("targets", targets)]
-    flags = [ctypes.c_uint32(bool(flag)) for flag in (same_set_up, again, others)]
-    reply = _call("mark", inputs, flags, texts=2)
+    flags = (same_set_up, again, others)
+    reply = _marking("mark", gsi, station, station_code, sets, targets, flags)
     if reply.status == _REFUSED:
         notes, line = _told_before(reply.beside)
         raise Refused(line, notes)
     return Marked(reply.text, reply.beside.decode())
+
+
+def mark_rows(
+    gsi: File,
+    station: str | None = None,
+    *,
+    sets: Stated = None,
+    targets: Stated = None,
+    same_set_up: bool = False,
+    again: bool = False,
+    station_code: str | None = None,
+    others: bool = False,
+) -> MarkedRows:
+    """The copy of `mark`, and as rows what was recognized: of each station first "set-up", and of
+    each thing that is told two numbers and two names, as `station_check.h` says. A refusal has the
+    rows of the stations that were judged as `text`."""
+    flags = (same_set_up, again, others)
+    reply = _marking("mark_rows", gsi, station, station_code, sets, targets, flags)
+    if reply.status == _REFUSED:
+        raise Refused(_line(reply.text), reply.beside.decode())
+    return MarkedRows(reply.text, reply.beside.decode())
 
 
 def change(gsi: File, changes: Mapping[int, str | None]) -> bytes:
@@ -589,6 +633,21 @@ def _form(unit: str, columns: tuple[int, int] | None) -> Sequence[ctypes.c_uint3
 
 def _line(text: bytes) -> str:
     return text.decode().removesuffix("\n")
+
+
+def _marking(
+    call: str,
+    gsi: File,
+    station: str | None,
+    station_code: str | None,
+    sets: Stated,
+    targets: Stated,
+    flags: Sequence[bool],
+) -> _Reply:
+    """What comes of putting codes into a job, by what is stated of it."""
+    names = [_name("station", station), _name("station_code", station_code)]
+    inputs: Sequence[File] = [gsi, *names, _lines("sets", sets), _lines("targets", targets)]
+    return _call(call, inputs, [ctypes.c_uint32(bool(flag)) for flag in flags], texts=2)
 
 
 def _told_before(text: bytes) -> tuple[str, str]:

@@ -233,8 +233,8 @@ async function answerOfMark(field, station = '') {
   const [sets, targets] = [numbersOf(field, 'sets'), numbersOf(field, 'targets')];
   const isSame = again === 'same', isAnother = again === 'another';
   const texts = [station, code, sets.join('\n'), targets.join('\n')];
-  const { status, bytes, beside } =
-    await ask('mark', field.bytes, ...texts, isSame, isAnother, others);
+  const { status, bytes, text, beside: rows } =
+    await ask('markRows', field.bytes, ...texts, isSame, isAnother, others);
   const of = (/** @type {string} */ option, /** @type {string[]} */ values) =>
     values.flatMap(value => [`--${option}`, value]);
   const flags = Object.entries({ 'same-set-up': isSame, again: isAnother, others });
@@ -244,11 +244,10 @@ async function answerOfMark(field, station = '') {
     ...flags.filter(([, stands]) => stands).map(([flag]) => `--${flag}`),
   ];
   const command = `${commandOf('mark', [], {}, [field.name], stated)} > ${copy}`;
-  // At a refusal its line comes after what is told of each station.
-  const text = status === ACCEPTED ? beside : beside.trimEnd().split('\n').at(-1) ?? '';
-  const told = recognizedIn(beside);
+  const told = recognizedIn(rows);
   for (const one of told) if (one.fault) one.explanation = await explanationOf(one.fault);
-  const answer = await answered({ status, text }, { asked: 'mark', command, field, told });
+  const about = { asked: 'mark', command, field, told };
+  const answer = await answered({ status, text: status === ACCEPTED ? rows : text }, about);
   if (isOf(answer, 'NoSuchStation') && forgets(field, told)) return answerOfMark(field, station);
   if (status !== ACCEPTED) return answer;
   const digest = await digestOf({ name: copy, bytes });
@@ -279,6 +278,12 @@ async function answerOfSheet(sheet, field, station, limits) {
   return { ...answer, greatest: greatestOf(residualsIn(residuals.line)) };
 }
 
+/** How a table is to be read, in numbers: its unit and its columns. */
+function formOf(/** @type {Input} */ table) {
+  const { unit = 'gon', columns = NO_COLUMNS } = originalOf(table);
+  return [UNITS.indexOf(unit), ...columns];
+}
+
 /**
  * The answer to a table, of one reading of both files and one adjustment.
  * @param {Input} table
@@ -288,8 +293,7 @@ async function answerOfSheet(sheet, field, station, limits) {
  */
 async function answerOfTable(table, station, limits) {
   const { field, listed: { name } } = station, { twoC, twoI, within } = limits;
-  const { unit = 'gon', columns } = originalOf(table);
-  const form = [UNITS.indexOf(unit), ...columns ?? NO_COLUMNS];
+  const { unit = 'gon', columns } = originalOf(table), form = formOf(table);
   const files = [field.bytes, field.name, table.bytes, table.name];
   const { status, bytes, beside: note } =
     await ask('table', ...files, name, twoC, twoI, ...form, within);
@@ -474,6 +478,21 @@ async function placeFile(file, cards, fields, stations, limits) {
 }
 
 // ---------------------------------------------------------------- results
+
+/**
+ * What can be saved of a station as rows with numbers that have commas: its directions, the rows of
+ * its report, and the differences of a table.
+ * @type {Record<'directions' | 'rows' | 'differences',
+ *   (station: Station, limits: Limits, table: Input) => Promise<import('./work.js').Reply>>}
+ */
+export const WITH_COMMAS = {
+  directions: ({ field, listed: { name } }, { twoC, twoI, decimals }) =>
+    ask('commaDirections', field.bytes, name, twoC, twoI, decimals),
+  rows: ({ field, listed: { name } }, { twoC, twoI }) =>
+    ask('commaRows', field.bytes, name, twoC, twoI),
+  differences: ({ field, listed: { name } }, { twoC, twoI }, table) =>
+    ask('commaDifferences', field.bytes, table.bytes, name, twoC, twoI, ...formOf(table)),
+};
 
 /** The sheet of means of a station whose sets are complete. */
 export const meansOf = (/** @type {Station} */ { field, listed }, /** @type {Limits} */ limits) =>

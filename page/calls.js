@@ -100,6 +100,10 @@ export const calls = {
     callOf(core, 'station_page_directions', [gsi, name], [twoC, twoI, decimals]),
   residuals: (core, gsi, name, twoC, twoI) =>
     callOf(core, 'station_page_residuals', [gsi, name], [twoC, twoI]),
+  commaDirections: (core, gsi, name, twoC, twoI, decimals) =>
+    callOf(core, 'station_page_comma_directions', [gsi, name], [twoC, twoI, decimals]),
+  commaRows: (core, gsi, name, twoC, twoI) =>
+    callOf(core, 'station_page_comma_rows', [gsi, name], [twoC, twoI]),
   report: (core, gsi, path, name, twoC, twoI) =>
     callOf(core, 'station_page_report', [gsi, path, name], [twoC, twoI]),
   station: (core, gsi, path, name, twoC, twoI, decimals) =>
@@ -110,11 +114,16 @@ export const calls = {
   differences: (core, gsi, table, name, twoC, twoI, unit, names, directions) =>
     callOf(core, 'station_page_differences', [gsi, table, name],
       [twoC, twoI, unit, names, directions], 2),
+  commaDifferences: (core, gsi, table, name, twoC, twoI, unit, names, directions) =>
+    callOf(core, 'station_page_comma_differences', [gsi, table, name],
+      [twoC, twoI, unit, names, directions], 2),
   table: (core, gsi, path, table, tablePath, name, twoC, twoI, unit, names, directions, within) =>
     callOf(core, 'station_page_table', [gsi, path, table, tablePath, name],
       [twoC, twoI, unit, names, directions, ...stated(within)], 2),
   mark: (core, gsi, name, code, sets, targets, ...flags) =>
     callOf(core, 'station_page_mark', [gsi, name, code, sets, targets], flags.map(Number), 2),
+  markRows: (core, gsi, name, code, sets, targets, ...flags) =>
+    callOf(core, 'station_page_mark_rows', [gsi, name, code, sets, targets], flags.map(Number), 2),
   change: (core, gsi, changes) => callOf(core, 'station_page_change', [gsi, changes], []),
   digest: (core, file, name) => callOf(core, 'station_page_digest', [file, name], []),
   explain: (core, line) => callOf(core, 'station_page_explain', [line], []),

@@ -1,7 +1,7 @@
 // A card of a station: the answer first, then the fault or the results.
 import {
-  ACCEPTED, OUT_OF_RANGE, REFUSED, filesOf, isCountedOtherwise, isTwice, isUncounted, isWithoutName,
-  mayLeaveOut, meansOf, moodOfAnswer,
+  ACCEPTED, OUT_OF_RANGE, REFUSED, WITH_COMMAS, filesOf, isCountedOtherwise, isTwice, isUncounted,
+  isWithoutName, mayLeaveOut, meansOf, moodOfAnswer,
 } from './answers.js';
 import {
   asHandedIn, changeText, changesOf, changesTogether, givenBlock, logOf, pointNamesIn,
@@ -24,7 +24,7 @@ import { showExplanation, showFault, showMeaning, showPlace } from './refusals.j
 import { blockLinesOf, proposalFor } from './repairs.js';
 import { showResultsInTurn } from './results.js';
 import { facesFile } from './tables.js';
-import { text } from './texts.js';
+import { hasComma, text } from './texts.js';
 
 /**
  * @typedef {import('./answers.js').Card} Card
@@ -386,12 +386,18 @@ function showButtons(card, desk, parent) {
   const protocol = `${nameOfProtocol(card)}.html`;
   offer('saveProtocol', protocol, () => protocolFile(card, desk.limits, desk.beside(card)),
     'text/html');
-  if (results.directions.status === ACCEPTED)
-    offer('saveDirections', `${called}_directions.csv`, () => `${results.directions.line}\n`);
+  // (the rows of a file have numbers as the text of the page has them)
+  /** @type {(what: keyof typeof WITH_COMMAS, whole: string, table?: Input) => Content} */
+  const rows = (what, whole, table = field) => async () =>
+    hasComma() ? (await WITH_COMMAS[what](station, desk.limits, table)).text : whole;
+  if (results.directions.status === ACCEPTED) {
+    const content = rows('directions', `${results.directions.line}\n`);
+    offer('saveDirections', `${called}_directions.csv`, content);
+  }
   if (results.residuals.status === ACCEPTED) {
     const { line } = results.residuals, title = text('residualsOf', { name });
     const origin = [field.name, text('digest', { digest: field.digest })];
-    offer('saveResiduals', `${called}_residuals.csv`, () => `${line}\n`);
+    offer('saveResiduals', `${called}_residuals.csv`, rows('rows', `${line}\n`));
     const deviation = results.accuracy?.deviation ?? '';
     const picture = () => pictureFile(title, origin, residualsIn(line), deviation);
     offer('savePicture', `${called}_residuals.svg`, picture, 'image/svg+xml');
@@ -403,7 +409,7 @@ function showButtons(card, desk, parent) {
   }
   for (const { differences, other } of card.answers) {
     const file = `${stemOf(other ?? field)}_differences.csv`;
-    if (differences) offer('saveDifferences', file, () => differences);
+    if (differences) offer('saveDifferences', file, rows('differences', differences, other));
   }
   offer('saveFaces', `${called}_faces.csv`, () => facesFile(station));
   if (isComplete(listed)) offer('saveMeans', `${called}.csv`, async () => {

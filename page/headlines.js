@@ -89,10 +89,10 @@ function setsText(/** @type {import('./records.js').Recognized} */ one) {
   const { explanation = '' } = one;
   if (fault)
     return text('recognizedNot', {
-      station, block: String(block), fault: toldOf(explanation).what, n: after,
+      station, block: String(block), fault: toldOf(explanation).what, n: before,
     });
-  if (sets + after === 0) return text('recognizedUnread', { station });
-  if (sets === 0) return text('recognizedNone', { station, n: after });
+  if (sets + before === 0) return text('recognizedUnread', { station });
+  if (sets === 0) return text('recognizedNone', { station, n: before });
   const about = { station, opening, turning, ...countsOf({ sets, targets, directions: 0 }) };
   if (before + after === 0) return text('recognizedAll', about);
   return text('recognized', { ...about, before: text('readingsCounted', { n: before }), after });

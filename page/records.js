@@ -86,88 +86,56 @@ export function partsIn(/** @type {Uint8Array} */ bytes) {
  */
 export const each = values => [...new Set(values)];
 
-const STATION_WITH_SETS =
-  /^note: station (.*): (\d+) sets?, (\d+) targets?, from (.*) to (.*); (\d+) readings? before them and (\d+) after stay outside$/;
-const STATION_WITHOUT_SETS =
-  /^note: station (.*): (?:no sets; (\d+) readings? stays? outside|no readings)$/;
-const STATION_WITH_FAULT =
-  /^note: station (.*): not recognized, block (\d+): (\w+); (\d+) readings? stays? outside$/;
-const SET_UP_AGAIN = /^note: station (?:.*): set up again$/;
-const WRITTEN_AGAIN =
-  /^note: station (?:.*): set-up line written again (\d+) times?, taken as the same set-up$/;
-const MISSING = /^note: station (?:.*): (\d+) of (\d+) directions? (?:is|are) missing$/;
-const OF_ANOTHER =
-  /^note: station (?:.*): (\d+) targets? after the sets in both faces: of another station\?$/;
-const OPENED_AGAIN =
-  /^note: station (?:.*): .* is read again after the sets: is a reading of theirs missing\?$/;
-const EQUAL_SETS =
-  /^note: station (?:.*): sets (\d+) and (\d+) are the same to the last digit$/;
-const ZENITHS = /^note: station (?:.*): the zenith angles of (.*) differ by (\d+) mgon$/;
-
 /**
  * What was told of a station where codes were put in: its sets, the target that opens them and the
  * one at which the first turns, and how many readings stay outside before and after them; how many
  * directions are missing of how many, and how many targets after the sets seem to be of another
  * station; whether the target that opens sets by targets is read again after them; which sets are
  * equal, and the targets whose zenith angles differ. Of one without sets no more than its readings,
- * as if all came after; and of one that isn't recognized these, its fault, the number of the block,
- * and the explanation of the fault, once that was asked for. Of each how often its set-up line was
- * written again.
+ * all before them; and of one that isn't recognized these, its fault, the number of the block, and
+ * the explanation of the fault, once that was asked for. Of each whether it is set up again, and how
+ * often its set-up line was written again.
  * @typedef {{ station: string, isAgain: boolean, writtenAgain: number, sets: number,
  *   targets: number, opening: string, turning: string, before: number, after: number,
  *   missing: number, full: number, others: number, isOpenedAgain: boolean,
- *   equal: { earlier: string, later: string }[],
+ *   equal: { earlier: number, later: number }[],
  *   zeniths: { target: string, mgon: number }[], fault?: string, block?: number,
  *   explanation?: string }} Recognized
+ * A row of what is told: of a station two numbers and two names.
+ * @typedef {{ first: number, second: number, name: string, other: string }} Told
  */
 
-/** @type {Omit<Recognized, 'station'>} */
-const NO_SETS = {
-  isAgain: false, writtenAgain: 0, sets: 0, targets: 0, opening: '', turning: '', before: 0,
-  after: 0, missing: 0, full: 0, others: 0, isOpenedAgain: false, equal: [], zeniths: [],
+/**
+ * What each row says of its station, by what is told.
+ * @type {Record<string, (one: Recognized, told: Told) => void>}
+ */
+const TOLD = {
+  'fault': (one, { first, name }) => Object.assign(one, { block: first, fault: name }),
+  'sets': (one, { first, second }) => Object.assign(one, { sets: first, targets: second }),
+  'outside': (one, { first, second }) => Object.assign(one, { before: first, after: second }),
+  'ends': (one, { name, other }) => Object.assign(one, { opening: name, turning: other }),
+  'missing': (one, { first, second }) => Object.assign(one, { missing: first, full: second }),
+  'after': (one, { first, second }) =>
+    Object.assign(one, { others: first, isOpenedAgain: second === 1 }),
+  'equal': (one, { first, second }) => one.equal.push({ earlier: first, later: second }),
+  'zeniths': (one, { first, name }) => one.zeniths.push({ target: name, mgon: first }),
 };
 
 /**
- * The station of which a note tells first, if it does.
- * @returns {Recognized | undefined}
- */
-function stationOfNote(/** @type {string} */ note) {
-  const [, one, readings = '0'] = note.match(STATION_WITHOUT_SETS) ?? [];
-  if (one !== undefined) return { ...NO_SETS, station: one, after: Number(readings) };
-  const [, faulty, block, fault, all] = note.match(STATION_WITH_FAULT) ?? [];
-  if (faulty !== undefined)
-    return { ...NO_SETS, station: faulty, fault, block: Number(block), after: Number(all) };
-  const [, station, sets, targets, opening, turning, before, after] =
-    note.match(STATION_WITH_SETS) ?? [];
-  if (station === undefined) return undefined;
-  return {
-    ...NO_SETS, station, opening, turning,
-    sets: Number(sets), targets: Number(targets), before: Number(before), after: Number(after),
-  };
-}
-
-/**
- * What was told of each station, in the order of the notes.
+ * What was told of each station, in the order of the rows: that of its set-up is the first of each.
  * @returns {Recognized[]}
  */
-export function recognizedIn(/** @type {string} */ notes) {
+export function recognizedIn(/** @type {string} */ rows) {
   /** @type {Recognized[]} */
   const stations = [];
-  let isAgain = false;
-  for (const note of notes.split('\n')) {
-    const station = stationOfNote(note), last = stations.at(-1);
-    const [, missing, full] = note.match(MISSING) ?? [], [, others] = note.match(OF_ANOTHER) ?? [];
-    if (station) stations.push({ ...station, isAgain });
-    else if (last && missing) Object.assign(last, { missing: Number(missing), full: Number(full) });
-    else if (last && others) last.others = Number(others);
-    if (last && OPENED_AGAIN.test(note)) last.isOpenedAgain = true;
-    const [, earlier, later] = note.match(EQUAL_SETS) ?? [];
-    if (last && earlier && later) last.equal = [...last.equal, { earlier, later }];
-    const [, target, mgon] = note.match(ZENITHS) ?? [];
-    if (last && target) last.zeniths = [...last.zeniths, { target, mgon: Number(mgon) }];
-    const [, writtenAgain] = note.match(WRITTEN_AGAIN) ?? [];
-    if (last && writtenAgain) last.writtenAgain = Number(writtenAgain);
-    isAgain = SET_UP_AGAIN.test(note);
+  for (const { station, told, first, second, name, other } of rows ? rowsIn(rows) : []) {
+    const numbers = { first: Number(first), second: Number(second) };
+    if (told === 'set-up') stations.push({
+      station, writtenAgain: numbers.first, isAgain: numbers.second === 1, sets: 0, targets: 0,
+      opening: '', turning: '', before: 0, after: 0, missing: 0, full: 0, others: 0,
+      isOpenedAgain: false, equal: [], zeniths: [],
+    });
+    else TOLD[told](/** @type {Recognized} */ (stations.at(-1)), { ...numbers, name, other });
   }
   return stations;
 }

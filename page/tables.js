@@ -2,7 +2,7 @@
 // page.
 import { element, tableOf } from './elements.js';
 import { each, greatestOf, pairsOf, recordsOf, sizeOf } from './records.js';
-import { numeral, signedNumeral, text } from './texts.js';
+import { hasComma, numeral, signedNumeral, text } from './texts.js';
 
 /** So many sets stand side by side. */
 const ABREAST = 8;
@@ -149,14 +149,18 @@ export function facesTables(/** @type {Station} */ station, /** @type {Element} 
 
 // ---------------------------------------------------------------- as files
 
-const fieldText = (/** @type {string} */ field) =>
-  /[",\r\n]/.test(field) ? `"${field.replaceAll('"', '""')}"` : field;
-/** Records as comma-separated text. */
-export const csv = (/** @type {string[][]} */ rows) =>
-  rows.map(row => `${row.map(fieldText).join(',')}\n`).join('');
+const fieldText = (/** @type {string} */ field, /** @type {string} */ separator) =>
+  /["\r\n]/.test(field) || field.includes(separator) ? `"${field.replaceAll('"', '""')}"` : field;
+/** Records as text, between their fields this separator. */
+export const csv = (/** @type {string[][]} */ rows, separator = ',') => rows
+  .map(row => `${row.map(field => fieldText(field, separator)).join(separator)}\n`).join('');
 
-/** The face differences as a file: in mgon. */
+/**
+ * The face differences as a file, in mgon: the numbers of the list, with semicolons between them
+ * where they have commas.
+ */
 export const facesFile = (/** @type {Station} */ station) => csv([
   ['set', 'target', '2c mgon', '2i mgon'],
-  ...pairsOf(station.listed).map(({ set, target, twoC, twoI }) => [set, target, twoC, twoI]),
-]);
+  ...pairsOf(station.listed).map(({ set, target, twoC, twoI }) =>
+    [set, target, numeral(twoC), numeral(twoI)]),
+], hasComma() ? ';' : ',');

@@ -905,6 +905,9 @@ export const TEXTS = {
 /** The language that the page speaks, and what it puts before the decimals of a number. */
 let language = 'en', point = '.';
 
+/** Whether its numbers have a comma: so have those of a spreadsheet beside it. */
+export const hasComma = () => point === ',';
+
 /** The first of the wanted languages that the page speaks. */
 export function languageOf(/** @type {readonly string[]} */ wanted) {
   return wanted.map(code => code.slice(0, 2)).find(code => code in LANGUAGES) ?? 'en';

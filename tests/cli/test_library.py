@@ -58,7 +58,7 @@ OPERANDS: dict[str, list[type]] = {
 OF_ONE_LINE, OF_TABLES = {"check", "compare"}, {"compare", "differences"}
 
 # Calls that answer several texts.
-OF_PARTS = {"list_rows", "station"}
+OF_PARTS = {"list_rows", "mark_rows", "station"}
 
 # The options that the module's functions have, each with its kind; a limit of residuals has one alone.
 OPTIONS: dict[str, type] = {
@@ -72,7 +72,7 @@ OF_SHEETS = "check"
 
 # The options that state a number of each station, or as NAME=N that of one; and the flags.
 NUMBERS = {"sets", "targets"}
-FLAGS = {"same-set-up", "again", "others"}
+FLAGS = {"same-set-up", "again", "others", "decimal-comma"}
 
 # What is out of its range: a number that is one too large, is negative, or would be 0 in 32 bits.
 BEYOND: list[tuple[str, dict[str, Any]]] = [
@@ -100,6 +100,9 @@ BEYOND: list[tuple[str, dict[str, Any]]] = [
     ("list_rows", {"two_i": 1_000_001}),
     ("station", {"two_c": 1_000_001}),
     ("station", {"decimals": 0}),
+    ("comma_rows", {"two_c": 1_000_001}),
+    ("mark_rows", {"sets": 0}),
+    ("mark_rows", {"station_code": "20"}),
     ("mark", {"station": ""}),
     ("mark", {"station": "SEVENTEEN LETTERS"}),
     ("mark", {"station": "P\u00e47"}),
@@ -125,6 +128,8 @@ GIVEN: dict[str, list[bytes | str]] = {
     "list_rows": [GSI.read_bytes()],
     "station": [GSI.read_bytes(), "P7", "field.gsi"],
     "mark": [JOB.read_bytes()],
+    "mark_rows": [JOB.read_bytes()],
+    "comma_rows": [GSI.read_bytes(), "P7"],
 }
 
 # The call that takes each number that has a range, and how it is given to it.
@@ -251,6 +256,12 @@ int main(int count, char **words) {
         station_check_words(gsi, n, out, sizeof out, &length, more, sizeof more, &second);
         station_check_mark(gsi, n, "", 0, "", 0, "3\nP1=2", 6, "P1=4", 4, 0, 0, 0, out, sizeof out, &length,
                            more, sizeof more, &second);
+        station_check_mark_rows(gsi, n, "", 0, "", 0, "3\nP1=2", 6, "P1=4", 4, 0, 0, 0, out, sizeof out, &length,
+                                more, sizeof more, &second);
+        station_check_comma_directions(gsi, n, "P7", 2, 2000, 2000, 6, out, sizeof out, &length);
+        station_check_comma_rows(gsi, n, "P7", 2, 2000, 2000, out, sizeof out, &length);
+        station_check_comma_differences(gsi, n, sheet, m, "P7", 2, 2000, 2000, 1, 0, 0, out, sizeof out, &length,
+                                        more, sizeof more, &second);
         station_check_change(gsi, n, "1\n2=P8", 6, out, sizeof out, &length);
         station_check_digest(gsi, n, "gsi", 3, out, sizeof out, &length);
         station_check_explain("TwoC", 4, out, sizeof out, &length);
@@ -676,6 +687,7 @@ class LibraryTest(ProgramTest):
             )
             self.assertEqual(plain, parameters)
         of_files = {*OPERANDS, "change", "digest", "explain", "report", "list_rows", "station", "table"}
+        of_files |= {"comma_rows", "mark_rows"}
         of_rows = {name for name in vars(self.module) if re.fullmatch("[a-z]+_(rows|numbers)", name)} - of_files
         self.assertEqual(6, len(of_rows))
         self.assertEqual(of_files | of_rows, {name for name, _ in rows})
@@ -747,7 +759,7 @@ class LibraryTest(ProgramTest):
         if not shutil.which("nm"):
             self.skipTest("no nm is found")
         declared = set(re.findall(r"^uint8_t (\w+)\(", HEADER.read_text(), re.MULTILINE))
-        self.assertEqual(16, len(declared))
+        self.assertEqual(20, len(declared))
         shown = subprocess.run(["nm", "-D", LIBRARY], check=True, capture_output=True, text=True).stdout
         kinds = {name.partition("@")[0]: kind for kind, name in re.findall(r"(?:[0-9a-f]{16}| {16}) (\w) (\S+)", shown)}
         self.assertEqual(declared, {name for name, kind in kinds.items() if kind == "T"})
@@ -768,7 +780,7 @@ class LibraryTest(ProgramTest):
             heads = re.findall(rf"^{name}(\w+)(\(.*?)^\{{$", sources, re.DOTALL | re.MULTILINE)
             said.append({call: re.sub(r"\s+|,(?=\s*\))", "", head) for call, head in heads})
         calls, exports = said
-        self.assertEqual(16, len(calls))
+        self.assertEqual(20, len(calls))
         self.assertEqual(calls, exports)
 
 

@@ -3,7 +3,8 @@
 // The worker's script and the module are taken out of the page as it is. Beside the program's commands,
 // `station FILE NAME` gives all of a station, `table FILE NAME TABLE` all of a table, `list-rows FILE` a list as rows, `explain-bytes FILE` explains the bytes of a file,
 // `digest FILE NAME` gives the line of its digest with this name, `change FILE N..` the copy with changes,
-// each `N` or `N=NAME`, and `time COMMAND WORD..` the milliseconds that the fastest of some runs takes. With
+// each `N` or `N=NAME`, `mark-rows FILE` what `mark` is told, with rows in the place of its notes and the line
+// of a refusal in that of the copy, and `time COMMAND WORD..` the milliseconds that the fastest of some runs takes. With
 // `--room=N` each text has room for so many bytes, and a call is not made again with more; with `--left=N`
 // so many pages of memory are left to a call, of all that 32 bits address.
 import fs from 'node:fs';
@@ -37,6 +38,8 @@ const core = await WebAssembly.compile(unpacked('module'));
 const options = { ...DEFAULTS }, operands = [];
 // The columns of a table that are stated, or none.
 let columns = [0, 0];
+// Whether rows have semicolons and decimal commas.
+let hasCommas = false;
 // What is stated to `mark`: texts, of which each stands on a line, and flags.
 const stated = { '--station': [], '--station-code': [], '--sets': [], '--targets': [] };
 const flags = { '--same-set-up': false, '--again': false, '--others': false };
@@ -44,6 +47,7 @@ while (words.length > 0) {
   const whole = words.shift(), [, word = whole, value] = whole.match(/^(--[^=]*)(?:=([^]*))?$/) ?? [];
   if (word in stated) stated[word].push(value ?? words.shift());
   else if (word in flags) flags[word] = true;
+  else if (word === '--decimal-comma') hasCommas = true;
   else if (word in UNITS) options['--unit'] = Math.max(options['--unit'], UNITS[word]);
   else if (word === '--columns') columns = (value ?? words.shift()).split(',').map(Number);
   else if (word in options) options[word] = Number(value ?? words.shift());
@@ -68,28 +72,32 @@ const bytesOf = file => new Uint8Array(fs.readFileSync(file));
 const nameOf = word => new TextEncoder().encode(word);
 const faces = [options['--two-c'], options['--two-i']], form = [options['--unit'], ...columns];
 
+const marked = (call, gsi) => {
+  const texts = Object.values(stated).map(lines => nameOf(lines.join('\n')));
+  return calls[call](core, bytesOf(gsi), ...texts, ...Object.values(flags));
+};
+
 const answers = {
   check: (gsi, sheet) => calls.check(core, bytesOf(gsi), bytesOf(sheet), ...faces, options['--residual']),
   list: gsi => calls.list(core, bytesOf(gsi), ...faces),
   'list-rows': gsi => calls.listRows(core, bytesOf(gsi), ...faces),
   means: (gsi, name) => calls.means(core, bytesOf(gsi), nameOf(name), ...faces),
   words: (gsi = 0) => calls.words(core, bytesOf(gsi)),
-  directions: (gsi, name) =>
-    calls.directions(core, bytesOf(gsi), nameOf(name), ...faces, options['--decimals']),
+  directions: (gsi, name) => calls[hasCommas ? 'commaDirections' : 'directions'](
+    core, bytesOf(gsi), nameOf(name), ...faces, options['--decimals']),
+  'comma-rows': (gsi, name) => calls.commaRows(core, bytesOf(gsi), nameOf(name), ...faces),
   residuals: (gsi, name) => calls.residuals(core, bytesOf(gsi), nameOf(name), ...faces),
   report: (gsi, name) => calls.report(core, bytesOf(gsi), nameOf(gsi), nameOf(name), ...faces),
   station: (gsi, name) => calls.station(
     core, bytesOf(gsi), nameOf(gsi), nameOf(name), ...faces, options['--decimals']),
   compare: (gsi, name, table) => calls.compare(
     core, bytesOf(gsi), bytesOf(table), nameOf(name), ...faces, ...form, options['--within']),
-  differences: (gsi, name, table) =>
-    calls.differences(core, bytesOf(gsi), bytesOf(table), nameOf(name), ...faces, ...form),
+  differences: (gsi, name, table) => calls[hasCommas ? 'commaDifferences' : 'differences'](
+    core, bytesOf(gsi), bytesOf(table), nameOf(name), ...faces, ...form),
   table: (gsi, name, table) => calls.table(core, bytesOf(gsi), nameOf(gsi), bytesOf(table), nameOf(table),
     nameOf(name), ...faces, ...form, options['--within']),
-  mark: gsi => {
-    const texts = Object.values(stated).map(lines => nameOf(lines.join('\n')));
-    return calls.mark(core, bytesOf(gsi), ...texts, ...Object.values(flags));
-  },
+  mark: gsi => marked('mark', gsi),
+  'mark-rows': gsi => marked('markRows', gsi),
   change: (gsi, ...changes) => calls.change(core, bytesOf(gsi), nameOf(changes.join('\n'))),
   digest: (file, name) => calls.digest(core, bytesOf(file), nameOf(name)),
   explain: (line = '') => calls.explain(core, nameOf(line)),

@@ -17,6 +17,7 @@ import subprocess
 import sys
 import tempfile
 import unittest
+from collections import defaultdict
 from fractions import Fraction
 from pathlib import Path
 
@@ -56,7 +57,7 @@ PROBE = "new WebAssembly.Module(new Uint8Array([0,97,115,109,1,0,0,0,5,3,1,4,1])
 FLAGS = [[], ["--experimental-wasm-memory64"]]
 
 # The calls that hand out a note beside their text.
-NOTED = {"mark", "compare", "differences"}
+NOTED = {"mark", "mark-rows", "compare", "differences"}
 
 # What a call answers that has too little room, and hands out nothing; and one that is refused memory.
 NO_ROOM = (3, b"", b"")
@@ -175,7 +176,7 @@ def node():
 
 
 # What the program alone can be told: flags, and the beginnings of options with a text.
-OF_PROGRAM = "--csv", "--json", "--all", "--decimal-comma", "--signature"
+OF_PROGRAM = "--csv", "--json", "--all", "--signature"
 NAMED_BY_PROGRAM = "--table", "--note", "--date"
 
 
@@ -268,6 +269,57 @@ def parts_of(text):
         text = rest[int(count) :]
 
 
+def counted(number, thing):
+    return f"{number} {thing}" if number == 1 else f"{number} {thing}s"
+
+
+def left_outside(number):
+    return f"{counted(number, 'reading')} {'stays' if number == 1 else 'stay'} outside"
+
+
+def notes_of(told):
+    """The notes of a station, by what its rows tell: two numbers and two names of each thing."""
+    [(written_again, is_again, *_)] = told["set-up"]
+    [(sets, targets, *_)], [(before, after, *_)] = told["sets"], told["outside"]
+    if is_again:
+        yield "set up again"
+    if told["fault"]:
+        [(block, _, fault, _)] = told["fault"]
+        yield f"not recognized, block {block}: {fault}; {left_outside(before)}"
+    elif sets:
+        [(_, _, opening, turning)] = told["ends"]
+        ends = f"{counted(sets, 'set')}, {counted(targets, 'target')}, from {opening} to {turning}"
+        yield f"{ends}; {counted(before, 'reading')} before them and {after} after stay outside"
+    else:
+        yield f"no sets; {left_outside(before)}" if before else "no readings"
+    for missing, full, *_ in told["missing"]:
+        if missing:
+            yield f"{missing} of {counted(full, 'direction')} {'is' if missing == 1 else 'are'} missing"
+    for others, is_opened_again, *_ in told["after"]:
+        if others:
+            yield f"{counted(others, 'target')} after the sets in both faces: of another station?"
+        if is_opened_again:
+            yield f"{opening} is read again after the sets: is a reading of theirs missing?"
+    for earlier, later, *_ in told["equal"]:
+        yield f"sets {earlier} and {later} are the same to the last digit"
+    for mgon, _, target, _ in told["zeniths"]:
+        yield f"the zenith angles of {target} differ by {mgon} mgon"
+    if written_again:
+        yield f"set-up line written again {counted(written_again, 'time')}, taken as the same set-up"
+
+
+def notes_in(rows):
+    """The lines that rows tell of stations: of each first the row of its set-up."""
+    stations = []
+    for row in csv.DictReader(io.StringIO(rows.decode(), newline="")):
+        if row["told"] == "set-up":
+            stations.append((row["station"], defaultdict(list)))
+        name, told = stations[-1]
+        told[row["told"]].append((int(row["first"]), int(row["second"]), row["name"], row["other"]))
+        assert name == row["station"]
+    return "".join(f"note: station {name}: {note}\n" for name, told in stations for note in notes_of(told)).encode()
+
+
 class PageCallsTest(TimedTest):
     maxDiff = None
 
@@ -297,6 +349,29 @@ class PageCallsTest(TimedTest):
         for case in cases:
             with self.subTest(case.name):
                 self.assertEqual(without_hint(case.expected), run.answer(self.command(), case))
+
+    def test_the_rows_of_a_job_without_codes_tell_what_its_notes_say(self):
+        """And the copy and the line of a refusal are the same."""
+        cases = [case for case in cases_of_page() if case.args[:1] == ["mark"]]
+        self.assertGreater(len(cases), 60)
+        for case in cases:
+            with self.subTest(case.name):
+                status, out, said = without_hint(case.expected)
+                asked = case._replace(args=["mark-rows", *case.args[1:]])
+                answered, text, rows = run.answer(self.command(), asked)
+                self.assertEqual(status, answered)
+                last = b"note: compare this with the field book\n" if status == 0 else text
+                self.assertEqual((out, said), (text if status == 0 else b"", notes_in(rows) + last))
+
+    def test_rows_with_commas_are_those_of_the_report(self):
+        """With semicolons between their cells, and with commas in their numbers."""
+        gsi, name = str(EXAMPLES[0]), "P7"
+        status, text, _ = answer_to([*self.command(), "station", gsi, name])
+        titles, *rows = csv.reader(io.StringIO(dict(parts_of(text))["rows"].decode(), newline=""))
+        for row in rows:
+            row[3:] = [number.replace(".", ",") for number in row[3:]]
+        whole = "".join(";".join(row) + "\n" for row in [titles, *rows]).encode()
+        self.assertEqual((0, 0, whole), (status, *answer_to([*self.command(), "comma-rows", gsi, name])[:2]))
 
     def test_the_module_with_64_bit_memory_answers_as_each_case_says(self):
         if not (is_lowered() and (node := node_of_64_bits())):
@@ -349,6 +424,11 @@ class PageCallsTest(TimedTest):
             ["mark", "--targets=P7=101", gsi],
             ["mark", "--targets=4294967296", gsi],
             ["mark", "--targets=P\u00e47=3", gsi],
+            ["mark-rows", "--station=SEVENTEEN LETTERS", gsi],
+            ["mark-rows", "--sets=three", gsi],
+            ["comma-rows", "--two-i=1000001", gsi, "P7"],
+            ["directions", "--decimal-comma", "--decimals=9", gsi, "P7"],
+            ["differences", "--decimal-comma", "--columns=2,2", gsi, "P7", table],
         ]:
             with self.subTest(words):
                 self.assertEqual((2, b"", b""), answer_to([*self.command(), *words]))
@@ -418,6 +498,10 @@ class PageCallsTest(TimedTest):
             ["differences", *noted],
             ["explain", "TwoC"],
             ["mark", job],
+            ["mark-rows", job],
+            ["comma-rows", gsi, "P7"],
+            ["directions", "--decimal-comma", gsi, "P7"],
+            ["differences", "--decimal-comma", *noted],
             ["digest", gsi, "two\\lines\n"],
             # The same of a refusal; of words it stands beside the words, of which there are none here.
             ["check", gsi, table],
@@ -433,6 +517,8 @@ class PageCallsTest(TimedTest):
             ["differences", gsi, "P7", sheet],
             ["explain", "Elephant"],
             ["mark", gsi],
+            ["mark-rows", gsi],
+            ["comma-rows", gsi, "P8"],
         ]:
             usual = answer_to([*self.command(), *words])
             # The copy of a job and its notes have a room each, and so have an answer of a table and its note.

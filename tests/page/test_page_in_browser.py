@@ -1652,6 +1652,24 @@ class PageInBrowserTest(TimedTest):
         page.give(P7_FIELD)
         self.assertNotIn("Save sheet of means", page.texts("button"))
 
+    def test_rows_are_saved_as_spreadsheets_of_the_language_read_them(self):
+        """In German with semicolons and decimal commas, as the program writes them; they can be handed in again."""
+        folder = CASES / "differences" / "differences_with_decimal_commas"
+        page = self.page(FIELD, folder / "table.csv")
+        self.speak(page, "de")
+        directions = page.saved("Richtungen speichern (CSV)", "S1_directions.csv")
+        self.assertEqual((CASES / "directions" / "directions_with_decimal_commas" / "stdout").read_bytes(), directions)
+        differences = page.saved("Abweichungen speichern (CSV)", "table_differences.csv")
+        self.assertEqual((folder / "stdout").read_bytes(), differences)
+        titles, first, *_ = page.saved("Verbesserungen speichern (CSV)", "S1_residuals.csv").decode().splitlines()
+        self.assertEqual("station;set;target;face one;face two;direction", titles.partition(";2c")[0])
+        self.assertRegex(first, r"^S1;1;A;\d+,\d{6};\d+,\d{6};")
+        faces = page.saved("2c und 2i speichern (CSV)", "S1_faces.csv").decode()
+        self.assertTrue(faces.startswith("set;target;2c mgon;2i mgon\n1;A;0,06;-0,02\n1;B;0,10;0,00\n"))
+        page.empty()
+        page.give(FIELD, self.file("given.csv", directions))
+        self.assertTrue(page.text(".headline").startswith("Stimmt überein"), page.text(".headline"))
+
     def test_the_protocol_is_saved_as_a_page_of_its_own(self):
         page = self.page(P7_FIELD, P7_SHEET)
         saved = page.saved("Save protocol", "station_p7_P7.html")

@@ -41,7 +41,9 @@ use Rattle.station_report.specs.NoteTexts.{unnoted}
 use Rattle.table_answers.specs.Answers.{TellsBeside}
 use Rattle.table_answers.specs.Comparisons.{SaysComparison, noted_verdict, verdict}
 use Rattle.table_answers.specs.Noting.{Noting}
-use Rattle.row_forms.specs.declared.form.RowForm.TheVariants.{Commas}
+use Rattle.report_rows.specs.Stating.{AreReportRows}
+use Rattle.row_forms.specs.declared.form.RowForm.{RowForm}
+use Rattle.row_forms.specs.declared.form.RowForm.TheVariants.{Commas, Semicolons}
 use Rattle.table_answers.specs.Saying.{SaysDifferences}
 use Rattle.table_answers.specs.Wholes.{IsWhole, WholeValue, verdict_parts}
 use Rattle.table_answers.specs.declared.compared.Compared.{Compared}
@@ -58,7 +60,8 @@ use Rattle.station_change.specs.FaultTexts.{change_line}
 use Rattle.page_calls.specs.Explained.{AnswersLine, explanation_or_refusal}
 use Rattle.page_calls.specs.HandedOut.{HandsOut, verdict_line, text_or_refusal, refusal_text}
 use Rattle.page_calls.specs.HandedOut.{comparison_line, table_or_refusal, copy_text}
-use Rattle.page_calls.specs.HandedOut.{listed_or_refusal, notes_or_refusal}
+use Rattle.page_calls.specs.HandedOut.{copy_or_refusal_line, listed_or_refusal, notes_or_refusal}
+use Rattle.page_calls.specs.HandedOut.{rows_told}
 use Rattle.page_calls.specs.Limits.{States, stated_limit}
 use Rattle.page_calls.specs.Listed.{TellsListed}
 use Rattle.page_calls.specs.declared.explain.Unexplained.{Unexplained}
@@ -141,6 +144,16 @@ abbrev pub IsDirectionsOf : ℕ → ℕ → List ℕ → List ℕ → ℕ → �
 IsDirectionsOf two_c two_i gsi name decimals =
     IsTextOf (λ limits. SaysDirections Commas decimals) two_c two_i gsi name
 
+-- The same with semicolons between its cells and commas in its numbers.
+abbrev pub IsCommaDirectionsOf : ℕ → ℕ → List ℕ → List ℕ → ℕ → ℕ → ℕ → List ℕ → Type 0
+IsCommaDirectionsOf two_c two_i gsi name decimals =
+    IsTextOf (λ limits. SaysDirections Semicolons decimals) two_c two_i gsi name
+
+-- It is the rows of its report, with semicolons between their cells and commas in their numbers.
+abbrev pub IsCommaRowsOf : ℕ → ℕ → List ℕ → List ℕ → ℕ → ℕ → List ℕ → Type 0
+IsCommaRowsOf two_c two_i gsi name =
+    IsTextOf (λ limits. AreReportRows Semicolons) two_c two_i gsi name
+
 -- It is its residuals, observation by observation.
 abbrev pub IsResidualsOf : ℕ → ℕ → List ℕ → List ℕ → ℕ → ℕ → List ℕ → Type 0
 IsResidualsOf two_c two_i gsi name = IsTextOf (λ limits. SaysResiduals) two_c two_i gsi name
@@ -187,13 +200,14 @@ answer_alone (Err fault) = Err fault
 
 -- The status and the text are those of the differences of these bytes of a table, read in this form,
 -- from the station of this name in these bytes of a field file, target by target, by the largest
--- limit of residuals; the note is that of the table, and a refusal has none.
-pub record IsDifferencesOf (two_c two_i : ℕ) (form : TableForm) (gsi table name : List ℕ)
-    (note_room : ℕ) (note : List ℕ) (room answered : ℕ) (shown : List ℕ) : Type 0 where
+-- limit of residuals, as rows of this form; the note is that of the table, and a refusal has none.
+pub record IsDifferencesOf (rows : RowForm) (two_c two_i : ℕ) (form : TableForm)
+    (gsi table name : List ℕ) (note_room : ℕ) (note : List ℕ) (room answered : ℕ)
+    (shown : List ℕ) : Type 0 where
   pub limits : FaceLimits
   pub states : States two_c two_i limits
   pub answer : Result (List ℕ × List ℕ) CompareFault
-  pub tells : TellsBeside (Noting (SaysDifferences form Commas) form) form (of_faces limits)
+  pub tells : TellsBeside (Noting (SaysDifferences form rows) form) form (of_faces limits)
       (file_answers (source_of gsi)) (source_of table) name answer
   pub status : ℕ
   pub hands_text_out : HandsOut (status_of answer) (table_or_refusal (answer_alone answer)) room
@@ -264,6 +278,37 @@ IsMarkAnswer AreBeginnings IsStated gsi notes_room notes room answered shown =
     IsMarkOf AreBeginnings IsStated gsi notes_room notes room answered shown
     ⊎ RanOut notes_room notes room answered shown
     ⊎ IsBeyond AreBeginnings IsStated notes answered shown
+
+-- The status, the copy or the line of the refusal, and the rows of what is told are those of putting
+-- codes into these bytes, by beginnings and by what is stated of the file.
+pub record IsMarkRowsOf (AreBeginnings : Beginnings → Type 0) (IsStated : Stated → Type 0)
+    (gsi : List ℕ) (rows_room : ℕ) (rows : List ℕ) (room answered : ℕ) (shown : List ℕ)
+    : Type 0 where
+  pub beginnings : Beginnings
+  pub are_beginnings : AreBeginnings beginnings
+  pub stated : Stated
+  pub is_stated : IsStated stated
+  pub answer : Result Marked Refused
+  pub marks : AnswersMark beginnings (said_in stated) gsi (file_answers (source_of gsi)) answer
+  pub status : ℕ
+  pub hands_copy_out : HandsOut (status_of answer) (copy_or_refusal_line gsi answer) room status
+      shown
+  pub hands_rows_out : HandsOut status (rows_told answer) rows_room answered rows
+
+-- Memory ran out: in the place of the copy the line that says so is handed out, and no rows.
+pub record RanOutOfRows (rows_room : ℕ) (rows : List ℕ) (room answered : ℕ) (shown : List ℕ)
+    : Type 0 where
+  pub status : ℕ
+  pub hands_line_out : HandsOut REFUSED (refusal_line (Mark mark.Memory)) room status shown
+  pub hands_no_rows_out : HandsOut status [] rows_room answered rows
+
+-- One of these is answered.
+abbrev pub IsMarkRowsAnswer : (Beginnings → Type 0) → (Stated → Type 0) → List ℕ → ℕ → List ℕ → ℕ
+    → ℕ → List ℕ → Type 0
+IsMarkRowsAnswer AreBeginnings IsStated gsi rows_room rows room answered shown =
+    IsMarkRowsOf AreBeginnings IsStated gsi rows_room rows room answered shown
+    ⊎ RanOutOfRows rows_room rows room answered shown
+    ⊎ IsBeyond AreBeginnings IsStated rows answered shown
 
 -- The line of these bytes' digest and of this name is handed out; with so much room it always is.
 pub record IsDigestOf (file name : List ℕ) (room answered : ℕ) (shown : List ℕ) : Type 0 where

@@ -7,12 +7,15 @@ use Rattle.station_compare.specs.AgreementTexts.{agreement_line}
 use Rattle.station_compare.specs.FaultTexts as compare
 use Rattle.station_compare.specs.declared.agreement.Agreement.{Agreement}
 use Rattle.station_compare.specs.declared.fault.CompareFault.{CompareFault}
-use Rattle.set_marks.specs.Markings.{copy_of}
+use Rattle.set_marks.specs.Markings.{copy_of, fault_in, told_in}
 use Rattle.set_marks.specs.declared.marked.Marked.{Marked}
 use Rattle.set_marks.specs.declared.refused.Refused.{Refused}
 use Rattle.station_mark.specs.FaultTexts.{unmarked}
+use Rattle.station_mark.specs.FaultTexts.{refusal_line as refusal_line_of_mark}
 use Rattle.station_mark.specs.FaultTexts.{refusal_text as refusal_text_of_mark}
 use Rattle.station_mark.specs.Notes.{notes_of}
+use Rattle.station_mark.specs.ToldRows.{told_rows}
+use Rattle.station_mark.specs.declared.fault.PrintFault.TheVariants.{Mark}
 use Rattle.page_calls.specs.declared.hand_out.TheConstants.{OUT_OF_RANGE, TOO_LITTLE_ROOM}
 
 -- The text is handed out whole, with this status, exactly where there is room for it; else nothing
@@ -86,3 +89,13 @@ copy_text gsi (Err refused) = []
 abbrev pub notes_or_refusal : Result Marked Refused → List ℕ
 notes_or_refusal (Ok m) = notes_of m
 notes_or_refusal (Err refused) = refusal_text_of_mark (unmarked refused)
+
+-- the copy of these bytes, with codes; at a refusal its line
+abbrev pub copy_or_refusal_line : List ℕ → Result Marked Refused → List ℕ
+copy_or_refusal_line gsi (Ok m) = copy_of gsi m
+copy_or_refusal_line gsi (Err refused) = refusal_line_of_mark (Mark (fault_in refused))
+
+-- the rows of its stations; at a refusal of those that were judged
+abbrev pub rows_told : Result Marked Refused → List ℕ
+rows_told (Ok m) = told_rows m.stations.items
+rows_told (Err refused) = told_rows (told_in refused)

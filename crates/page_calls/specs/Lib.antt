@@ -9,7 +9,8 @@ pub mod Listed
 pub mod Answers
 pub mod HandedOut
 pub mod Explained
--- The inside: what a text in memory holds, and a copy with its notes. No public contract cites
+-- The inside: what a text in memory holds, and a copy with its notes or its rows. No public contract cites
 -- them.
 pub mod Texts
 pub mod Noted
+pub mod Told

@@ -5,6 +5,7 @@ ghost use Rattle.page_calls.specs.Answers.{IsDifferencesOf};
 ghost use Rattle.page_calls.specs.Forms.{IsForm, stated_form};
 ghost use Rattle.page_calls.specs.HandedOut.{LeavesInRange, ShowsInRange};
 ghost use Rattle.page_calls.specs.Limits.{AreFaceLimits};
+ghost use Rattle.row_forms.specs.declared.form.RowForm.TheVariants.{Commas, Semicolons};
 
 use crate::beside::answer_beside;
 use crate::form::form_of;
@@ -43,8 +44,97 @@ pub fn page_differences(
     note_written: &mut usize,
 ) -> u8
     ensures differences { ShowsInRange (AreFaceLimits two_c two_i × IsForm unit names directions)
-        (IsDifferencesOf two_c two_i (stated_form unit names directions) gsi.now table.now name.now
-        (length note.old) (take note_written.new note.new)) out.old out.new written.new result }
+        (IsDifferencesOf Commas two_c two_i (stated_form unit names directions) gsi.now table.now
+        name.now (length note.old) (take note_written.new note.new)) out.old out.new written.new
+        result }
+    ensures note { LeavesInRange (AreFaceLimits two_c two_i × IsForm unit names directions)
+        note.old note.new note_written.new }
+{
+    let rows = RowForm::Commas;
+    hand_out_differences(
+        alloc,
+        gsi,
+        table,
+        name,
+        two_c,
+        two_i,
+        unit,
+        names,
+        directions,
+        rows,
+        out,
+        written,
+        note,
+        note_written,
+    )
+}
+
+/// Hands out what `page_differences` does, with semicolons between the cells of a row and a comma
+/// in each number: for a spreadsheet that is set to German or French.
+///
+/// Numbers and statuses are those of `page_differences`.
+pub fn page_comma_differences(
+    alloc: Global,
+    gsi: &[u8],
+    table: &[u8],
+    name: &[u8],
+    two_c: u32,
+    two_i: u32,
+    unit: u32,
+    names: u32,
+    directions: u32,
+    out: &mut [u8],
+    written: &mut usize,
+    note: &mut [u8],
+    note_written: &mut usize,
+) -> u8
+    ensures differences { ShowsInRange (AreFaceLimits two_c two_i × IsForm unit names directions)
+        (IsDifferencesOf Semicolons two_c two_i (stated_form unit names directions) gsi.now
+        table.now name.now (length note.old) (take note_written.new note.new)) out.old out.new written.new
+        result }
+    ensures note { LeavesInRange (AreFaceLimits two_c two_i × IsForm unit names directions)
+        note.old note.new note_written.new }
+{
+    let rows = RowForm::Semicolons;
+    hand_out_differences(
+        alloc,
+        gsi,
+        table,
+        name,
+        two_c,
+        two_i,
+        unit,
+        names,
+        directions,
+        rows,
+        out,
+        written,
+        note,
+        note_written,
+    )
+}
+
+/// Hands out the differences in a form of rows.
+fn hand_out_differences(
+    alloc: Global,
+    gsi: &[u8],
+    table: &[u8],
+    name: &[u8],
+    two_c: u32,
+    two_i: u32,
+    unit: u32,
+    names: u32,
+    directions: u32,
+    rows: RowForm,
+    out: &mut [u8],
+    written: &mut usize,
+    note: &mut [u8],
+    note_written: &mut usize,
+) -> u8
+    ensures differences { ShowsInRange (AreFaceLimits two_c two_i × IsForm unit names directions)
+        (IsDifferencesOf rows two_c two_i (stated_form unit names directions) gsi.now table.now
+        name.now (length note.old) (take note_written.new note.new)) out.old out.new written.new
+        result }
     ensures note { LeavesInRange (AreFaceLimits two_c two_i × IsForm unit names directions)
         note.old note.new note_written.new }
 {
@@ -56,10 +146,7 @@ pub fn page_differences(
     let Some(form) = form_of(unit, names, directions) else {
         return OUT_OF_RANGE;
     };
-    let asked = Differences {
-        form,
-        rows: RowForm::Commas,
-    };
+    let asked = Differences { form, rows };
     match answer_beside(alloc, gsi, table, name, limits, &asked) {
         Ok(noted) => {
             let status = hand_out(ACCEPTED, &noted.answer, out, written);

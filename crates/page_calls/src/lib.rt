@@ -10,11 +10,15 @@
 //! | `page_directions` | hands out the table of a station's least-squares directions |
 //! | `page_residuals` | hands out the residuals of a station, observation by observation |
 //! | `page_report` | hands out the report of a station's sets |
+//! | `page_comma_directions` | hands out the directions, with semicolons and decimal commas |
+//! | `page_comma_rows` | hands out the rows of the report so |
 //! | `page_station` | hands out all of a station, of one reading and one adjustment |
 //! | `page_compare` | compares a table of directions: the line of the answer |
 //! | `page_differences` | hands out the differences of a table, target by target |
+//! | `page_comma_differences` | hands out the differences with semicolons and decimal commas |
 //! | `page_table` | hands out all of a table, of one reading of each file and one adjustment |
 //! | `page_mark` | hands out a copy with codes put in, and what was recognized |
+//! | `page_mark_rows` | the same copy, and what was recognized as rows |
 //! | `page_change` | hands out a copy with lines left out, or their points renamed |
 //! | `page_digest` | hands out the line of a file's SHA-256 digest |
 //! | `page_explain` | hands out what the fault means that a text names |
@@ -31,6 +35,7 @@
 mod beside;
 mod change;
 mod check;
+mod comma;
 mod compare;
 mod differences;
 mod digest;
@@ -42,6 +47,7 @@ pub mod laws;
 mod list;
 mod listed_rows;
 mod mark;
+mod mark_rows;
 mod means;
 mod report;
 mod residuals;
@@ -54,8 +60,9 @@ mod words;
 
 pub use change::page_change;
 pub use check::page_check;
+pub use comma::{page_comma_directions, page_comma_rows};
 pub use compare::page_compare;
-pub use differences::page_differences;
+pub use differences::{page_comma_differences, page_differences};
 pub use digest::page_digest;
 pub use directions::page_directions;
 pub use explain::page_explain;
@@ -64,6 +71,7 @@ pub use hand_out::{OUT_OF_RANGE, TOO_LITTLE_ROOM};
 pub use list::page_list;
 pub use listed_rows::page_list_rows;
 pub use mark::page_mark;
+pub use mark_rows::page_mark_rows;
 pub use means::page_means;
 pub use report::page_report;
 pub use residuals::page_residuals;

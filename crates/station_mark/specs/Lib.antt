@@ -1,6 +1,7 @@
 -- The public definitions, which public contracts cite, in the order in which a reader needs them.
 pub mod Answers
 pub mod Notes
+pub mod ToldRows
 pub mod FaultTexts
 pub mod Runs
 pub mod OneAnswer

@@ -8,6 +8,7 @@
 //! | `notes_text` | what is told of the stations of a marked file |
 //! | `refusal_line` | the line of a refusal |
 //! | `refusal_text` | the same of a marking, after the lines of each station |
+//! | `told_rows` | the notes as rows: what is told of stations, as data |
 //! | `run_mark` | the command: the copy on `out`, the notes or the refusal on `err`, the status |
 //!
 //! The rule by which codes are put in is `set_marks`.
@@ -21,6 +22,7 @@ mod mark;
 mod marked_file;
 mod notes;
 mod refused;
+mod rows;
 mod runs;
 
 pub use fault::PrintFault;
@@ -28,4 +30,5 @@ pub use mark::{mark_bytes, mark_source};
 pub use marked_file::MarkedFile;
 pub use notes::notes_text;
 pub use refused::{refusal_line, refusal_text};
+pub use rows::told_rows;
 pub use runs::run_mark;

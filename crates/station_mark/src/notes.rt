@@ -121,7 +121,7 @@ fn add_times(text: &mut Vec<u8>, count: usize) -> Result<(), AllocError>
 }
 
 /// Whether readings follow the set-up line of a station.
-fn has_readings(station: &Recognized) -> bool
+pub(crate) fn has_readings(station: &Recognized) -> bool
     ensures { result ≡ has_readings station.now }
 {
     !(station.sets == 0 && station.before == 0)
@@ -149,7 +149,7 @@ fn add_again(text: &mut Vec<u8>, again: bool, name: &Name) -> Result<(), AllocEr
 }
 
 /// Whether the next set-up line has the same name.
-fn is_named_again(name: &Name, later: &[Recognized]) -> bool
+pub(crate) fn is_named_again(name: &Name, later: &[Recognized]) -> bool
     ensures { result ≡ is_named_again name.now later.now }
 {
     match later.first() {
@@ -455,7 +455,7 @@ fn add_spread(text: &mut Vec<u8>, range: &ZenithRange) -> Result<(), AllocError>
 }
 
 /// Units of 0.00001 gon in whole mgon: the nearest number, and of two as near the greater one.
-fn whole_mgon(units: u32) -> usize
+pub(crate) fn whole_mgon(units: u32) -> usize
     ensures { result ≡ whole_mgon units }
 {
     (units as usize + UNITS_IN_MGON / 2) / UNITS_IN_MGON

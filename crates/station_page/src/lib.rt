@@ -5,20 +5,23 @@
 ghost use Rattle.std.specs.Prelude.{length, take};
 ghost use Rattle.direction_table.specs.Texts.{AreDecimals};
 ghost use Rattle.page_calls.specs.Answers.{IsCheckOf, IsListOf, IsListRowsOf, IsMeansOf};
-ghost use Rattle.page_calls.specs.Answers.{IsWordsOf};
+ghost use Rattle.page_calls.specs.Answers.{IsCommaDirectionsOf, IsCommaRowsOf, IsWordsOf};
 ghost use Rattle.page_calls.specs.Answers.{IsDirectionsOf, IsResidualsOf, IsReportOf, IsWholeOf};
 ghost use Rattle.page_calls.specs.Answers.{IsComparisonOf, IsDifferencesOf, IsTableOf};
-ghost use Rattle.page_calls.specs.Answers.{IsMarkAnswer, IsChangeAnswer, IsDigestOf};
+ghost use Rattle.page_calls.specs.Answers.{IsMarkAnswer, IsMarkRowsAnswer};
+ghost use Rattle.page_calls.specs.Answers.{IsChangeAnswer, IsDigestOf};
 ghost use Rattle.page_calls.specs.Answers.{IsExplanationOf};
 ghost use Rattle.page_calls.specs.Asked.{asked_with};
 ghost use Rattle.page_calls.specs.Forms.{IsForm, stated_form};
 ghost use Rattle.page_calls.specs.HandedOut.{Leaves, LeavesInRange, Shows, ShowsInRange};
 ghost use Rattle.page_calls.specs.Limits.{AreFaceLimits, IsResidualLimit, IsWithin, stated_limit};
+ghost use Rattle.row_forms.specs.declared.form.RowForm.TheVariants.{Commas, Semicolons};
 ghost use Rattle.page_calls.specs.Statements.{StatesBeginnings, StatesFile};
 
 use page_calls::{
-    page_change, page_check, page_compare, page_differences, page_digest, page_directions,
-    page_explain, page_list, page_list_rows, page_mark, page_means, page_report, page_residuals,
+    page_change, page_check, page_comma_differences, page_comma_directions, page_comma_rows,
+    page_compare, page_differences, page_digest, page_directions, page_explain, page_list,
+    page_list_rows, page_mark, page_mark_rows, page_means, page_report, page_residuals,
     page_station, page_table, page_words,
 };
 use std::alloc::Global;
@@ -185,6 +188,42 @@ pub extern "C" fn station_page_station(
     page_station(alloc, gsi, path, name, two_c, two_i, decimals, out, written)
 }
 
+/// [`page_comma_directions`], exported.
+#[unsafe(no_mangle)]
+pub extern "C" fn station_page_comma_directions(
+    alloc: Global,
+    gsi: &[u8],
+    name: &[u8],
+    two_c: u32,
+    two_i: u32,
+    decimals: u32,
+    out: &mut [u8],
+    written: &mut usize,
+) -> u8
+    ensures { ShowsInRange (AreFaceLimits two_c two_i × AreDecimals decimals)
+        (IsCommaDirectionsOf two_c two_i gsi.now name.now decimals) out.old out.new written.new
+        result }
+{
+    page_comma_directions(alloc, gsi, name, two_c, two_i, decimals, out, written)
+}
+
+/// [`page_comma_rows`], exported.
+#[unsafe(no_mangle)]
+pub extern "C" fn station_page_comma_rows(
+    alloc: Global,
+    gsi: &[u8],
+    name: &[u8],
+    two_c: u32,
+    two_i: u32,
+    out: &mut [u8],
+    written: &mut usize,
+) -> u8
+    ensures { ShowsInRange (AreFaceLimits two_c two_i)
+        (IsCommaRowsOf two_c two_i gsi.now name.now) out.old out.new written.new result }
+{
+    page_comma_rows(alloc, gsi, name, two_c, two_i, out, written)
+}
+
 /// [`page_compare`], exported.
 #[unsafe(no_mangle)]
 pub extern "C" fn station_page_compare(
@@ -250,12 +289,54 @@ pub extern "C" fn station_page_differences(
     note_written: &mut usize,
 ) -> u8
     ensures differences { ShowsInRange (AreFaceLimits two_c two_i × IsForm unit names directions)
-        (IsDifferencesOf two_c two_i (stated_form unit names directions) gsi.now table.now name.now
-        (length note.old) (take note_written.new note.new)) out.old out.new written.new result }
+        (IsDifferencesOf Commas two_c two_i (stated_form unit names directions) gsi.now table.now
+        name.now (length note.old) (take note_written.new note.new)) out.old out.new written.new
+        result }
     ensures note { LeavesInRange (AreFaceLimits two_c two_i × IsForm unit names directions)
         note.old note.new note_written.new }
 {
     page_differences(
+        alloc,
+        gsi,
+        table,
+        name,
+        two_c,
+        two_i,
+        unit,
+        names,
+        directions,
+        out,
+        written,
+        note,
+        note_written,
+    )
+}
+
+/// [`page_comma_differences`], exported.
+#[unsafe(no_mangle)]
+pub extern "C" fn station_page_comma_differences(
+    alloc: Global,
+    gsi: &[u8],
+    table: &[u8],
+    name: &[u8],
+    two_c: u32,
+    two_i: u32,
+    unit: u32,
+    names: u32,
+    directions: u32,
+    out: &mut [u8],
+    written: &mut usize,
+    note: &mut [u8],
+    note_written: &mut usize,
+) -> u8
+    ensures differences { ShowsInRange (AreFaceLimits two_c two_i × IsForm unit names directions)
+        (IsDifferencesOf Semicolons two_c two_i (stated_form unit names directions) gsi.now
+        table.now name.now (length note.old) (take note_written.new note.new)) out.old out.new written.new
+        result }
+    ensures note { LeavesInRange (AreFaceLimits two_c two_i × IsForm unit names directions)
+        note.old note.new note_written.new }
+{
+    page_comma_differences(
         alloc,
         gsi,
         table,
@@ -360,6 +441,45 @@ pub extern "C" fn station_page_mark(
         written,
         notes,
         notes_written,
+    )
+}
+
+/// [`page_mark_rows`], exported.
+#[unsafe(no_mangle)]
+pub extern "C" fn station_page_mark_rows(
+    alloc: Global,
+    gsi: &[u8],
+    name: &[u8],
+    code: &[u8],
+    sets: &[u8],
+    targets: &[u8],
+    same_set_up: bool,
+    again: bool,
+    others: bool,
+    out: &mut [u8],
+    written: &mut usize,
+    rows: &mut [u8],
+    rows_written: &mut usize,
+) -> u8
+    ensures copy { Shows (IsMarkRowsAnswer (StatesBeginnings name.now code.now same_set_up)
+        (StatesFile sets.now targets.now again others) gsi.now (length rows.old)
+        (take rows_written.new rows.new)) out.old out.new written.new result }
+    ensures rows { Leaves rows.old rows.new rows_written.new }
+{
+    page_mark_rows(
+        alloc,
+        gsi,
+        name,
+        code,
+        sets,
+        targets,
+        same_set_up,
+        again,
+        others,
+        out,
+        written,
+        rows,
+        rows_written,
     )
 }
 

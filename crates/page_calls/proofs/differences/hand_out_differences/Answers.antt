@@ -4,7 +4,7 @@ use Rattle.gsi_file.specs.FileAnswers.{file_answers}
 use Rattle.station_book.specs.ResultLimits.{of_faces}
 use Rattle.station_check.specs.Came.{source_of}
 use Rattle.table_answers.specs.Refusing.{HasNoAnswer}
-use Rattle.page_calls.proofs.differences.page_differences.Goals as goal
+use Rattle.page_calls.proofs.differences.hand_out_differences.Goals as goal
 
 pub returns-in-Ok-clause-differences : goal.returns-in-Ok-clause-differences
 returns-in-Ok-clause-differences c = record {
