@@ -8,8 +8,10 @@ use Rattle.std.proofs.lemmas.List.{append-nil, drop_more}
 use Rattle.std.proofs.lemmas.List.Elements.{filter_more}
 use Rattle.csv.specs.Records.{field_at}
 use Rattle.direction_table.specs.Cells.{cell}
-use Rattle.direction_table.specs.FieldForms.{has_name, is_blank, named}
+use Rattle.direction_table.specs.FieldForms.{has_name, is_blank, named, without_blanks}
 use Rattle.direction_table.specs.Separators.{has_byte}
+use Rattle.direction_table.specs.TakenCells.{may_go_on}
+use Rattle.direction_table.specs.declared.unit.AngleUnit.{AngleUnit}
 
 -- The field at a place, or none of its bytes.
 abbrev pub at : List (List ℕ) → ℕ → List ℕ
@@ -41,6 +43,15 @@ pub any_more : (targets fields : List (List ℕ)) (place : ℕ) → place < leng
     ≡ (has_name targets (named targets (at fields place))
     || list_any (λ field. has_name targets (named targets field)) (drop (place + 1) fields))
 any_more targets fields place inside =
+    rw (at-is fields place inside, drop_more fields place [] inside) refl
+
+-- Some cell from a place on may be the rest of a direction where the one there may, or one from the
+-- next on.
+pub rest_more : (unit : AngleUnit) (fields : List (List ℕ)) (place : ℕ) → place < length fields
+    → list_any (λ field. may_go_on unit (without_blanks field)) (drop place fields)
+    ≡ (may_go_on unit (without_blanks (at fields place))
+    || list_any (λ field. may_go_on unit (without_blanks field)) (drop (place + 1) fields))
+rest_more unit fields place inside =
     rw (at-is fields place inside, drop_more fields place [] inside) refl
 
 -- The fields that have a byte, with one more.

@@ -1,10 +1,11 @@
 -- How many cells of a row the directions of a column take, by all rows that name targets.
 use Rattle.std.specs.Prelude.{ℕ, ◌+◌, ◌%◌, Bool, false, not, ◌&&◌, ◌||◌, ◌==◌}
-use Rattle.std.specs.Prelude.{if◌then◌else◌, List, [], ◌∷◌}
+use Rattle.std.specs.Prelude.{if◌then◌else◌, List, [], ◌∷◌, drop}
 use Rattle.std.specs.Char.{is_ascii_digit}
 use Rattle.std.specs.List.{list_all, list_any}
 use Rattle.direction_table.specs.Cells.{cell, may_be_number, takes_three}
 use Rattle.direction_table.specs.DecimalNumbers.{is_mark}
+use Rattle.direction_table.specs.FieldForms.{without_blanks}
 use Rattle.direction_table.specs.Gons.{is_size, size_value, unsigned}
 use Rattle.direction_table.specs.declared.taken.Taken.{Taken}
 use Rattle.direction_table.specs.declared.taken.Taken.TheVariants.{One, Three}
@@ -47,17 +48,19 @@ may_go_on Gon field = may_be_decimals field
 may_go_on Degrees field = may_be_number field
 may_go_on PackedDegrees field = may_be_number field
 
--- Whether the cell after a column may be the rest of what stands in the column.
+-- Whether a cell after a column may be the rest of what stands in the column, also where another
+-- stands between, as in `59 | 12` and `59 deg 12 min`.
 abbrev pub goes_on : AngleUnit → ℕ → List (List ℕ) → Bool
-goes_on unit column row = may_go_on unit (cell (column + 1) row)
+goes_on unit column row =
+    list_any (λ field. may_go_on unit (without_blanks field)) (drop (column + 1) row)
 
--- Whether the cell of a column may begin a direction, where the next may go on with it.
+-- Whether the cell of a column may begin a direction, where one after it may go on with it.
 abbrev pub begins_what_goes_on : AngleUnit → ℕ → List (List ℕ) → Bool
 begins_what_goes_on unit column row =
     not (goes_on unit column row) || may_begin unit (cell column row)
 
--- The directions of a column are cut: numbers stand beside them, and none beside more than the
--- beginning of a direction. So `59.5` and `0.8` beside it show that what stands beside `0` is no
+-- The directions of a column are cut: numbers stand behind them, and none behind more than the
+-- beginning of a direction. So `59.5` and `0.8` behind it show that what stands behind `0` is no
 -- minutes.
 abbrev pub are_cut : AngleUnit → ℕ → List (List (List ℕ)) → Bool
 are_cut unit column rows =

@@ -1,11 +1,12 @@
 //! The fields of a row by the numbers of their columns, and what they say.
 
-ghost use Rattle.std.specs.Prelude.{◌≡◌, ◌&&◌, ◌++◌, IfOk, OnOk};
+ghost use Rattle.std.specs.Prelude.{◌≡◌, ◌&&◌, ◌++◌, IfOk, OnOk, drop};
 ghost use Rattle.std.specs.Char.{is_ascii_alphabetic};
 ghost use Rattle.std.specs.List.{list_any};
 ghost use Rattle.csv.specs.Records.{fields_of};
 ghost use Rattle.direction_table.specs.Cells as spec;
 ghost use Rattle.direction_table.specs.Directions as directions;
+ghost use Rattle.direction_table.specs.FieldForms as forms;
 ghost use Rattle.direction_table.specs.Gons as gons;
 ghost use Rattle.direction_table.specs.TakenCells as cut;
 
@@ -248,18 +249,37 @@ fn may_be_decimals(field: &[u8]) -> bool
     }
 }
 
-/// Whether the cell after a column may be the rest of what stands in the column.
-pub(crate) fn goes_on(unit: AngleUnit, row: &ByteRecord, column: u32) -> bool
-    ensures { result ≡ cut.goes_on unit column (fields_of row.now) }
+/// Whether a field may be the rest of a direction: minutes, of whatever form, or decimals of gon.
+fn may_go_on(unit: AngleUnit, field: &[u8]) -> bool
+    ensures { result ≡ cut.may_go_on unit field.now }
 {
-    let next = cell(row, column as usize + 1);
     match unit {
-        AngleUnit::Gon => may_be_decimals(next),
-        AngleUnit::Degrees | AngleUnit::PackedDegrees => may_be_number(next),
+        AngleUnit::Gon => may_be_decimals(field),
+        AngleUnit::Degrees | AngleUnit::PackedDegrees => may_be_number(field),
     }
 }
 
-/// Whether the cell of a column may begin a direction, where the next may go on with it.
+/// Whether a cell from a place on may be the rest of a direction.
+fn goes_on_from(unit: AngleUnit, row: &ByteRecord, from: usize) -> bool
+    ensures { result ≡ list_any (λ field. cut.may_go_on unit (forms.without_blanks field))
+        (drop from (fields_of row.now)) }
+{
+    for place in from..row.len() {
+        if may_go_on(unit, cell(row, place)) {
+            return true;
+        }
+    }
+    false
+}
+
+/// Whether a cell after a column may be the rest of what stands in the column.
+pub(crate) fn goes_on(unit: AngleUnit, row: &ByteRecord, column: u32) -> bool
+    ensures { result ≡ cut.goes_on unit column (fields_of row.now) }
+{
+    goes_on_from(unit, row, column as usize + 1)
+}
+
+/// Whether the cell of a column may begin a direction, where one after it may go on with it.
 pub(crate) fn begins_what_goes_on(unit: AngleUnit, row: &ByteRecord, column: u32) -> bool
     ensures { result ≡ cut.begins_what_goes_on unit column (fields_of row.now) }
 {
