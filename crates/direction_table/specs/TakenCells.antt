@@ -1,10 +1,10 @@
 -- How many cells of a row the directions of a column take, by all rows that name targets.
 use Rattle.std.specs.Prelude.{ℕ, ◌+◌, ◌%◌, Bool, false, not, ◌&&◌, ◌||◌, ◌==◌}
-use Rattle.std.specs.Prelude.{if◌then◌else◌, List, [], ◌∷◌, drop}
+use Rattle.std.specs.Prelude.{if◌then◌else◌, List, [], ◌∷◌, drop, length, nat_le}
 use Rattle.std.specs.Char.{is_ascii_digit}
 use Rattle.std.specs.List.{list_all, list_any}
 use Rattle.direction_table.specs.Cells.{cell, may_be_number, takes_three}
-use Rattle.direction_table.specs.DecimalNumbers.{is_mark}
+use Rattle.direction_table.specs.DecimalNumbers.{decimals_part, is_mark}
 use Rattle.direction_table.specs.FieldForms.{without_blanks}
 use Rattle.direction_table.specs.Gons.{is_size, size_value, unsigned}
 use Rattle.direction_table.specs.declared.taken.Taken.{Taken}
@@ -30,10 +30,14 @@ has_point field = list_any (λ b. is_mark b) field
 abbrev pub is_whole_number : List ℕ → Bool
 is_whole_number bytes = is_size bytes && (size_value bytes % 1_000_000_000 == 0)
 
+-- Whether digits stand after the decimal point or comma of a number.
+abbrev pub has_decimals : List ℕ → Bool
+has_decimals field = nat_le 1 (length (decimals_part field))
+
 -- What stands in a field may be no more than the beginning of a direction: whole degrees, or gon up
--- to their decimal comma.
+-- to their decimal comma, which may stand there, as in `59,`.
 abbrev pub may_begin : AngleUnit → List ℕ → Bool
-may_begin Gon field = is_whole_number (unsigned field) && not (has_point field)
+may_begin Gon field = is_whole_number (unsigned field) && not (has_decimals field)
 may_begin Degrees field = is_whole_number (unsigned field)
 may_begin PackedDegrees field = is_whole_number (unsigned field)
 

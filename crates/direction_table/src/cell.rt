@@ -10,7 +10,7 @@ ghost use Rattle.direction_table.specs.FieldForms as forms;
 ghost use Rattle.direction_table.specs.Gons as gons;
 ghost use Rattle.direction_table.specs.TakenCells as cut;
 
-use crate::decimal::mark_of;
+use crate::decimal::{after_first, mark_of};
 use crate::degrees::is_sexagesimal;
 use crate::direction::Direction;
 use crate::field::{field, has_target, named, without_blanks, without_blanks_after};
@@ -229,12 +229,19 @@ fn has_point(field: &[u8]) -> bool
     field.iter().any(|byte| *byte == b'.' || *byte == b',')
 }
 
+/// Whether digits stand after the decimal point or comma of a number.
+fn has_decimals(field: &[u8]) -> bool
+    ensures { result ≡ cut.has_decimals field.now }
+{
+    !after_first(&field[mark_of(field)..]).is_empty()
+}
+
 /// Whether a field may be no more than the beginning of a direction.
 fn may_begin(unit: AngleUnit, field: &[u8]) -> bool
     ensures { result ≡ cut.may_begin unit field.now }
 {
     match unit {
-        AngleUnit::Gon => is_whole_number(unsigned(field)) && !has_point(field),
+        AngleUnit::Gon => is_whole_number(unsigned(field)) && !has_decimals(field),
         AngleUnit::Degrees | AngleUnit::PackedDegrees => is_whole_number(unsigned(field)),
     }
 }
