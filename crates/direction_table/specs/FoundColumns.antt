@@ -20,6 +20,7 @@ use Rattle.direction_table.specs.declared.separator.Separator.{Separator}
 use Rattle.direction_table.specs.declared.separator.Separator.TheVariants.{Comma, Semicolon, Tab}
 use Rattle.direction_table.specs.declared.separator.Separator.TheVariants.{Blanks}
 use Rattle.direction_table.specs.declared.taken.Taken.{Taken}
+use Rattle.direction_table.specs.declared.taken.Taken.TheVariants.{One, Three}
 use Rattle.direction_table.specs.declared.unit.AngleUnit.{AngleUnit}
 use Rattle.direction_table.specs.declared.way.Way.{Way}
 use Rattle.direction_table.specs.declared.way.Way.TheVariants.{TwoColumns, ByColumns, MoreFit}
@@ -51,10 +52,18 @@ abbrev pub picked : Taken → AngleUnit → List (List ℕ) → ColumnPair → L
     → List (List ℕ)
 picked taken unit targets pair row = tidy targets (picked_fields taken unit pair row)
 
--- How many cells a direction takes in a pair of columns, by the rows that name targets.
+-- Whether the names stand where minutes or seconds would that have cells of their own.
+abbrev pub are_names_behind : ColumnPair → Bool
+are_names_behind pair =
+    nat_lt pair.directions pair.names
+    && nat_lt (pair.names - pair.directions) (count_of Three)
+
+-- How many cells a direction takes in a pair of columns, by the rows that name targets: one where
+-- the names stand right behind it, so that no name is read as minutes.
 abbrev pub taken_by : AngleUnit → List (List ℕ) → ColumnPair → List (List (List ℕ)) → Taken
 taken_by unit targets pair rows =
-    cells_taken unit pair.directions (rows_naming targets pair.names rows)
+    if are_names_behind pair then One
+    else cells_taken unit pair.directions (rows_naming targets pair.names rows)
 
 -- The rows of a table by a pair of its columns, with the numbers that they have in the table: what
 -- stands before and after the rows that name targets states nothing.

@@ -127,6 +127,13 @@ fn take_picked(
     take_row(unit, directions, targets, row)
 }
 
+/// Whether the names stand where minutes or seconds would that have cells of their own.
+fn are_names_behind(pair: ColumnPair) -> bool
+    ensures { result ≡ spec.are_names_behind pair }
+{
+    pair.directions < pair.names && pair.names - pair.directions < u32::from(Taken::Three.count())
+}
+
 /// How many cells a direction takes in a pair of the columns of rows.
 fn taken_by(
     alloc: Global,
@@ -138,6 +145,9 @@ fn taken_by(
     ensures { IfOk result
         (λ taken. taken ≡ spec.taken_by unit targets.now pair (map fields_of rows.now)) }
 {
+    if are_names_behind(pair) {
+        return Ok(Taken::One);
+    }
     let of = Naming {
         targets,
         rows,
