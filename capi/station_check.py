@@ -528,9 +528,9 @@ def difference_rows(text: str) -> Sequence[Difference]:
 def _verdict(text: str) -> Verdict:
     """The verdict of a row of which the numbers are in units of 0.001 mgon."""
     [row] = csv.DictReader(text.splitlines())
-    numbers = (Decimal(row[title]).scaleb(-3) for title in ("apart", "limit"))
+    apart, limit = (Decimal(row[title]).scaleb(-3) for title in ("apart", "limit"))
     greatest = Decimal(row["greatest"]).scaleb(-3) if row["greatest"] else None
-    return Verdict(row["verdict"] == "agrees", *numbers, greatest)
+    return Verdict(row["verdict"] == "agrees", apart, limit, greatest)
 
 
 def _observations(text: str) -> Iterator[Observation]:

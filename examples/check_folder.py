@@ -358,8 +358,8 @@ class Folder:
             if good and claim.field is not None:
                 self.good[claim.field].add(good[1])
             result = Result.REFUSED if status == REFUSED else Result.NOT_CHECKED
-            said, notes = told_of(printed)
-            self.results[run.name] = Result.GOOD if good else result, first_line(said)
+            answer, notes = told_of(printed)
+            self.results[run.name] = Result.GOOD if good else result, first_line(answer)
             if claim.is_table and notes:
                 self.notes[run.name] = first_line(notes)
 

@@ -18,7 +18,7 @@ from worked import JOB, refused
 
 # The words of each command; without words the field file is standard input. The report has the names
 # of its files in it, which stand in the folder of the run.
-COMMANDS = {
+COMMANDS: dict[str, list[str]] = {
     "": [],
     "words": ["words", "{field}"],
     "list": ["list", "{field}"],

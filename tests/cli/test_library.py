@@ -437,10 +437,11 @@ class LibraryTest(ProgramTest):
     def test_a_table_of_any_form_is_answered_as_by_the_model(self) -> None:
         """With its note, at a refusal too."""
         gsi, answered = EXAMPLE.read_bytes(), set[tuple[int, bool]]()
+        calls: list[tuple[str, Any]] = [("compare", model.compared), ("differences", model.differences)]
         for unit, columns, table in TABLES:
             stated = (b"%d" % columns[0], b"%d" % columns[1]) if columns else None
             form, options = model.TableForm(unit, stated), {"unit": unit, "columns": columns}
-            for command, of_model in [("compare", model.compared), ("differences", model.differences)]:
+            for command, of_model in calls:
                 expected = without_hint(of_model(gsi, b"S1", table, form=form))
                 answered.add((expected[0], expected[2].startswith(b"note: ")))
                 with self.subTest(command, table=table, **options):

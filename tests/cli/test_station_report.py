@@ -156,7 +156,7 @@ class ReportTest(ProgramTest):
 
     def test_what_the_file_recorded_stands_below_its_path(self):
         """As it stands, and nowhere else; with a table too, and above the digests."""
-        field, table = self.folder / "field.gsi", self.folder / "table.csv"
+        table = self.folder / "table.csv"
         table.write_bytes(TABLE_15)
         for options in [], ["--signature"], [f"--table={table}"]:
             plain = self.report_of(STATION, *options).splitlines(keepends=True)

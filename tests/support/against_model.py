@@ -5,7 +5,7 @@ With SWEEP in the environment whole sweeps are run, not samples of them.
 
 from fractions import Fraction
 from pathlib import Path
-from typing import Iterable, NamedTuple
+from typing import Any, Iterable, NamedTuple
 
 import model
 from program import EXAMPLE, EXAMPLE_TABLE, SWEEP, Answer, ProgramTest, answer_of, side_by_side
@@ -55,7 +55,7 @@ class Case(NamedTuple):
             return model.listed_rows(self.gsi, limits, decimal_comma=self.decimal_comma)
         if self.command == "means":
             return model.means(self.gsi, name, limits)
-        formed = {"residual": residual, "decimal_comma": self.decimal_comma}
+        formed: dict[str, Any] = {"residual": residual, "decimal_comma": self.decimal_comma}
         if self.command == "directions":
             return model.directions(self.gsi, name, limits, self.decimals, **formed)
         if self.command == "differences":

@@ -676,7 +676,7 @@ def sets_stated(random: Random, text: bytes, name: str | None) -> model.StatedSe
     again begins nothing, and the code that begins a station too."""
     divisions, others = divisions_in(text, name), random.random() < 0.4
     same, code = random.random() < 0.3, random.choice([None, None, b"7"])
-    begins = {"same_set_up": same, "code": code, "again": random.random() < 0.3}
+    begins: dict[str, Any] = {"same_set_up": same, "code": code, "again": random.random() < 0.3}
     if not divisions:
         return model.StatedSets(*random.choice([(None, None), (2, 3)]), others, **begins)
     division = random.choice(divisions)
