@@ -1,5 +1,6 @@
 -- From an answer, and the bytes that were kept for it, to what is said of their file.
-use Rattle.std.proofs.Common.{◌≡◌, ◌∙◌, ℕ, List, [], Option, Some, None, Bool, Result, Ok, Err, false}
+use Rattle.std.proofs.Common.{◌≡◌, ◌∙◌, ℕ, List, [], Option, Some, None, Bool, Result, Ok, Err}
+use Rattle.std.proofs.Common.{false}
 use Rattle.std.proofs.Common.{ap, refl, reverse, subst, suc, sym}
 use Rattle.std.specs.Prelude.{IfSome, MatchResult}
 use Rattle.std.proofs.lemmas.List.{append-nil}
