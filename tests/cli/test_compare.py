@@ -321,6 +321,8 @@ FAULTS = [
     ("a row before what is missing", b"B,401\n", "table row 1: Range"),
 ]
 
+IN_DEGREES_BY_1_2 = ["--degrees", "--columns=1,2"]
+
 # Each is a table that is read by a pair of its columns, as options say or the one that fits; and what
 # its note says: the two columns, the rows passed over before the targets, among and after them, and
 # the units.
@@ -340,6 +342,10 @@ BY_COLUMNS = [
     ("both of two columns", b"A,0,1\nB,50.00003,2\n", ["--columns=1,2"], (1, 2, 0, 0, 0, 0)),
     ("a first row of numbers", b"S;1;2\nA;0;1\nB;50.00003;2\n", ["--columns=1,2"], (1, 2, 1, 0, 0, 0)),
     ("names after directions", b"Hz,V,To\n0,1,A\n50.00003,2,B\n", ["--columns=3,1"], (3, 1, 1, 0, 0, 0)),
+    ("three columns of numbers", b"A;0;0;0\nB;45;0;0,0972\n", ["--degrees"], (1, 2, 0, 0, 0, 0)),
+    ("the same, stated", b"A;0;0;0\nB;45;0;0,0972\n", IN_DEGREES_BY_1_2, (1, 2, 0, 0, 0, 0)),
+    ("three columns in one row", b"A,0.0\nB,45,0,0.0972\n", IN_DEGREES_BY_1_2, (1, 2, 0, 0, 0, 0)),
+    ("whole degrees beside deviations", b"A,0,0.8\nB,45.000027,0.8\n", IN_DEGREES_BY_1_2, (1, 2, 0, 0, 0, 0)),
 ]
 
 # Each is a table whose columns can't be told or are stated wrongly, and its fault.
@@ -360,6 +366,14 @@ NO_COLUMNS = [
     ("and by stated columns", b"A 0 gon\nB 50.00003 gon\nA 0\n", ["--columns=1,2"], "table row 3: Twice"),
     ("no such column", b"A,0\nB,50.00003\n", ["--columns=1,3"], "table row 1: Fields"),
     ("no names there", b"A,0\nB,50.00003\n", ["--columns=2,1"], "table: Missing 1\nthe table lacks A"),
+    ("60 seconds in three columns", b"A,0,0,0\nB,44,59,60.0972\n", IN_DEGREES_BY_1_2, "table row 2: Number"),
+    ("no seconds", b"A,0\nB,45,0\n", IN_DEGREES_BY_1_2, "table row 2: Number"),
+    ("decimals of minutes", b"A,0,0\nB,45,0.00162\n", IN_DEGREES_BY_1_2, "table row 1: Number"),
+    ("whole degrees with a point", b"A,0.0,0.0,0\nB,45.0,0.0,0.0972\n", IN_DEGREES_BY_1_2, "table row 1: Number"),
+    ("minutes in columns", b"A,0,0,0\nB,45,0,0.0972\n", ["--dmmss", "--columns=1,2"], "table row 1: Number"),
+    ("decimals in a stated column", b"A,0,00000\nB,50,00003\n", ["--columns=1,2"], "table row 1: Number"),
+    ("the same in one row", b"A,0.0\nB,50,00003\n", ["--columns=1,2"], "table row 2: Number"),
+    ("decimals with the unit", b"A,0\nB,50,00003 gon\n", ["--columns=1,2"], "table row 2: Number"),
 ]
 
 # The example's table in UTF-16: its first row is one of titles, and a byte 0 stands before the name

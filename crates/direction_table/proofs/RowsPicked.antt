@@ -15,11 +15,12 @@ use Rattle.direction_table.specs.Directions.{is_direction}
 use Rattle.direction_table.specs.Faults.{column_row_fault, says_nothing, stating_fault}
 use Rattle.direction_table.specs.FieldForms.{has_name, tidy}
 use Rattle.direction_table.specs.FoundColumns.{picked, picked_fields, rows_by_pair}
-use Rattle.direction_table.specs.FoundColumns.{silent_before, up_to_last}
+use Rattle.direction_table.specs.FoundColumns.{silent_before, taken_by, up_to_last}
 use Rattle.direction_table.specs.Rows.{beside_name, direction_in, name_of}
 use Rattle.direction_table.specs.Tables.{stated_by}
 use Rattle.direction_table.specs.UsualLimits.{row_step}
 use Rattle.direction_table.specs.declared.form.ColumnPair.{ColumnPair}
+use Rattle.direction_table.specs.declared.taken.Taken.{Taken}
 use Rattle.direction_table.specs.declared.unit.AngleUnit.{AngleUnit}
 use Rattle.direction_table.proofs.RowsInTurn.{HasReadBy}
 use Rattle.direction_table.proofs.RowsRead.{apart}
@@ -72,9 +73,10 @@ unfolding column_row_fault
 stating unit targets before row e = rw e refl
 
 -- Of a row without fields one without bytes is picked.
-pub none-picked : (unit : AngleUnit) (pair : ColumnPair) → picked_fields unit pair [] ≡ [] ∷ []
+pub none-picked : (taken : Taken) (unit : AngleUnit) (pair : ColumnPair)
+    → picked_fields taken unit pair [] ≡ [] ∷ []
 unfolding field_at
-none-picked unit pair = rw (lt-leb (pair.directions + 1) 0 (omega arith)) refl
+none-picked taken unit pair = rw (lt-leb (pair.directions + 1) 0 (omega arith)) refl
 
 -- The rows that are left, where those of the targets have begun or not.
 abbrev silent_left : (List (List ℕ) → Bool) → Bool → List (List (List ℕ)) → List (List (List ℕ))
@@ -95,7 +97,7 @@ silent-end : (so : List (List ℕ) → Bool) (begun : Bool) → silent_left so b
 silent-end so true = refl
 silent-end so false = refl
 
-module _ (unit : AngleUnit) (targets : List (List ℕ)) (pair : ColumnPair)
+module _ (taken : Taken) (unit : AngleUnit) (targets : List (List ℕ)) (pair : ColumnPair)
     (rows : List ByteRecord) where
   abbrev so : List (List ℕ) → Bool
   so = names_in targets pair.names
@@ -105,12 +107,13 @@ module _ (unit : AngleUnit) (targets : List (List ℕ)) (pair : ColumnPair)
 
   -- The rows that are left from a place on.
   pub picked_left : Bool → ℕ → List (List (List ℕ))
-  picked_left begun at = map (picked unit targets pair) (silent_left so begun (drop at named))
+  picked_left begun at = map (picked taken unit targets pair) (silent_left so begun (drop at named))
 
   -- Before the first row is read all are left.
-  pub picked-all : picked_left false 0 ≡ rows_by_pair unit targets pair (map fields_of rows)
+  pub picked-all : taken ≡ taken_by unit targets pair (map fields_of rows)
+      → picked_left false 0 ≡ rows_by_pair unit targets pair (map fields_of rows)
   unfolding picked_left rows_by_pair
-  picked-all = refl
+  picked-all e = rw e refl
 
   module _ (end : ℕ) (is_end : end + suffix_len (λ row. not (so row)) (map fields_of rows)
       ≡ length rows) where
@@ -136,19 +139,19 @@ module _ (unit : AngleUnit) (targets : List (List ℕ)) (pair : ColumnPair)
     pub picked-more : (begun : Bool) (at : ℕ) (row : ByteRecord) → at < end
         → row ≡ get_or rows at row
         → picked_left begun at
-        ≡ picked unit targets pair (if begun || so (fields_of row) then fields_of row else [])
+        ≡ picked taken unit targets pair (if begun || so (fields_of row) then fields_of row else [])
         ∷ picked_left (begun || so (fields_of row)) (at + 1)
     unfolding picked_left
     picked-more begun at row inside is =
         let more = drop_more named at (fields_of row) (omega (arith, inside, long)) in
         rw (more, at-place at row inside is)
-        (ap (map (picked unit targets pair))
+        (ap (map (picked taken unit targets pair))
         (silent-more so begun (fields_of row) (drop (at + 1) named)))
 
     -- The same, by the fields that were picked of it.
     pub picked-next : (begun next : Bool) (at : ℕ) (row : ByteRecord) (fields : List (List ℕ))
         → at < end → row ≡ get_or rows at row → next ≡ (begun || so (fields_of row))
-        → fields ≡ picked_fields unit pair (if next then fields_of row else [])
+        → fields ≡ picked_fields taken unit pair (if next then fields_of row else [])
         → picked_left begun at ≡ tidy targets fields ∷ picked_left next (at + 1)
     picked-next begun next at row fields inside is e of_row =
         rw (of_row, e) (picked-more begun at row inside is)
@@ -158,7 +161,7 @@ module _ (unit : AngleUnit) (targets : List (List ℕ)) (pair : ColumnPair)
     unfolding picked_left
     picked-end begun at past =
         rw (drop_all at named (omega (arith, past, long)))
-        (ap (map (picked unit targets pair)) (silent-end so begun))
+        (ap (map (picked taken unit targets pair)) (silent-end so begun))
 
 -- What a result says, by what follows from what it said.
 pub on-ok : {T E : Type 0} (r : Result T E) (P Q : Type 0) → OnOk r P → (P → Q) → OnOk r Q
@@ -177,11 +180,11 @@ if-ok (Err e) P Q R h k f = h
 
 -- So many rows were read, none of which has a fault, and these are left; the rows end here.
 pub record IsReadTo (unit : AngleUnit) (targets : List (List ℕ)) (pair : ColumnPair)
-    (rows : List ByteRecord) (stated : List (Option ℤ)) (step number end : ℕ) (begun : Bool)
-    : Type 0 where
+    (rows : List ByteRecord) (taken : Taken) (stated : List (Option ℤ)) (step number end : ℕ)
+    (begun : Bool) : Type 0 where
   pub read : HasReadBy unit targets (column_row_fault unit targets)
       (rows_by_pair unit targets pair (map fields_of rows)) stated step number
-      (picked_left unit targets pair rows begun number)
+      (picked_left taken unit targets pair rows begun number)
   pub ends : end + suffix_len (λ row. not (names_in targets pair.names row)) (map fields_of rows)
       ≡ length rows
   pub long : length stated ≡ length targets

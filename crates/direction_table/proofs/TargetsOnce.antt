@@ -21,7 +21,8 @@ use Rattle.sheet_format.specs.RowFaults.{RowRules, fault_at, fault_between}
 use Rattle.direction_table.specs.Cells.{field_in, names_in}
 use Rattle.direction_table.specs.Faults.{column_row_fault, column_rules, entry_fault, stating_fault}
 use Rattle.direction_table.specs.FieldForms.{has_name, named}
-use Rattle.direction_table.specs.FoundColumns.{picked, rows_by_pair, silent_before, up_to_last}
+use Rattle.direction_table.specs.FoundColumns.{picked, rows_by_pair, silent_before, taken_by}
+use Rattle.direction_table.specs.FoundColumns.{up_to_last}
 use Rattle.direction_table.specs.NumberColumns.{is_naming, times_named}
 use Rattle.direction_table.specs.Rows.{TwoColumns, direction_in, name_of}
 use Rattle.direction_table.specs.Separators.{rows_by}
@@ -32,6 +33,7 @@ use Rattle.direction_table.specs.declared.fault.RowKind.TheVariants.{Twice}
 use Rattle.direction_table.specs.declared.form.ColumnPair.{ColumnPair}
 use Rattle.direction_table.specs.declared.form.TableForm.{TableForm}
 use Rattle.direction_table.specs.declared.separator.Separator.{Separator}
+use Rattle.direction_table.specs.declared.taken.Taken.{Taken}
 use Rattle.direction_table.specs.declared.unit.AngleUnit.{AngleUnit}
 use Rattle.direction_table.specs.declared.way.Way.TheVariants.{ByColumns}
 use Rattle.direction_table.proofs.NamedTargets.{is_named}
@@ -188,21 +190,21 @@ module _ (unit : AngleUnit) (targets : List (List ℕ)) (target : List ℕ)
     ]
 
     -- A picked row has the name that the row has in that column.
-    picked-name : (row : List (List ℕ))
-        → name_of (picked unit targets pair row) ≡ named targets (field_in pair.names row)
-    picked-name row = elim (cases_Bool (nat_le (pair.directions + 1) (length row))) [
+    picked-name : (taken : Taken) (row : List (List ℕ))
+        → name_of (picked taken unit targets pair row) ≡ named targets (field_in pair.names row)
+    picked-name taken row = elim (cases_Bool (nat_le (pair.directions + 1) (length row))) [
       | inl e ↦ rw e refl
       | inr e ↦ rw e refl
     ]
 
     -- So as many picked rows are of the target as rows name it,
-    picked-times : (rows : List (List (List ℕ)))
-        → length (filter is_its (map (picked unit targets pair) rows))
+    picked-times : (taken : Taken) (rows : List (List (List ℕ)))
+        → length (filter is_its (map (picked taken unit targets pair) rows))
         ≡ length (filter names_it rows)
-    picked-times [] = refl
-    picked-times (row ∷ rows) = elim (cases_Bool (names_it row)) [
-      | inl e ↦ rw (picked-name row, e, picked-times rows) refl
-      | inr e ↦ rw (picked-name row, e, picked-times rows) refl
+    picked-times taken [] = refl
+    picked-times taken (row ∷ rows) = elim (cases_Bool (names_it row)) [
+      | inl e ↦ rw (picked-name taken row, e, picked-times taken rows) refl
+      | inr e ↦ rw (picked-name taken row, e, picked-times taken rows) refl
     ]
 
     -- as many where those before the first row of a target are silent,
@@ -237,9 +239,11 @@ module _ (unit : AngleUnit) (targets : List (List ℕ)) (target : List ℕ)
     unfolding rows_by_pair
     named-once rows clean stated =
         let last = up_to_last so rows in
-        sym (last-times rows) ∙ sym (silent-times last) ∙ sym (picked-times (silent_before so last))
-        ∙ one-row (map (picked unit targets pair) (silent_before so last)) clean []
-        (map (picked unit targets pair) (silent_before so last)) refl stated
+        let taken = taken_by unit targets pair rows in
+        sym (last-times rows) ∙ sym (silent-times last)
+        ∙ sym (picked-times taken (silent_before so last))
+        ∙ one-row (map (picked taken unit targets pair) (silent_before so last)) clean []
+        (map (picked taken unit targets pair) (silent_before so last)) refl stated
 
 -- Of a table that is read by a pair of its columns each target stands in one row of the column of
 -- names.

@@ -5,11 +5,14 @@ use Rattle.std.specs.Char.{is_ascii_alphabetic, is_ascii_digit}
 use Rattle.std.specs.List.{list_any}
 use Rattle.std.specs.Str.{bytes_eq}
 use Rattle.csv.specs.Records.{field_at}
-use Rattle.sheet_format.specs.Numbers.{minus}
+use Rattle.sheet_format.specs.Numbers.{minus, zero_digit}
+use Rattle.direction_table.specs.DecimalNumbers.{mark_of}
 use Rattle.direction_table.specs.Degrees.{blank, is_sexagesimal, numbers_of}
 use Rattle.direction_table.specs.Directions.{is_direction, is_on_circle}
 use Rattle.direction_table.specs.FieldForms.{has_name, named, without_blanks, without_blanks_after}
 use Rattle.direction_table.specs.Gons.{plus, unsigned}
+use Rattle.direction_table.specs.declared.taken.Taken.{Taken}
+use Rattle.direction_table.specs.declared.taken.Taken.TheVariants.{One, Three}
 use Rattle.direction_table.specs.declared.unit.AngleUnit.{AngleUnit}
 use Rattle.direction_table.specs.declared.unit.AngleUnit.TheVariants.{Gon, Degrees, PackedDegrees}
 
@@ -44,11 +47,16 @@ without_unit Gon field =
 without_unit Degrees field = field
 without_unit PackedDegrees field = field
 
+-- Minutes or seconds of a cell of their own, with the zero that is left out before one digit.
+abbrev pub two_digits : List ℕ → List ℕ
+two_digits field = if mark_of field == 1 then zero_digit ∷ field else field
+
 -- Three fields as one, with blanks between them.
 abbrev pub three_cells : ℕ → List (List ℕ) → List ℕ
 three_cells column row =
     cell column row
-    ++ (blank ∷ (cell (column + 1) row ++ (blank ∷ cell (column + 2) row)))
+    ++ (blank ∷ (two_digits (cell (column + 1) row)
+    ++ (blank ∷ two_digits (cell (column + 2) row))))
 
 -- Whether three fields of a row are one direction: degrees, minutes and seconds.
 abbrev pub takes_three : AngleUnit → ℕ → List (List ℕ) → Bool
@@ -58,15 +66,15 @@ takes_three PackedDegrees column row = false
 
 -- What a row states in a column: degrees, minutes and seconds of three fields, or one field without
 -- its unit.
-abbrev pub stated_in : AngleUnit → ℕ → List (List ℕ) → List ℕ
-stated_in unit column row =
-    if takes_three unit column row then three_cells column row
-    else without_unit unit (cell column row)
+abbrev pub stated_in : Taken → AngleUnit → ℕ → List (List ℕ) → List ℕ
+stated_in One unit column row = without_unit unit (cell column row)
+stated_in Three unit column row = three_cells column row
 
 -- Whether that is a direction, of a full circle at most.
-abbrev pub is_stated_in : AngleUnit → ℕ → List (List ℕ) → Bool
-is_stated_in unit column row =
-    is_direction unit (stated_in unit column row) && is_on_circle unit (stated_in unit column row)
+abbrev pub is_stated_in : Taken → AngleUnit → ℕ → List (List ℕ) → Bool
+is_stated_in taken unit column row =
+    is_direction unit (stated_in taken unit column row)
+    && is_on_circle unit (stated_in taken unit column row)
 
 -- What may stand between columns, and says nothing.
 abbrev pub is_rule : List ℕ → Bool

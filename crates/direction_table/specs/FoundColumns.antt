@@ -7,18 +7,19 @@ use Rattle.std.specs.Option.{is_some, option_map_or}
 use Rattle.std.specs.Str.{bytes_eq}
 use Rattle.sheet_format.specs.RowFaults.{RowRules}
 use Rattle.direction_table.specs.Cells.{cell, field_in, may_follow, names_any, names_in, stated_in}
-use Rattle.direction_table.specs.Cells.{takes_three}
 use Rattle.direction_table.specs.Faults.{column_rules}
 use Rattle.direction_table.specs.FieldForms.{tidy}
 use Rattle.direction_table.specs.NumberColumns.{fitting_columns, naming_columns, numeric_columns}
 use Rattle.direction_table.specs.NumberColumns.{looked_at, rows_naming}
 use Rattle.direction_table.specs.Rows.{direction_in}
 use Rattle.direction_table.specs.Separators.{rows_by}
+use Rattle.direction_table.specs.TakenCells.{cells_of_each, cells_taken, count_of}
 use Rattle.direction_table.specs.declared.fault.RowKind.{RowKind}
 use Rattle.direction_table.specs.declared.form.ColumnPair.{ColumnPair}
 use Rattle.direction_table.specs.declared.separator.Separator.{Separator}
 use Rattle.direction_table.specs.declared.separator.Separator.TheVariants.{Comma, Semicolon, Tab}
 use Rattle.direction_table.specs.declared.separator.Separator.TheVariants.{Blanks}
+use Rattle.direction_table.specs.declared.taken.Taken.{Taken}
 use Rattle.direction_table.specs.declared.unit.AngleUnit.{AngleUnit}
 use Rattle.direction_table.specs.declared.way.Way.{Way}
 use Rattle.direction_table.specs.declared.way.Way.TheVariants.{TwoColumns, ByColumns, MoreFit}
@@ -39,22 +40,28 @@ up_to_last so rows = take (length rows - suffix_len (λ row. not (so row)) rows)
 
 -- The fields of a row in a pair of columns: its name, and what it states; its name alone, where it
 -- has no field in the column of directions.
-abbrev pub picked_fields : AngleUnit → ColumnPair → List (List ℕ) → List (List ℕ)
-picked_fields unit pair row =
+abbrev pub picked_fields : Taken → AngleUnit → ColumnPair → List (List ℕ) → List (List ℕ)
+picked_fields taken unit pair row =
     if nat_le (pair.directions + 1) (length row)
-    then field_in pair.names row ∷ stated_in unit pair.directions row ∷ []
+    then field_in pair.names row ∷ stated_in taken unit pair.directions row ∷ []
     else field_in pair.names row ∷ []
 
 -- The same as a row of two columns, tidied.
-abbrev pub picked : AngleUnit → List (List ℕ) → ColumnPair → List (List ℕ) → List (List ℕ)
-picked unit targets pair row = tidy targets (picked_fields unit pair row)
+abbrev pub picked : Taken → AngleUnit → List (List ℕ) → ColumnPair → List (List ℕ)
+    → List (List ℕ)
+picked taken unit targets pair row = tidy targets (picked_fields taken unit pair row)
+
+-- How many cells a direction takes in a pair of columns, by the rows that name targets.
+abbrev pub taken_by : AngleUnit → List (List ℕ) → ColumnPair → List (List (List ℕ)) → Taken
+taken_by unit targets pair rows =
+    cells_taken unit pair.directions (rows_naming targets pair.names rows)
 
 -- The rows of a table by a pair of its columns, with the numbers that they have in the table: what
 -- stands before and after the rows that name targets states nothing.
 unfoldable pub rows_by_pair : AngleUnit → List (List ℕ) → ColumnPair → List (List (List ℕ))
     → List (List (List ℕ))
 rows_by_pair unit targets pair rows =
-    map (picked unit targets pair)
+    map (picked (taken_by unit targets pair rows) unit targets pair)
     (silent_before (names_in targets pair.names) (up_to_last (names_in targets pair.names) rows))
 
 -- Whether none of these rows, after those before, has a fault.
@@ -70,10 +77,6 @@ unfoldable pub is_table : AngleUnit → List (List ℕ) → RowRules (List (List
 is_table unit targets rules rows =
     are_faultless rules [] rows
     && list_all (λ target. is_some (direction_in unit rows target)) targets
-
--- How many fields a direction takes in a column: three, where it does so in each row.
-abbrev pub fields_taken : AngleUnit → ℕ → List (List (List ℕ)) → ℕ
-fields_taken unit column rows = if list_all (takes_three unit column) rows then 3 else 1
 
 -- The columns of a direction.
 abbrev pub span : ℕ → ℕ → List ℕ
@@ -118,10 +121,10 @@ abbrev pub way_with_first : AngleUnit → List (List ℕ) → Separator → List
 way_with_first unit targets separator rows of_targets names fitting None = TwoColumns
 way_with_first unit targets separator rows of_targets names fitting (Some first) =
     if is_alone unit targets rows of_targets (record { names = names; directions = first })
-    (fields_taken unit first of_targets)
+    (count_of (cells_of_each unit first of_targets))
     then ByColumns separator (record { names = names; directions = first })
     else second_fit first
-    (find (is_outside first (fields_taken unit first of_targets)) fitting)
+    (find (is_outside first (count_of (cells_of_each unit first of_targets))) fitting)
 
 -- The same, by the first of them that stands after the names.
 abbrev pub way_by : AngleUnit → List (List ℕ) → Separator → List (List (List ℕ))

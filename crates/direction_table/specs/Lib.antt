@@ -11,6 +11,7 @@ pub mod Rows
 pub mod Faults
 pub mod StatedColumns
 pub mod Cells
+pub mod TakenCells
 pub mod NumberColumns
 pub mod FoundColumns
 pub mod TableRows

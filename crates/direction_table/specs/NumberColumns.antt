@@ -7,7 +7,9 @@ use Rattle.std.specs.Str.{bytes_eq}
 use Rattle.direction_table.specs.Cells.{cell, field_in, is_stated_in, may_be_number, names_in}
 use Rattle.direction_table.specs.FieldForms.{named}
 use Rattle.direction_table.specs.Separators.{first_of}
+use Rattle.direction_table.specs.TakenCells.{cells_of_each}
 use Rattle.direction_table.specs.declared.number_columns.TheConstants.{MOST_COLUMNS}
+use Rattle.direction_table.specs.declared.taken.Taken.{Taken}
 use Rattle.direction_table.specs.declared.unit.AngleUnit.{AngleUnit}
 
 -- So many columns, from 0 on.
@@ -74,9 +76,14 @@ is_numeric names rows column =
 abbrev pub numeric_columns : List ℕ → ℕ → List (List (List ℕ)) → List ℕ
 numeric_columns columns names rows = filter (is_numeric names rows) columns
 
+-- A column has a direction in each of these rows, which takes so many cells.
+abbrev pub have_directions : Taken → AngleUnit → List (List (List ℕ)) → ℕ → Bool
+have_directions taken unit rows column = list_all (is_stated_in taken unit column) rows
+
 -- A column has a direction in each of these rows.
 abbrev pub has_directions : AngleUnit → List (List (List ℕ)) → ℕ → Bool
-has_directions unit rows column = list_all (is_stated_in unit column) rows
+has_directions unit rows column =
+    have_directions (cells_of_each unit column rows) unit rows column
 
 -- Those of some columns that do.
 abbrev pub fitting_columns : AngleUnit → List (List (List ℕ)) → List ℕ → List ℕ

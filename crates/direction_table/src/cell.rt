@@ -1,16 +1,20 @@
 //! The fields of a row by the numbers of their columns, and what they say.
 
-ghost use Rattle.std.specs.Prelude.{◌≡◌, ◌&&◌, IfOk, OnOk, true};
+ghost use Rattle.std.specs.Prelude.{◌≡◌, ◌&&◌, ◌++◌, IfOk, OnOk};
 ghost use Rattle.std.specs.Char.{is_ascii_alphabetic};
 ghost use Rattle.std.specs.List.{list_any};
 ghost use Rattle.csv.specs.Records.{fields_of};
 ghost use Rattle.direction_table.specs.Cells as spec;
 ghost use Rattle.direction_table.specs.Directions as directions;
 ghost use Rattle.direction_table.specs.Gons as gons;
+ghost use Rattle.direction_table.specs.TakenCells as cut;
 
+use crate::decimal::mark_of;
 use crate::degrees::is_sexagesimal;
 use crate::direction::Direction;
 use crate::field::{field, has_target, named, without_blanks, without_blanks_after};
+use crate::gon::size_of;
+use crate::taken::Taken;
 use crate::unit::AngleUnit;
 use adjust_kernel::Name;
 use csv::ByteRecord;
@@ -58,6 +62,17 @@ pub(crate) fn without_unit(unit: AngleUnit, field: &[u8]) -> &[u8]
     }
 }
 
+/// Adds minutes or seconds of a cell of their own, with the zero that programs leave out before one
+/// digit.
+fn push_two_digits(text: &mut Vec<u8>, field: &[u8]) -> Result<(), AllocError>
+    ensures { OnOk result (text.new.items ≡ text.old.items ++ spec.two_digits field.now) }
+{
+    if mark_of(field) == 1 {
+        text.push(b'0')?;
+    }
+    text.extend_from_slice(field)
+}
+
 /// Writes three fields of a row as one in place of another text, with blanks between them.
 fn join_three(text: &mut Vec<u8>, row: &ByteRecord, column: u32) -> Result<(), AllocError>
     ensures { OnOk result (text.new.items ≡ spec.three_cells column (fields_of row.now)) }
@@ -65,10 +80,9 @@ fn join_three(text: &mut Vec<u8>, row: &ByteRecord, column: u32) -> Result<(), A
     text.clear();
     text.extend_from_slice(cell(row, column as usize))?;
     text.push(b' ')?;
-    text.extend_from_slice(cell(row, column as usize + 1))?;
+    push_two_digits(text, cell(row, column as usize + 1))?;
     text.push(b' ')?;
-    text.extend_from_slice(cell(row, column as usize + 2))?;
-    Ok(())
+    push_two_digits(text, cell(row, column as usize + 2))
 }
 
 /// A number without its sign.
@@ -89,10 +103,7 @@ pub(crate) fn takes_three(
     row: &ByteRecord,
     column: u32,
 ) -> Result<bool, AllocError>
-    ensures three { IfOk result
-        (λ three. three ≡ spec.takes_three unit column (fields_of row.now)) }
-    ensures joined { IfOk result (λ three. three ≡ true
-        → text.new.items ≡ spec.three_cells column (fields_of row.now)) }
+    ensures { IfOk result (λ three. three ≡ spec.takes_three unit column (fields_of row.now)) }
 {
     match unit {
         AngleUnit::Degrees => {
@@ -106,29 +117,34 @@ pub(crate) fn takes_three(
 /// What a row states in a column, as a field: three fields are joined in `text`.
 pub(crate) fn stated_in<'a>(
     text: &'a mut Vec<u8>,
+    taken: Taken,
     unit: AngleUnit,
     row: &'a ByteRecord,
     column: u32,
 ) -> Result<&'a [u8], AllocError>
     ensures { IfOk result
-        (λ stated. stated.now ≡ spec.stated_in unit column (fields_of row.now)) }
+        (λ stated. stated.now ≡ spec.stated_in taken unit column (fields_of row.now)) }
 {
-    if takes_three(text, unit, row, column)? {
-        return Ok(text.as_slice());
+    match taken {
+        Taken::One => Ok(without_unit(unit, cell(row, column as usize))),
+        Taken::Three => {
+            join_three(text, row, column)?;
+            Ok(text.as_slice())
+        }
     }
-    Ok(without_unit(unit, cell(row, column as usize)))
 }
 
 /// Whether that is a direction, of a full circle at most.
 pub(crate) fn is_stated_in(
     text: &mut Vec<u8>,
+    taken: Taken,
     unit: AngleUnit,
     row: &ByteRecord,
     column: u32,
 ) -> Result<bool, AllocError>
-    ensures { IfOk result (λ is. is ≡ spec.is_stated_in unit column (fields_of row.now)) }
+    ensures { IfOk result (λ is. is ≡ spec.is_stated_in taken unit column (fields_of row.now)) }
 {
-    let stated = stated_in(text, unit, row, column)?;
+    let stated = stated_in(text, taken, unit, row, column)?;
     Ok(is_on_circle(unit, stated))
 }
 
@@ -190,4 +206,62 @@ pub(crate) fn may_follow(unit: AngleUnit, field: &[u8]) -> bool
         AngleUnit::Gon => is_rule(field) || field == GON_WORD,
         AngleUnit::Degrees | AngleUnit::PackedDegrees => is_rule(field),
     }
+}
+
+/// Units of the ninth decimal in a whole number.
+const WHOLE: u128 = 1_000_000_000;
+
+/// Whether a number is a whole one, as 59 and 59.0 are.
+fn is_whole_number(bytes: &[u8]) -> bool
+    ensures { result ≡ cut.is_whole_number bytes.now }
+{
+    match size_of(bytes) {
+        Some(size) => size.value % WHOLE == 0,
+        None => false,
+    }
+}
+
+/// Whether a number has a decimal point or comma.
+fn has_point(field: &[u8]) -> bool
+    ensures { result ≡ cut.has_point field.now }
+{
+    field.iter().any(|byte| *byte == b'.' || *byte == b',')
+}
+
+/// Whether a field may be no more than the beginning of a direction.
+fn may_begin(unit: AngleUnit, field: &[u8]) -> bool
+    ensures { result ≡ cut.may_begin unit field.now }
+{
+    match unit {
+        AngleUnit::Gon => is_whole_number(unsigned(field)) && !has_point(field),
+        AngleUnit::Degrees | AngleUnit::PackedDegrees => is_whole_number(unsigned(field)),
+    }
+}
+
+/// Whether a field may be the decimals of a number.
+fn may_be_decimals(field: &[u8]) -> bool
+    ensures { result ≡ cut.may_be_decimals field.now }
+{
+    match field {
+        [] => false,
+        [first, ..] => first.is_ascii_digit() && !has_point(field),
+    }
+}
+
+/// Whether the cell after a column may be the rest of what stands in the column.
+pub(crate) fn goes_on(unit: AngleUnit, row: &ByteRecord, column: u32) -> bool
+    ensures { result ≡ cut.goes_on unit column (fields_of row.now) }
+{
+    let next = cell(row, column as usize + 1);
+    match unit {
+        AngleUnit::Gon => may_be_decimals(next),
+        AngleUnit::Degrees | AngleUnit::PackedDegrees => may_be_number(next),
+    }
+}
+
+/// Whether the cell of a column may begin a direction, where the next may go on with it.
+pub(crate) fn begins_what_goes_on(unit: AngleUnit, row: &ByteRecord, column: u32) -> bool
+    ensures { result ≡ cut.begins_what_goes_on unit column (fields_of row.now) }
+{
+    !goes_on(unit, row, column) || may_begin(unit, cell(row, column as usize))
 }

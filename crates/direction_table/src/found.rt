@@ -2,7 +2,7 @@
 //!
 //! All rows are held at once: each column is looked at in all of them.
 
-ghost use Rattle.std.specs.Prelude.{◌≡◌, ◌==◌, ◌+◌, ◌&&◌, ◌⊎◌, ◌≤◌, IfOk, IfSome, find, length, map};
+ghost use Rattle.std.specs.Prelude.{◌≡◌, ◌==◌, ◌+◌, ◌&&◌, ◌≤◌, IfOk, IfSome, find, length, map};
 ghost use Rattle.std.specs.Prelude.{nat_lt};
 ghost use Rattle.std.specs.List.{list_any};
 ghost use Rattle.std.specs.Option.{is_some};
@@ -14,6 +14,7 @@ ghost use Rattle.direction_table.specs.FoundColumns as spec;
 ghost use Rattle.direction_table.specs.NamingRows.{all_rows, naming_rows, numeric_of};
 ghost use Rattle.direction_table.specs.NumberColumns.{fitting_columns};
 ghost use Rattle.direction_table.specs.Separators.{rows_by};
+ghost use Rattle.direction_table.specs.TakenCells as cut;
 
 use crate::cell::names_in;
 use crate::form::ColumnPair;
@@ -22,6 +23,7 @@ use crate::picked::are_table;
 use crate::reading::LONGEST_TABLE;
 use crate::records::Records;
 use crate::separator::{Separator, kept_record};
+use crate::taken::Taken;
 use crate::unit::AngleUnit;
 use crate::way::Way;
 use adjust_kernel::Name;
@@ -48,14 +50,13 @@ pub(crate) fn rows_with(
     }
 }
 
-/// Whether columns are these, so many from the first on.
-fn are_span(columns: &[u16], first: u16, count: u16) -> bool
-    requires { (count ≡ 1) ⊎ (count ≡ 3) }
-    ensures { result ≡ bytes_eq columns.now (spec.span first count) }
+/// Whether columns are those of a direction, from the first on.
+fn are_span(columns: &[u16], first: u16, taken: Taken) -> bool
+    ensures { result ≡ bytes_eq columns.now (spec.span first (cut.count_of taken)) }
 {
-    match columns {
-        [one] => count == 1 && *one == first,
-        [one, two, three] => count == 3 && *one == first && follow(first, *two, *three),
+    match (taken, columns) {
+        (Taken::One, [one]) => *one == first,
+        (Taken::Three, [one, two, three]) => *one == first && follow(first, *two, *three),
         _ => false,
     }
 }
@@ -75,20 +76,21 @@ fn is_alone(
     of: &Naming<'_>,
     numeric: &[u16],
     directions: u16,
-    taken: u16,
+    taken: Taken,
 ) -> Result<bool, AllocError>
     requires targets { AreTargets of.now.targets.now }
     requires short { length of.now.rows.now ≤ LONGEST_TABLE }
     requires numeric { numeric.now ≡ numeric_of of.now }
-    requires few { (taken ≡ 1) ⊎ (taken ≡ 3) }
     ensures { IfOk result (λ alone. alone ≡ spec.is_alone unit of.now.targets.now
         (all_rows of.now) (naming_rows of.now)
-        (record { names = of.now.names; directions = directions }) taken) }
+        (record { names = of.now.names; directions = directions }) (cut.count_of taken)) }
 {
     if !are_span(numeric, directions, taken) {
         return Ok(false);
     }
-    if !of.are_followed(unit, directions as usize + taken as usize) || !of.names_no_other() {
+    if !of.are_followed(unit, directions as usize + taken.count() as usize)
+        || !of.names_no_other()
+    {
         return Ok(false);
     }
     are_table(
@@ -101,12 +103,12 @@ fn is_alone(
 }
 
 /// Two columns as a pair.
-fn pair_of(names: u16, directions: u16) -> ColumnPair
+fn pair_of(names: u32, directions: u16) -> ColumnPair
     ensures { result ≡ record { names = names; directions = directions } }
 {
     ColumnPair {
-        names: names as u32,
-        directions: directions as u32,
+        names,
+        directions: u32::from(directions),
     }
 }
 
@@ -130,11 +132,11 @@ fn way_by_names(
 }
 
 /// The first of some columns after that of names.
-fn first_after(names: u16, fitting: &[u16]) -> Option<u16>
+fn first_after(names: u32, fitting: &[u16]) -> Option<u16>
     ensures { result ≡ find (nat_lt names) fitting.now }
 {
     for column in fitting {
-        if *column > names {
+        if *column as u32 > names {
             return Some(*column);
         }
     }
@@ -160,11 +162,11 @@ fn way_with_first(
     let Some(first) = first else {
         return Ok(Way::TwoColumns);
     };
-    let taken = of.fields_taken(alloc, unit, first)?;
+    let taken = of.cells_of_each(alloc, unit, first as u32)?;
     if is_alone(alloc, unit, of, numeric, first, taken)? {
         return Ok(Way::ByColumns(separator, pair_of(of.names, first)));
     }
-    Ok(second_fit(first, other_fit(first, taken, fitting)))
+    Ok(second_fit(first, other_fit(first, taken.count(), fitting)))
 }
 
 /// The first of some columns that is none of a direction's, which takes so many.
@@ -221,7 +223,7 @@ fn way_with(
             let of = Naming {
                 targets,
                 rows: &rows,
-                names: *names,
+                names: *names as u32,
             };
             Ok(Some(way_by_names(alloc, unit, separator, &of)?))
         }

@@ -29,6 +29,7 @@ mod reading;
 mod records;
 mod separator;
 mod table;
+mod taken;
 mod text;
 mod unit;
 mod way;

@@ -1,18 +1,21 @@
 //! The columns of a table, by what its rows have in them.
 
-ghost use Rattle.std.specs.Prelude.{◌≡◌, ◌≤◌, ◌⊎◌, IfOk, length, map};
-ghost use Rattle.std.specs.List.{list_any};
+ghost use Rattle.std.specs.Prelude.{◌≡◌, ◌≤◌, IfOk, length, map};
+ghost use Rattle.std.specs.List.{list_all, list_any};
 ghost use Rattle.csv.specs.Records.{fields_of};
 ghost use Rattle.direction_table.specs.NumberColumns as spec;
 ghost use Rattle.direction_table.specs.Cells as cells;
 ghost use Rattle.direction_table.specs.FoundColumns as found;
 ghost use Rattle.direction_table.specs.NamingRows.{all_rows, naming_rows, numeric_of};
 ghost use Rattle.direction_table.specs.Separators.{first_of};
+ghost use Rattle.direction_table.specs.TakenCells as cut;
 
 use crate::cell::{
-    cell, is_stated_in, may_be_number, may_follow, names_any, names_in, takes_three,
+    begins_what_goes_on, cell, goes_on, is_stated_in, may_be_number, may_follow, names_any,
+    names_in, takes_three,
 };
 use crate::field::{field, named};
+use crate::taken::Taken;
 use crate::unit::AngleUnit;
 use adjust_kernel::Name;
 use csv::ByteRecord;
@@ -93,7 +96,7 @@ pub(crate) struct Naming<'a> {
     pub(crate) targets: &'a [Name],
     pub(crate) rows: &'a [ByteRecord],
     /// The column of names.
-    pub(crate) names: u16,
+    pub(crate) names: u32,
 }
 
 impl<'a> Naming<'a> {
@@ -158,7 +161,7 @@ impl<'a> Naming<'a> {
     fn is_beside(&self, column: u16) -> bool
         ensures { result ≡ spec.is_beside self.now.names (naming_rows self.now) column }
     {
-        column < self.names
+        (column as u32) < self.names
             && (self.counts_from(0, column)
                 || self.counts_from(1, column)
                 || self.is_constant(column))
@@ -181,7 +184,7 @@ impl<'a> Naming<'a> {
     fn is_numeric(&self, column: u16) -> bool
         ensures { result ≡ spec.is_numeric self.now.names (naming_rows self.now) column }
     {
-        column != self.names && !self.is_beside(column) && self.has_number(column)
+        column as u32 != self.names && !self.is_beside(column) && self.has_number(column)
     }
 
     /// The columns that may hold numbers.
@@ -222,22 +225,38 @@ impl<'a> Naming<'a> {
         true
     }
 
-    /// Whether a column has a direction in each of them.
-    fn has_directions(
+    /// Whether a column has a direction, which takes so many cells, in each of them.
+    fn have_directions(
         &self,
-        text: &mut Vec<u8>,
+        alloc: Global,
+        taken: Taken,
         unit: AngleUnit,
-        column: u16,
+        column: u32,
     ) -> Result<bool, AllocError>
         ensures { IfOk result
-            (λ has. has ≡ spec.has_directions unit (naming_rows self.now) column) }
+            (λ have. have ≡ spec.have_directions taken unit (naming_rows self.now) column) }
     {
+        let mut text = Vec::new(alloc);
         for row in self.rows {
-            if self.has(row) && !is_stated_in(text, unit, row, column as u32)? {
+            if self.has(row) && !is_stated_in(&mut text, taken, unit, row, column)? {
                 return Ok(false);
             }
         }
         Ok(true)
+    }
+
+    /// Whether a column has a direction in each of them.
+    fn has_directions(
+        &self,
+        alloc: Global,
+        unit: AngleUnit,
+        column: u32,
+    ) -> Result<bool, AllocError>
+        ensures { IfOk result
+            (λ has. has ≡ spec.has_directions unit (naming_rows self.now) column) }
+    {
+        let taken = self.cells_of_each(alloc, unit, column)?;
+        self.have_directions(alloc, taken, unit, column)
     }
 
     /// Those of some columns that have a direction in each of them.
@@ -250,33 +269,72 @@ impl<'a> Naming<'a> {
         ensures { IfOk result (λ columns. columns.items
             ≡ spec.fitting_columns unit (naming_rows self.now) numeric.now) }
     {
-        let mut text = Vec::new(alloc);
         let mut columns = Vec::new(alloc);
         for column in numeric {
-            if self.has_directions(&mut text, unit, *column)? {
+            if self.has_directions(alloc, unit, *column as u32)? {
                 columns.push(*column)?;
             }
         }
         Ok(columns)
     }
 
-    /// How many fields a direction takes in a column: three, where it does so in each of them.
-    pub(crate) fn fields_taken(
+    /// How many cells a direction takes in a column: three, where it has degrees, minutes and
+    /// seconds in each of them.
+    pub(crate) fn cells_of_each(
         &self,
         alloc: Global,
         unit: AngleUnit,
-        column: u16,
-    ) -> Result<u16, AllocError>
-        ensures taken { IfOk result
-            (λ taken. taken ≡ found.fields_taken unit column (naming_rows self.now)) }
-        ensures few { IfOk result (λ taken. (taken ≡ 1) ⊎ (taken ≡ 3)) }
+        column: u32,
+    ) -> Result<Taken, AllocError>
+        ensures { IfOk result
+            (λ taken. taken ≡ cut.cells_of_each unit column (naming_rows self.now)) }
     {
         let mut text = Vec::new(alloc);
         for row in self.rows {
-            if self.has(row) && !takes_three(&mut text, unit, row, column as u32)? {
-                return Ok(1);
+            if self.has(row) && !takes_three(&mut text, unit, row, column)? {
+                return Ok(Taken::One);
             }
         }
-        Ok(3)
+        Ok(Taken::Three)
+    }
+
+    /// Whether a cell after a column may go on with a direction of the column.
+    fn any_goes_on(&self, unit: AngleUnit, column: u32) -> bool
+        ensures { result ≡ list_any (cut.goes_on unit column) (naming_rows self.now) }
+    {
+        for row in self.rows {
+            if self.has(row) && goes_on(unit, row, column) {
+                return true;
+            }
+        }
+        false
+    }
+
+    /// Whether only beginnings of directions have a number after them.
+    fn only_beginnings_go_on(&self, unit: AngleUnit, column: u32) -> bool
+        ensures { result ≡ list_all (cut.begins_what_goes_on unit column) (naming_rows self.now) }
+    {
+        for row in self.rows {
+            if self.has(row) && !begins_what_goes_on(unit, row, column) {
+                return false;
+            }
+        }
+        true
+    }
+
+    /// How many cells the directions of a column take: three also where they are cut.
+    pub(crate) fn cells_taken(
+        &self,
+        alloc: Global,
+        unit: AngleUnit,
+        column: u32,
+    ) -> Result<Taken, AllocError>
+        ensures { IfOk result
+            (λ taken. taken ≡ cut.cells_taken unit column (naming_rows self.now)) }
+    {
+        if self.any_goes_on(unit, column) && self.only_beginnings_go_on(unit, column) {
+            return Ok(Taken::Three);
+        }
+        self.cells_of_each(alloc, unit, column)
     }
 }

@@ -24,7 +24,9 @@ use crate::fault::{RowKind, TableFault};
 use crate::field::field;
 use crate::form::ColumnPair;
 use crate::limit::finer;
+use crate::number_columns::Naming;
 use crate::reading::{LONGEST_TABLE, StatedRows, are_all_stated};
+use crate::taken::Taken;
 use crate::unit::AngleUnit;
 use adjust_kernel::Name;
 use csv::ByteRecord;
@@ -46,22 +48,23 @@ pub(crate) fn end_of_named(targets: &[Name], names: usize, rows: &[ByteRecord]) 
     0
 }
 
-/// Puts the fields of a row in a pair of columns into another record. `text` is for a direction of
-/// three fields.
+/// Puts the fields of a row in a pair of columns, of which the direction takes so many cells, into
+/// another record. `text` is for one of three.
 fn pick(
     picked: &mut ByteRecord,
     text: &mut Vec<u8>,
+    taken: Taken,
     unit: AngleUnit,
     pair: ColumnPair,
     row: &ByteRecord,
 ) -> Result<(), AllocError>
     ensures { OnOk result
-        (fields_of picked.new ≡ spec.picked_fields unit pair (fields_of row.now)) }
+        (fields_of picked.new ≡ spec.picked_fields taken unit pair (fields_of row.now)) }
 {
     picked.clear();
     picked.push_field(field(row, pair.names as usize))?;
     if (pair.directions as usize) < row.len() {
-        picked.push_field(stated_in(text, unit, row, pair.directions)?)?;
+        picked.push_field(stated_in(text, taken, unit, row, pair.directions)?)?;
     }
     Ok(())
 }
@@ -71,16 +74,17 @@ fn pick(
 fn pick_begun(
     picked: &mut ByteRecord,
     text: &mut Vec<u8>,
+    taken: Taken,
     unit: AngleUnit,
     pair: ColumnPair,
     row: &ByteRecord,
     has_begun: bool,
 ) -> Result<(), AllocError>
     ensures { OnOk result (fields_of picked.new
-        ≡ spec.picked_fields unit pair (if has_begun then fields_of row.now else [])) }
+        ≡ spec.picked_fields taken unit pair (if has_begun then fields_of row.now else [])) }
 {
     if has_begun {
-        return pick(picked, text, unit, pair, row);
+        return pick(picked, text, taken, unit, pair, row);
     }
     picked.clear();
     picked.push_field(&[])?;
@@ -123,6 +127,25 @@ fn take_picked(
     take_row(unit, directions, targets, row)
 }
 
+/// How many cells a direction takes in a pair of the columns of rows.
+fn taken_by(
+    alloc: Global,
+    unit: AngleUnit,
+    targets: &[Name],
+    pair: ColumnPair,
+    rows: &[ByteRecord],
+) -> Result<Taken, AllocError>
+    ensures { IfOk result
+        (λ taken. taken ≡ spec.taken_by unit targets.now pair (map fields_of rows.now)) }
+{
+    let of = Naming {
+        targets,
+        rows,
+        names: pair.names,
+    };
+    of.cells_taken(alloc, unit, pair.directions)
+}
+
 /// What rows state of each target in a pair of their columns, or their first fault. Those before
 /// the first that names a target, and those after the last, are passed over.
 pub(crate) fn read_by_pair(
@@ -146,6 +169,7 @@ pub(crate) fn read_by_pair(
         (spec.rows_by_pair unit targets.now pair (map fields_of rows.now))) }
 {
     let names = pair.names as usize;
+    let taken = taken_by(alloc, unit, targets, pair, rows)?;
     let mut directions = vec![in alloc; None; targets.len()]?;
     let mut finest_step = 0;
     let mut picked = ByteRecord::new(alloc);
@@ -154,7 +178,7 @@ pub(crate) fn read_by_pair(
     for place in 0..end_of_named(targets, names, rows) {
         let row = &rows[place];
         has_begun = begins(has_begun, targets, names, row);
-        pick_begun(&mut picked, &mut text, unit, pair, row, has_begun)?;
+        pick_begun(&mut picked, &mut text, taken, unit, pair, row, has_begun)?;
         match take_picked(unit, &mut directions, targets, &picked) {
             Ok(step) => finest_step = finer(finest_step, step),
             Err(kind) => return Err(TableFault::Row(place as u32 + 1, kind)),

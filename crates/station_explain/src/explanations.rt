@@ -948,7 +948,8 @@ if it is negative: with no point, blank, plus or zero before it. A direction of 
 3 digits before its decimal point or comma, a '+' or '-' before them if need be, any number of
 decimals, and no unit but 'gon'. An exponent has its sign, as 1.5e-05 or 1.39e+02. With --degrees
 there may be minutes and seconds, as 59-04-09.18: of two digits each, below 60, and with any
-decimals of the seconds; with --dmmss they stand after the point, as 59.040918.",
+decimals of the seconds; with --dmmss they stand after the point, as 59.040918. A whole number is no
+direction where its decimals, or wrong minutes, stand in the next column.",
         example: "refused: sheet row 3: Number",
         remedy: "\
 Write the number so. Directions and orientations of a sheet are whole numbers too: they

@@ -2,6 +2,7 @@
 -- needs them.
 pub mod Saying
 pub mod Refusing
+pub mod OtherUnits
 pub mod Noting
 pub mod Answers
 pub mod Printing

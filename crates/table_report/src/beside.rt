@@ -130,7 +130,7 @@ pub fn beside_by(
 }
 
 /// How far directions are apart, where that is beyond the limit.
-fn beyond(how_far: HowFar) -> Option<HowFar>
+pub fn beyond(how_far: HowFar) -> Option<HowFar>
     ensures { result ≡ beyond_of how_far }
 {
     if how_far.apart <= how_far.limit {

@@ -13,4 +13,4 @@ pub mod laws;
 mod section;
 
 pub use asked::Asked;
-pub use beside::{Beside, StatedDirections, TableReport, beside_by, report_beside};
+pub use beside::{Beside, StatedDirections, TableReport, beside_by, beyond, report_beside};

@@ -5,4 +5,4 @@ use Rattle.direction_table.proofs.picked.pick_begun.Goals as goal
 
 pub returns : goal.returns
 returns c =
-    rw (c.if-has_begun.false, none-picked c.args.unit c.args.pair) (grind (arith, common_steps))
+    rw (c.if-has_begun.false, none-picked c.args.taken c.args.unit c.args.pair) (grind (arith, common_steps))

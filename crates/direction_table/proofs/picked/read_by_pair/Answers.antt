@@ -25,7 +25,7 @@ loop-place-init c =
     record {
       read = subst (HasReadBy unit targets (column_row_fault unit targets)
           (rows_by_pair unit targets pair (map fields_of rows)) directions 0 0)
-          (sym (picked-all unit targets pair rows))
+          (sym (picked-all c.in_ok-taken.taken unit targets pair rows c.in_ok-taken.ensures))
           (begin unit targets (column_row_fault unit targets)
           (rows_by_pair unit targets pair (map fields_of rows)) directions
           (items ∙ none-stated unit targets));
@@ -35,12 +35,12 @@ loop-place-init c =
     }
 
 -- The row that was picked is the next of those that are left.
-next : (c : In_ok-pick_begun) → picked_left c.args.unit c.args.targets.now c.args.pair
+next : (c : In_ok-pick_begun) → picked_left c.in_ok-taken.taken c.args.unit c.args.targets.now c.args.pair
     c.args.rows.now c.loop-place.has_begun c.loop-place.place
     ≡ tidy c.args.targets.now (fields_of c.pick_begun.new.picked)
-    ∷ picked_left c.args.unit c.args.targets.now c.args.pair c.args.rows.now
+    ∷ picked_left c.in_ok-taken.taken c.args.unit c.args.targets.now c.args.pair c.args.rows.now
     c.begins-has_begun.result (c.loop-place.place + 1)
-next c = picked-next c.args.unit c.args.targets.now c.args.pair c.args.rows.now
+next c = picked-next c.in_ok-taken.taken c.args.unit c.args.targets.now c.args.pair c.args.rows.now
     c.end_of_named-place-end.result c.end_of_named-place-end.ensures c.loop-place.has_begun
     c.begins-has_begun.result c.loop-place.place c.index-rows-place.result
     (fields_of c.pick_begun.new.picked) c.loop-place-test.true c.index-rows-place.is
@@ -88,7 +88,7 @@ all-read : (c : After-loop-place) → HasReadBy c.args.unit c.args.targets.now
     (column_row_fault c.args.unit c.args.targets.now)
     (rows_by_pair c.args.unit c.args.targets.now c.args.pair (map fields_of c.args.rows.now))
     c.loop-place.directions.items c.loop-place.finest_step c.loop-place.place []
-all-read c = rw (picked-end c.args.unit c.args.targets.now c.args.pair c.args.rows.now
+all-read c = rw (picked-end c.in_ok-taken.taken c.args.unit c.args.targets.now c.args.pair c.args.rows.now
     c.end_of_named-place-end.result c.end_of_named-place-end.ensures c.loop-place.has_begun
     c.loop-place.place c.loop-place-test.false) at c.loop-place.invariant.read
 

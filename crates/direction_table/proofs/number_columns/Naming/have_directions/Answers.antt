@@ -1,7 +1,7 @@
 use Rattle.std.proofs.Common.{arith, refl}
 use Rattle.std.proofs.lemmas.Grind.{common_steps}
 use Rattle.direction_table.proofs.RowsLeft.{naming-all, naming-end, naming-more}
-use Rattle.direction_table.proofs.number_columns.Naming.has_directions.Goals as goal
+use Rattle.direction_table.proofs.number_columns.Naming.have_directions.Goals as goal
 
 pub loop-row-init : goal.loop-row-init
 loop-row-init c = rw (naming-all c.args.self.now) refl

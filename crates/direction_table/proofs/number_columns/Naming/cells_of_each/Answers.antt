@@ -1,13 +1,13 @@
 use Rattle.std.proofs.Common.{arith, refl}
 use Rattle.std.proofs.lemmas.Grind.{common_steps}
 use Rattle.direction_table.proofs.RowsLeft.{naming-all, naming-end, naming-more}
-use Rattle.direction_table.proofs.number_columns.Naming.fields_taken.Goals as goal
+use Rattle.direction_table.proofs.number_columns.Naming.cells_of_each.Goals as goal
 
 pub loop-row-init : goal.loop-row-init
 loop-row-init c = rw (naming-all c.args.self.now) refl
 
-pub returns-then-not-branch-clause-taken : goal.returns-then-not-branch-clause-taken
-returns-then-not-branch-clause-taken c =
+pub returns-then-not-branch : goal.returns-then-not-branch
+returns-then-not-branch c =
     let more = naming-more c.args.self.now c.loop-row.row-index c.row-item.result
     (omega arith) c.row-item.is in
     grind (arith, common_steps)
@@ -18,7 +18,7 @@ loop-row-preserved c =
     (omega arith) c.row-item.is in
     grind (arith, common_steps)
 
-pub returns-clause-taken : goal.returns-clause-taken
-returns-clause-taken c =
+pub returns : goal.returns
+returns c =
     let end = naming-end c.args.self.now c.loop-row.row-index (omega arith) in
     grind (arith, common_steps)

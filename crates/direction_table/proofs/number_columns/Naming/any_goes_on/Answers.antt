@@ -1,0 +1,24 @@
+use Rattle.std.proofs.Common.{arith, refl}
+use Rattle.std.proofs.lemmas.Grind.{common_steps}
+use Rattle.direction_table.proofs.RowsLeft.{naming-all, naming-end, naming-more}
+use Rattle.direction_table.proofs.number_columns.Naming.any_goes_on.Goals as goal
+
+pub loop-row-init : goal.loop-row-init
+loop-row-init c = rw (naming-all c.args.self.now) refl
+
+pub returns-then-goes_on : goal.returns-then-goes_on
+returns-then-goes_on c =
+    let more = naming-more c.args.self.now c.loop-row.row-index c.row-item.result
+    (omega arith) c.row-item.is in
+    grind (arith, common_steps)
+
+pub loop-row-preserved : goal.loop-row-preserved
+loop-row-preserved c =
+    let more = naming-more c.args.self.now c.loop-row.row-index c.row-item.result
+    (omega arith) c.row-item.is in
+    grind (arith, common_steps)
+
+pub returns : goal.returns
+returns c =
+    let end = naming-end c.args.self.now c.loop-row.row-index (omega arith) in
+    grind (arith, common_steps)
