@@ -291,7 +291,7 @@ impl Marking {
             (judged_called (said_in self.old.stated) (before_in self.old.names)
             (record { name = line.now; sights = sights.now })) self.old self.new) }
     {
-        let name = self.names.called(self.stated.again, line, sights);
+        let name = self.names.called(self.stated.again, line, sights)?;
         self.take_called(alloc, line, &name, sights, written_again)
     }
 
