@@ -23,6 +23,9 @@ COMMANDS = [
 ALONE = "'--all' is of all stations: not with a STATION, '--table', how it is read, '--within' or '--sha256'"
 NEITHER = "no station is named: name a STATION, or ask for all of them with '--all'"
 
+ONE_TABLE = "'--all' takes one table of all stations in the place of STATION: not with another TABLE, "
+NO_TABLE = "the following required arguments were not provided:\n  <TABLE>\n"
+
 # Words that are a mistake beside a field file, and what is said of them.
 MISTAKES = [
     (["directions", "--all", "{gsi}", "S1"], ALONE),
@@ -32,7 +35,24 @@ MISTAKES = [
     (["directions", "{gsi}"], NEITHER),
     (["report", "{gsi}"], NEITHER),
     (["report", "--all", "--csv", "--sha256", "{gsi}"], "'--csv' prints rows alone: "),
-    (["compare", "--all", "{gsi}", "{gsi}"], "unexpected argument '--all' found"),
+    (["means", "--all", "{gsi}", "S1"], "unexpected argument '--all' found"),
+    (["compare", "--all", "{gsi}", "S1", "{gsi}"], ONE_TABLE),
+    (["differences", "--all", "{gsi}", "S1", "{gsi}"], ONE_TABLE),
+    (["differences", "--all", "--json", "{gsi}", "{gsi}"], ONE_TABLE),
+    (["compare", "--all", "--sha256", "--within=30", "{gsi}", "{gsi}"], ONE_TABLE),
+    (["compare", "{gsi}", "S1"], NO_TABLE),
+    (["compare", "--degrees", "--within=30", "{gsi}", "S1"], NO_TABLE),
+    (["differences", "{gsi}", "S1"], NO_TABLE),
+    (["compare", "--columns=1", "{gsi}", "S1"], "invalid value '1' for '--columns <TARGET,DIRECTION>': "),
+    (["compare", "--all", "{gsi}"], "the following required arguments were not provided:\n  <STATION>"),
+]
+
+# Each command that reads one table of all stations, and how its texts make one.
+OF_TABLES = [
+    (["compare"], model.line_by_line),
+    (["compare", "--within=0.002mgon"], model.line_by_line),
+    (["differences"], model.named_differences),
+    (["differences", "--residual=0.02mgon"], model.named_differences),
 ]
 
 
@@ -66,6 +86,30 @@ class AllStationsTest(ProgramTest):
                     refused += expected[0]
         self.assertGreater(FILES * len(COMMANDS), refused)
         self.assertGreater(refused, 0)
+
+    def test_each_station_is_compared_with_its_part_of_one_table(self):
+        """The table is that of `directions --all`, of as many decimals as may be too few."""
+        field, table, part = (self.folder / name for name in ("field.gsi", "all.csv", "part.csv"))
+        refused, runs = 0, 0
+        for place in range(FILES):
+            random = Random(f"{SEED} table {place}")
+            names = [b'P%d,"' % n if n % 3 == 2 else b"P%d" % n for n in range(random.randint(1, MOST_STATIONS))]
+            field.write_bytes(b"".join(named(station_to_adjust(random), name) for name in names))
+            decimals = f"--decimals={random.choice([5, 6, 8])}"
+            status, text, _ = answer_of(["directions", "--all", decimals, field])
+            if status:
+                continue
+            table.write_bytes(text)
+            for command, arrange in OF_TABLES:
+                with self.subTest(f"{place}: {command}"):
+                    alone = []
+                    for name in names:
+                        part.write_bytes(answer_of(["directions", decimals, field, name])[1])
+                        alone.append((name, answer_of([*command, field, name, part])))
+                    expected = joined(alone, arrange)
+                    self.assertEqual(expected, answer_of([*command, "--all", field, table]))
+                    refused, runs = refused + expected[0], runs + 1
+        self.assertGreater(runs, refused)
 
     def test_what_is_of_one_station_is_a_mistake_beside_all(self):
         for words, message in MISTAKES:

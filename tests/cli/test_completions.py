@@ -46,7 +46,7 @@ FLAGS = {
 }
 
 # Those that stand before its limits.
-FIRST_FLAGS = {"compare": TABLE_FORMS, "directions": ["--all"], "report": ["--all"], "check": []}
+FIRST_FLAGS = {"compare": ["--all", *TABLE_FORMS], "directions": ["--all"], "report": ["--all"], "check": []}
 
 # Asks the completion of bash for a line, whose last word may be empty.
 ASK_BASH = """
@@ -107,7 +107,7 @@ class CompletionsTest(ProgramTest):
         self.assertEqual(FACE_LIMITS, self.of_bash("check", "field.gsi", "--two"))
         self.assertEqual([*FACE_LIMITS, "--csv", "--decimal-comma", "--help"], self.of_bash("list", "-"))
         own = ["--residual", "--decimal-comma", "--json"]
-        of_differences = [*TABLE_FORMS, *FACE_LIMITS, *own, "--help"]
+        of_differences = ["--all", *TABLE_FORMS, *FACE_LIMITS, *own, "--help"]
         self.assertEqual(of_differences, self.of_bash("differences", "-"))
         self.assertEqual([*FACE_LIMITS, "--help"], self.of_bash("means", "-"))
         options = ["--station", "--same-set-up", "--again", "--station-code"]

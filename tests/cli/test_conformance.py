@@ -147,6 +147,22 @@ def answer_of_all(asked, data, limits, fails, held, formed):
     return model.of_all(data, limits, fails, of_name, joined)
 
 
+def answer_of_table(asked, files, limits, fails, held, formed):
+    """The same of all stations and of one table."""
+    if len(asked.operands) != 2 or asked.json or asked.sha256:
+        return (2, b"", b"")
+    form = model.TableForm(asked.unit, asked.columns)
+    if asked.command == "compare":
+        joined, one = model.line_by_line, partial(model.compared, within=asked.within)
+    else:
+        joined, one = model.named_differences, partial(model.differences, **formed)
+
+    def of_part(name, part):
+        return one(files[0], name, part, limits, form=form, **held)
+
+    return model.of_table_of_all(*files, limits, fails, of_part, joined)
+
+
 # The commands that take a limit of residuals.
 HELD = ["check", "compare", "differences", "directions", "report"]
 
@@ -171,11 +187,11 @@ def model_answer(case):
         return (2, b"", b"")
     limits, held = model.Limits(asked.two_c, asked.two_i), {"residual": asked.residual}
     formed = {"decimal_comma": asked.decimal_comma}
-    paths = [
-        case.folder / name
-        for place, name in enumerate(asked.operands)
-        if place in FILES.get(asked.command, [0])
-    ]
+    reads_table = asked.command in ["compare", "differences"]
+    if reads_table and len(asked.operands) < (2 if asked.all else 3):
+        return (2, b"", b"")
+    places = [0, 1] if asked.all and reads_table else FILES.get(asked.command, [0])
+    paths = [case.folder / name for place, name in enumerate(asked.operands) if place in places]
     paths += [case.folder / asked.table] if asked.table else []
     for path in paths:
         if not path.exists():
@@ -202,6 +218,8 @@ def model_answer(case):
         own = own_sets, own_targets
         stated = model.StatedSets(sets, targets, asked.others, *own, **begins)
         return model.marked(files[0], asked.station, fails[0], stated)
+    if asked.all and reads_table:
+        return answer_of_table(asked, files, limits, fails, held, formed)
     if asked.all:
         return answer_of_all(asked, files[0], limits, fails[0], held, formed)
     if len(asked.operands) < 2:

@@ -2,3 +2,5 @@ pub mod TextLaws
 pub mod FrontLaws
 pub mod StationLaws
 pub mod FileLaws
+pub mod PartLaws
+pub mod TableLaws

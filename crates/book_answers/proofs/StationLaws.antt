@@ -1,6 +1,7 @@
 -- The one text of stations, station after station.
 use Rattle.std.proofs.Common.{◌≡◌, ◌∙◌, ◌++◌, ◌∷◌, ◌+◌, ◌==◌, List, ℕ, [], Some, ap}
-use Rattle.std.proofs.Common.{append_assoc, arith, get_or, length, refl, slice_get, subst, sym, take}
+use Rattle.std.proofs.Common.{append_assoc, arith, get_or, length, refl, slice_get, subst, sym}
+use Rattle.std.proofs.Common.{take}
 use Rattle.std.proofs.Common.{true}
 use Rattle.std.proofs.lemmas.List.{append-nil, length-take-le, take_more}
 use Rattle.std.proofs.lemmas.Bool.{ne_eqb}

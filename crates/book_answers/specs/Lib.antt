@@ -3,5 +3,8 @@ pub mod Together
 pub mod Refusals
 pub mod Answers
 pub mod Runs
+pub mod PartTexts
+pub mod Tables
 -- The inside.
 pub mod OfStations
+pub mod TableTexts

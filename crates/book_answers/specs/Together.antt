@@ -2,7 +2,8 @@
 use Rattle.std.specs.Prelude.{◌==◌, ℕ, Bool, true, false, List, [], ◌∷◌, ◌++◌, codes}
 use Rattle.std.specs.Prelude.{if◌then◌else◌}
 use Rattle.book_answers.specs.declared.arrangement.Arrangement.{Arrangement}
-use Rattle.book_answers.specs.declared.arrangement.Arrangement.TheVariants.{Pages, Rows}
+use Rattle.book_answers.specs.declared.arrangement.Arrangement.TheVariants.{Lines, Pages, Rows}
+use Rattle.book_answers.specs.declared.arrangement.Arrangement.TheVariants.{NamedDifferences}
 use Rattle.book_answers.specs.declared.arrangement.Arrangement.TheVariants.{NamedDirections}
 use Rattle.csv.specs.Machine.{line_feed}
 use Rattle.list_rows.specs.RowPieces.{cell_text}
@@ -23,20 +24,26 @@ behind starts front [] = []
 behind starts front (byte ∷ text) =
     (if starts then front else []) ++ (byte ∷ behind (byte == line_feed) front text)
 
--- What stands before the texts: the titles of the directions, whose own texts have none.
+-- What stands before the texts: titles, where rows stand behind the name of their station.
 abbrev pub head : Arrangement → List ℕ
 head (NamedDirections Commas) = codes "station,target,direction\n"
 head (NamedDirections Semicolons) = codes "station;target;direction\n"
+head (NamedDifferences Commas) =
+    codes "station,target,stated,least squares,difference,from the median\n"
+head (NamedDifferences Semicolons) =
+    codes "station;target;stated;least squares;difference;from the median\n"
 head arrangement = []
 
 -- What a station adds, the first or one after it, of its name and its own text: that text, as a
--- page, which begins with a form feed; or as rows, without its titles where these stand already; or
--- each of its rows behind the cell of its name.
+-- page, which begins with a form feed; as rows, without its titles where these stand already; as a
+-- line; or each of its rows behind the cell of its name, without its titles.
 abbrev pub piece : Arrangement → Bool → List ℕ × List ℕ → List ℕ
 piece Pages true own = own.1
 piece Pages false own = form_feed ∷ own.1
 piece Rows true own = own.1
 piece Rows false own = after_line own.1
+piece Lines first own = own.1
+piece (NamedDifferences form) first own = behind true (cell_text form own.0) (after_line own.1)
 piece (NamedDirections form) first own = behind true (cell_text form own.0) own.1
 
 -- What stations add, one after another; `first` is whether they begin with the first.

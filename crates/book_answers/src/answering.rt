@@ -12,12 +12,13 @@ ghost use Rattle.station_check.specs.RunEndings.{Run};
 ghost use Rattle.station_compare.specs.Runs.{ReadsFieldFile};
 
 use crate::arrangement::Arrangement;
+use crate::each::{Alone, EachAnswer};
 use crate::refusal::{StationRefusal, refusal_text};
 use byte_ends::{Sink, Source};
 use station_answers::StationAnswer;
 use station_book::{ResultLimits, Stations, Surveyed};
 use station_check::{ACCEPTED, Fault, noted_stations_of_file, refuse_by, write_whole};
-use station_compare::{CompareFault, Refusal, hinted, stations_hint};
+use station_compare::{CompareFault, Refusal, stations_hint};
 use std::alloc::Global;
 
 /// The one text of all stations of a field file, and its reader, which is given back. The file is
@@ -50,12 +51,13 @@ pub fn answer_of_all<R: Source, A: StationAnswer>(
     if stations.len() == 0 {
         return (Err(no_station(&stations, unchecked)), gsi);
     }
-    let answer = text_of_stations(alloc, &stations, limits, asked, arrangement);
+    let each = Alone { asked };
+    let answer = text_of_stations(alloc, &stations, limits, &each, arrangement);
     (answer, gsi)
 }
 
 /// The refusal of a file without stations: that of each name.
-fn no_station(stations: &Stations, unchecked: u32) -> StationRefusal
+pub(crate) fn no_station(stations: &Stations, unchecked: u32) -> StationRefusal
     ensures { result ≡ spec.no_station stations.now unchecked }
 {
     StationRefusal {
@@ -68,17 +70,18 @@ fn no_station(stations: &Stations, unchecked: u32) -> StationRefusal
 }
 
 /// The one text of stations.
-fn text_of_stations<A: StationAnswer>(
+pub(crate) fn text_of_stations<E: EachAnswer>(
     alloc: Global,
     stations: &Stations,
     limits: ResultLimits,
-    asked: &A,
+    asked: &E,
     arrangement: Arrangement,
 ) -> Result<Vec<u8>, StationRefusal>
     ensures { MatchResult result
-        (λ text. IsOneText (A.says asked.now limits) limits.residual arrangement stations.now
+        (λ text. IsOneText (E.says asked.now limits) limits.residual arrangement stations.now
         text.items)
-        (IsWhyNoText (A.says asked.now limits) limits.residual stations.now) }
+        (IsWhyNoText (E.says asked.now limits) (E.refuses asked.now limits) limits.residual
+        stations.now) }
 {
     let mut text = Vec::new(alloc);
     arrangement.push_head(&mut text)?;
@@ -95,24 +98,21 @@ fn text_of_stations<A: StationAnswer>(
 }
 
 /// The text of a station, or why it has none, with its name.
-fn own_text<A: StationAnswer>(
+fn own_text<E: EachAnswer>(
     alloc: Global,
     limits: ResultLimits,
-    asked: &A,
+    asked: &E,
     surveyed: &Surveyed,
 ) -> Result<Vec<u8>, StationRefusal>
-    ensures text { MatchResult result (λ text. A.says asked.now limits surveyed.now text.items)
-        (IsRefusedAt limits.residual surveyed.now) }
+    ensures text { MatchResult result (λ text. E.says asked.now limits surveyed.now text.items)
+        (IsRefusedAt (E.refuses asked.now limits) surveyed.now) }
     ensures held { OnOk result (HasResidualsWithin surveyed.now.station limits.residual) }
 {
-    let station = surveyed.station();
-    let residual = limits.residual;
-    let answer = asked.text_of(alloc, limits, surveyed);
-    match hinted(answer, station, residual) {
+    match asked.own_of(alloc, limits, surveyed) {
         Ok(text) => Ok(text),
         Err(refusal) => Err(StationRefusal {
             refusal,
-            station: Some(station.name()),
+            station: Some(surveyed.station().name()),
         }),
     }
 }

@@ -22,6 +22,13 @@ pub enum Arrangement {
     /// Each is rows with a line of titles, which stands once.
     Rows,
 
+    /// Each is a line.
+    Lines,
+
+    /// Each is rows of differences with a line of titles: titles, and each other row behind its
+    /// station's name, all in a form.
+    NamedDifferences(RowForm),
+
     /// Each is a table of directions without titles: titles, and each row behind its station's
     /// name, all in a form.
     NamedDirections(RowForm),
@@ -35,7 +42,19 @@ impl Arrangement {
         ensures { OnOk result (text.new.items ≡ text.old.items ++ spec.head self) }
     {
         match self {
-            Arrangement::Pages | Arrangement::Rows => Ok(()),
+            Arrangement::Pages | Arrangement::Rows | Arrangement::Lines => Ok(()),
+            Arrangement::NamedDifferences(RowForm::Commas) => {
+                text.extend_from_slice(
+                    b"station,target,stated,least squares,difference,from the median\n",
+                )?;
+                Ok(())
+            }
+            Arrangement::NamedDifferences(RowForm::Semicolons) => {
+                text.extend_from_slice(
+                    b"station;target;stated;least squares;difference;from the median\n",
+                )?;
+                Ok(())
+            }
             Arrangement::NamedDirections(RowForm::Commas) => {
                 text.extend_from_slice(b"station,target,direction\n")?;
                 Ok(())
@@ -62,7 +81,7 @@ impl Arrangement {
             (text.new.items ≡ text.old.items ++ spec.piece self first (name, own.now)) }
     {
         match (self, first) {
-            (Arrangement::Pages, true) | (Arrangement::Rows, true) => {
+            (Arrangement::Pages, true) | (Arrangement::Rows, true) | (Arrangement::Lines, _) => {
                 text.extend_from_slice(own)?;
                 Ok(())
             }
@@ -74,6 +93,10 @@ impl Arrangement {
             (Arrangement::Rows, false) => {
                 text.extend_from_slice(after_line(own))?;
                 Ok(())
+            }
+            (Arrangement::NamedDifferences(form), _) => {
+                let front = front_of(alloc, name, form)?;
+                push_behind(text, &front, after_line(own))
             }
             (Arrangement::NamedDirections(form), _) => {
                 let front = front_of(alloc, name, form)?;

@@ -50,6 +50,7 @@ is_simple_rule : (a : Argument) → (rule_for a).is_simple ≡ true
 is_simple_rule argument.FieldFile = refl
 is_simple_rule argument.Copy = refl
 is_simple_rule argument.Station = refl
+is_simple_rule argument.StationOrTable = refl
 is_simple_rule argument.OptionalStation = refl
 is_simple_rule argument.All = refl
 is_simple_rule argument.Sheet = refl

@@ -3,3 +3,4 @@ pub mod NamingLaws
 pub mod LimitLaws
 pub mod MistakeLaws
 pub mod RowLaws
+pub mod TableLaws

@@ -31,6 +31,13 @@ place-small TwoI = lit≤ tt
 place-small Residual = lit≤ tt
 place-small Within = lit≤ tt
 
+-- So their mistakes are told before what is stated without a table.
+pub place_early : (option : LimitOption) → place option < 6
+place_early TwoC = lit< tt
+place_early TwoI = lit< tt
+place_early Residual = lit< tt
+place_early Within = lit< tt
+
 -- The options before a place state no wrong limit.
 abbrev pub AreRightBefore : Found → ℕ → Type 0
 AreRightBefore found n = (option : LimitOption) → place option < n → IsRightLimit found option

@@ -17,7 +17,7 @@ use Rattle.station_book.specs.declared.result_limits.ResultLimits.{ResultLimits}
 use Rattle.station_explain.specs.Naming.{Names, IsMeant, IsNoNameInAnyCase}
 use Rattle.station_explain.specs.Table.{Explanation}
 use Rattle.command_line.specs.Commands.{the_program}
-use Rattle.command_line.specs.Mistakes.{StandsBesideAll}
+use Rattle.command_line.specs.Mistakes.{StandsBesideAll, StandsBesideTable}
 use Rattle.command_line.specs.Stated.{HoldsResiduals, IsGiven, IsMissing, StatesDigests, StatesForm}
 use Rattle.command_line.specs.Stated.{StatesBeginnings, StatesFlag, StatesLimits}
 use Rattle.command_line.specs.Stated.{IsStatedForm, StatesNoBeginnings, StatesNoColumns}
@@ -29,6 +29,8 @@ use Rattle.command_line.specs.Stated.{IsCommaAlone, IsCommaInJson}
 use Rattle.command_line.specs.StatedChanges.{StatesChanges, StatesNoChanges}
 use Rattle.command_line.specs.StatedNotes.{SpeaksOfNotes, StatesNoNotes, StatesNotes}
 use Rattle.command_line.specs.StatedNumbers.{StatesNoNumbers, StatesNumbers}
+use Rattle.command_line.specs.declared.request.AllTableText.{AllTableText}
+use Rattle.command_line.specs.declared.request.AllTableText.TheVariants as all_text
 use Rattle.command_line.specs.declared.request.Digests.TheVariants.{Omitted, Printed}
 use Rattle.command_line.specs.declared.request.FieldStation.{FieldStation}
 use Rattle.command_line.specs.declared.request.FieldStations.{FieldStations}
@@ -38,6 +40,7 @@ use Rattle.command_line.specs.declared.request.Request.TheVariants as request
 use Rattle.command_line.specs.declared.request.SheetCheck.{SheetCheck}
 use Rattle.command_line.specs.declared.request.StationText.{StationText}
 use Rattle.command_line.specs.declared.request.StationText.TheVariants as text
+use Rattle.command_line.specs.declared.request.StationsBeside.{StationsBeside}
 use Rattle.command_line.specs.declared.request.StationsText.{StationsText}
 use Rattle.command_line.specs.declared.request.StationsText.TheVariants as texts
 use Rattle.command_line.specs.declared.request.TableText.{TableText}
@@ -79,6 +82,17 @@ pub record AsksForAll (found : Found) (asked : FieldStations (Bor (List ℕ))) :
   pub of_limits : HoldsResult found asked.limits
   pub alone : ¬ (StandsBesideAll found)
 
+-- The adjustments of all stations and one table of them are asked for: the path of the field file,
+-- the path of the table in the place of a station's name, how it is read, and the limits of the
+-- results; and nothing stands beside that which is of one table of one station.
+pub record AsksForTableOfAll (found : Found) (asked : StationsBeside (Bor (List ℕ)))
+    : Type 0 where
+  pub field_file : IsGiven found (codes "GSI") asked.stations.gsi.now
+  pub of_table : IsGiven found (codes "STATION") asked.file.now
+  pub of_limits : HoldsResult found asked.stations.limits
+  pub of_form : StatesTableForm found asked.form
+  pub alone : ¬ (StandsBesideTable found)
+
 -- No table is stated, and nothing that speaks of one: no limit of a comparison, no unit but gon,
 -- and no columns.
 pub record IsWithoutTable (found : Found) : Type 0 where
@@ -112,8 +126,8 @@ AsksForTexts name found (texts.ReportRows form) =
 
 -- Which text of a station and of the table of this path: by `compare` the comparison, with its
 -- limit or none, and with digests or without; by `differences` the differences in a form, or as JSON
--- lines, which have points; by `report`, where all stations are not asked for, the report with the
--- table of its option and with its notes, and all else as for `compare`.
+-- lines, which have points; by `report` the report with the table of its option and with its notes,
+-- and all else as for `compare`.
 abbrev pub AsksForTableText : Text → Found → List ℕ → TableText → Type 0
 AsksForTableText name found table (table_text.Comparison within digests) =
     (name ≡ codes "compare") × IsGiven found (codes "TABLE") table × StatesWithin found within
@@ -127,7 +141,14 @@ AsksForTableText name found table table_text.JsonLines =
 AsksForTableText name found table (table_text.Report within digests notes) =
     (name ≡ codes "report") × IsGiven found (codes "table") table × StatesWithin found within
     × StatesDigests found digests × StatesForm found Lines × StatesNotes found notes
-    × StatesFlag found (codes "all") false
+
+-- Which text of all stations and of one table of them: by `compare` the comparisons, with their
+-- limit or none; by `differences` the differences in a form.
+abbrev pub AsksForTextOfAll : Text → Found → AllTableText → Type 0
+AsksForTextOfAll name found (all_text.Comparison within) =
+    (name ≡ codes "compare") × StatesWithin found within
+AsksForTextOfAll name found (all_text.Differences form) =
+    (name ≡ codes "differences") × StatesRowForm found form
 
 -- What `check` asks for: its two paths, the limits of face differences, the residual limit or none,
 -- and whether digests are printed.
@@ -171,7 +192,10 @@ AsksFor name found (request.Stations stations text) =
     AsksForAll found stations × AsksForTexts name found text × StatesFlag found (codes "all") true
 AsksFor name found (request.Table beside text) =
     AsksForResult found beside.station × StatesTableForm found beside.form
-    × AsksForTableText name found beside.file.now text
+    × AsksForTableText name found beside.file.now text × StatesFlag found (codes "all") false
+AsksFor name found (request.StationsTable beside text) =
+    AsksForTableOfAll found beside × AsksForTextOfAll name found text
+    × StatesFlag found (codes "all") true
 AsksFor name found (request.Mark gsi copy beginnings stated) =
     (name ≡ codes "mark")
     × AsksToMark found gsi.now (option_map (λ path. path.now) copy) beginnings stated
@@ -213,17 +237,22 @@ LacksResults found =
     (StatesFlag found (codes "all") false × LacksResult found)
     ⊎ (StatesFlag found (codes "all") true × LacksAll found)
 
--- What `compare` needs isn't found.
+-- The table of a station is missing, where all are not asked for; or beside one table of all, where
+-- they are, something stands that is of one station.
+abbrev pub LacksTable : Found → Type 0
+LacksTable found =
+    (StatesFlag found (codes "all") false × IsMissing found (codes "TABLE"))
+    ⊎ (StatesFlag found (codes "all") true × StandsBesideTable found)
+
+-- What `compare` needs isn't found, or what it has doesn't go together.
 abbrev pub LacksToCompare : Found → Type 0
 LacksToCompare found =
-    LacksResult found ⊎ IsMissing found (codes "TABLE") ⊎ StatesNoColumns found
-    ⊎ StatesNoWithin found
+    LacksResult found ⊎ LacksTable found ⊎ StatesNoColumns found ⊎ StatesNoWithin found
 
 -- What `differences` needs isn't found, or what it has doesn't go together.
 abbrev pub LacksForDifferences : Found → Type 0
 LacksForDifferences found =
-    LacksResult found ⊎ IsMissing found (codes "TABLE") ⊎ StatesNoColumns found
-    ⊎ IsCommaInJson found
+    LacksResult found ⊎ LacksTable found ⊎ StatesNoColumns found ⊎ IsCommaInJson found
 
 -- What `directions` needs isn't found.
 abbrev pub LacksForDirections : Found → Type 0

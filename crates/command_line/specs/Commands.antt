@@ -139,11 +139,16 @@ optional_rule id = record (new_rule id) { action = Some Set }
 abbrev pub field_file_rule : Rule
 field_file_rule = path_rule (codes "GSI")
 
--- The path of the copy of a field file, which may be left out: one word, and not the empty one.
-abbrev pub copy_rule : Rule
-copy_rule = record (optional_rule (codes "COPY")) { parser = Some NonEmptyString }
+-- A path that may be left out: one word, and not the empty one.
+abbrev pub optional_path_rule : Text → Rule
+optional_path_rule id = record (optional_rule id) { parser = Some NonEmptyString }
 
--- The name of the station.
+-- The path of the copy of a field file.
+abbrev pub copy_rule : Rule
+copy_rule = optional_path_rule (codes "COPY")
+
+-- The name of the station; or, of `compare` and `differences` where all are asked for, the path of
+-- the one table of all.
 abbrev pub station_rule : Rule
 station_rule = given_rule (codes "STATION")
 
@@ -159,9 +164,9 @@ all_rule = flag_rule (codes "all")
 abbrev pub sheet_rule : Rule
 sheet_rule = path_rule (codes "SHEET")
 
--- The path of the table.
+-- The path of the table, which is left out where all stations are asked for.
 abbrev pub table_rule : Rule
-table_rule = path_rule (codes "TABLE")
+table_rule = optional_path_rule (codes "TABLE")
 
 -- The flag `--degrees`: the table states degrees.
 abbrev pub degrees_rule : Rule
@@ -187,6 +192,7 @@ abbrev pub rule_for : Argument → Rule
 rule_for argument.FieldFile = field_file_rule
 rule_for argument.Copy = copy_rule
 rule_for argument.Station = station_rule
+rule_for argument.StationOrTable = station_rule
 rule_for argument.OptionalStation = optional_station_rule
 rule_for argument.All = all_rule
 rule_for argument.Sheet = sheet_rule
@@ -226,17 +232,19 @@ of_rules name rules = record (new_shape name) { rules = rules }
 abbrev pub alone : Shape → App
 alone s = record { top = s; subs = [] }
 
--- `compare GSI STATION TABLE`
+-- `compare GSI STATION TABLE`, or `compare --all GSI TABLE`
 abbrev pub compare_words : Shape
 compare_words = of_rules (codes "compare")
-    (field_file_rule ∷ station_rule ∷ table_rule ∷ degrees_rule ∷ dmmss_rule ∷ columns_rule
-    ∷ two_c_rule ∷ two_i_rule ∷ residual_rule ∷ within_rule ∷ digests_rule ∷ [])
+    (field_file_rule ∷ station_rule ∷ table_rule ∷ all_rule
+    ∷ degrees_rule ∷ dmmss_rule ∷ columns_rule ∷ two_c_rule ∷ two_i_rule ∷ residual_rule
+    ∷ within_rule ∷ digests_rule ∷ [])
 
--- `differences GSI STATION TABLE`
+-- `differences GSI STATION TABLE`, or `differences --all GSI TABLE`
 abbrev pub differences_words : Shape
 differences_words = of_rules (codes "differences")
-    (field_file_rule ∷ station_rule ∷ table_rule ∷ degrees_rule ∷ dmmss_rule ∷ columns_rule
-    ∷ two_c_rule ∷ two_i_rule ∷ residual_rule ∷ decimal_comma_rule ∷ json_rule ∷ [])
+    (field_file_rule ∷ station_rule ∷ table_rule ∷ all_rule
+    ∷ degrees_rule ∷ dmmss_rule ∷ columns_rule ∷ two_c_rule ∷ two_i_rule ∷ residual_rule
+    ∷ decimal_comma_rule ∷ json_rule ∷ [])
 
 -- `directions GSI STATION`, or `directions --all GSI`
 abbrev pub directions_words : Shape

@@ -1,5 +1,5 @@
 -- What is mistaken in words that the grammar takes, by what is found of them, and what is told.
-use Rattle.std.specs.Prelude.{◌++◌, ◌<◌, ◌≤◌, ◌⊎◌, ℕ, IsSome, List, true, ⊤, codes}
+use Rattle.std.specs.Prelude.{◌≡◌, ◌≢◌, ◌++◌, ◌<◌, ◌≤◌, ◌⊎◌, ℕ, IsSome, List, true, ⊤, codes}
 use Rattle.clap.specs.Words.{matched_of}
 use Rattle.clap.specs.declared.parser.matches.Found.{Found}
 use Rattle.command_line.specs.CountOptions.{count_is_not_in, count_largest, count_may_be}
@@ -60,6 +60,12 @@ StandsBesideRows found = IsOfOneReport found ⊎ SpeaksOfNotes found
 abbrev pub StandsBesideAll : Found → Type 0
 StandsBesideAll found = HasOption found (codes "STATION") ⊎ IsOfOneReport found
 
+-- What may not stand beside one table of all stations is stated: another one, JSON lines, or that
+-- digests be printed.
+abbrev pub StandsBesideTable : Found → Type 0
+StandsBesideTable found = HasOption found (codes "TABLE") ⊎ StatesFlag found (codes "json") true
+    ⊎ StatesDigests found Printed
+
 -- This is stated as the columns of a table, and no columns are stated so.
 abbrev pub IsWrongColumns : Found → List ℕ → Type 0
 IsWrongColumns found text = IsGiven found (codes "columns") text × StatesNoColumns found
@@ -92,8 +98,9 @@ IsWrongNote found text = IsFirstUnnoted (texts_of found (codes "note")) text
 -- rows; a text of an option that states numbers can't stand where it does; the code of the stations
 -- is none that may be; a text of an option that states changes of lines says none; a text of `--note`
 -- states no note; all stations are asked for, and something that is of one; a name is stated for a
--- station. That no station is named, and not all are asked for, is told where no other mistake is
--- there: no more is said of it.
+-- station; one table of all stations is asked for, and something that is of one. That no station or
+-- table is named, and not all are asked for, is told where no other mistake is there: no more is
+-- said of it.
 abbrev pub IsThere : Found → Mistake → Type 0
 IsThere found (mistake.Limit option text) = IsNoLimit found option text.now
 IsThere found (mistake.Columns text) = IsWrongColumns found text.now
@@ -110,13 +117,15 @@ IsThere found (mistake.Note text) = IsWrongNote found text.now
 IsThere found mistake.All = StatesFlag found (codes "all") true × StandsBesideAll found
 IsThere found mistake.Name = HasOption found (codes "station")
 IsThere found mistake.NoStation = ⊤
+IsThere found mistake.TableOfAll = StatesFlag found (codes "all") true × StandsBesideTable found
+IsThere found mistake.NoTable = ⊤
 
 -- The place of a mistake in the order in which mistakes are told: wrong limits by the places of
 -- their options, then columns, then JSON lines or rows, of which no command has both, then what is
 -- stated without a table, a decimal comma, numbers, a code, changes of lines, notes, all stations
 -- beside one, a name, and that none is named last. What other commands than `report` are told stands
--- before what is stated without a table: it alone has that option, and those that read a table lack
--- it.
+-- before what is stated without a table: it alone has that option. The last two are of `compare` and
+-- `differences`, which lack it.
 abbrev pub rank : Mistake → ℕ
 rank (mistake.Limit option text) = place option
 rank (mistake.Columns text) = 4
@@ -132,6 +141,8 @@ rank (mistake.Note text) = 14
 rank mistake.All = 15
 rank mistake.Name = 16
 rank mistake.NoStation = 17
+rank mistake.TableOfAll = 18
+rank mistake.NoTable = 19
 
 -- No mistake that is told before this place is there.
 abbrev pub NoneIsBefore : ℕ → Found → Type 0
@@ -141,6 +152,22 @@ NoneIsBefore place found = (other : Mistake) → rank other < place → ¬ (IsTh
 pub record IsMistakeAmong (found : Found) (mistake : Mistake) : Type 0 where
   pub there : IsThere found mistake
   pub first : NoneIsBefore (rank mistake) found
+
+-- The mistake that is told of what is found after `compare` or `differences`: one that is told before
+-- what is stated without the option of a table; or, where none of these is there, what may not stand
+-- beside one table of all stations, or else that no table is named.
+abbrev pub IsMistakeBesideTable : Found → Mistake → Type 0
+IsMistakeBesideTable found mistake.TableOfAll =
+    NoneIsBefore 6 found × IsThere found mistake.TableOfAll
+IsMistakeBesideTable found mistake.NoTable =
+    NoneIsBefore 6 found × ¬ (IsThere found mistake.TableOfAll)
+IsMistakeBesideTable found other = (rank other < 6) × IsMistakeAmong found other
+
+-- The mistake that is told of what is found after the name of a subcommand.
+abbrev pub IsMistakeAfter : List ℕ → Found → Mistake → Type 0
+IsMistakeAfter name found told =
+    (((name ≡ codes "compare") ⊎ (name ≡ codes "differences")) × IsMistakeBesideTable found told)
+    ⊎ ((name ≢ codes "compare") × (name ≢ codes "differences") × IsMistakeAmong found told)
 
 -- No mistake from a place on and before another one is there.
 abbrev pub NoneIsBetween : ℕ → ℕ → Found → Type 0
@@ -214,3 +241,8 @@ mistake_text mistake.Name =
     codes "the name of a station has 1 to 16 characters of ASCII, from the blank to '~'"
 mistake_text mistake.NoStation =
     codes "no station is named: name a STATION, or ask for all of them with '--all'"
+mistake_text mistake.TableOfAll =
+    codes "'--all' takes one table of all stations in the place of STATION: not with another TABLE, "
+    ++ codes "'--json' or '--sha256'"
+mistake_text mistake.NoTable =
+    codes "the following required arguments were not provided:\n  <TABLE>"

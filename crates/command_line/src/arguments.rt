@@ -2,7 +2,7 @@
 
 ghost use Rattle.std.specs.Prelude.{◌≡◌};
 ghost use Rattle.clap.specs.Words.{rule_of};
-ghost use Rattle.command_line.specs.Commands.{copy_rule, decimals_rule, texts_rule};
+ghost use Rattle.command_line.specs.Commands.{decimals_rule, optional_path_rule, texts_rule};
 ghost use Rattle.command_line.specs.Commands.{face_limit_rule, optional_rule};
 ghost use Rattle.command_line.specs.Commands.{fault_rule};
 ghost use Rattle.command_line.specs.Commands.{flag_rule, given_rule, path_rule, rule_for};
@@ -128,6 +128,9 @@ pub(crate) enum Argument {
     /// The name of the station.
     Station,
 
+    /// The name of the station; or the path of the one table of all, where all are asked for.
+    StationOrTable,
+
     /// The name of the station, where not all are asked for.
     OptionalStation,
 
@@ -235,12 +238,12 @@ impl Argument {
     {
         match self {
             Argument::FieldFile => path(alloc, GSI),
-            Argument::Copy => copy_path(alloc),
-            Argument::Station => given(alloc, STATION),
+            Argument::Copy => optional_path(alloc, COPY),
+            Argument::Station | Argument::StationOrTable => given(alloc, STATION),
             Argument::OptionalStation => optional(alloc, STATION),
             Argument::All => flag(alloc, ALL),
             Argument::Sheet => path(alloc, SHEET),
-            Argument::Table => path(alloc, TABLE),
+            Argument::Table => optional_path(alloc, TABLE),
             Argument::Fault => words_of_fault(alloc),
             Argument::TwoC => face_limit(alloc, TWO_C),
             Argument::TwoI => face_limit(alloc, TWO_I),
@@ -276,6 +279,9 @@ impl Argument {
             Argument::FieldFile => "The field file, in GSI-8, GSI-16 or both",
             Argument::Copy => "The file that the copy goes to, where none is yet",
             Argument::Station | Argument::OptionalStation => "The name of the station",
+            Argument::StationOrTable => {
+                "The name of the station; with --all the path of one table of all stations"
+            }
             Argument::All => "Answer all stations, in the order of the file, in the place of one",
             Argument::Sheet => "The sheet, comma-separated text",
             Argument::Table => help::TABLE_HELP,
@@ -345,6 +351,7 @@ impl Argument {
             Argument::Note => help::NOTE_LONG_HELP,
             Argument::FieldFile
             | Argument::Station
+            | Argument::StationOrTable
             | Argument::OptionalStation
             | Argument::Sheet
             | Argument::Table
@@ -363,11 +370,11 @@ fn words_of_fault<'a>(alloc: Global) -> Arg<'a>
         .action(ArgAction::Append)
 }
 
-/// The path of the copy of a field file, which may be left out and is not empty.
-fn copy_path<'a>(alloc: Global) -> Arg<'a>
-    ensures { rule_of result ≡ copy_rule }
+/// A path that may be left out, and is not empty.
+fn optional_path<'a>(alloc: Global, name: &'a str) -> Arg<'a>
+    ensures { rule_of result ≡ optional_path_rule name.entry.now }
 {
-    optional(alloc, COPY).value_parser(ValueParser::NonEmptyString)
+    optional(alloc, name).value_parser(ValueParser::NonEmptyString)
 }
 
 /// An argument that may be left out.

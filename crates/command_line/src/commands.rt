@@ -157,10 +157,11 @@ const SUBCOMMANDS: [Subcommand; 11] = [
 ];
 
 /// The arguments and options of `compare`.
-const COMPARE: [Argument; 11] = [
+const COMPARE: [Argument; 12] = [
     Argument::FieldFile,
-    Argument::Station,
+    Argument::StationOrTable,
     Argument::Table,
+    Argument::All,
     Argument::Degrees,
     Argument::MinutesAfterPoint,
     Argument::Columns,
@@ -172,10 +173,11 @@ const COMPARE: [Argument; 11] = [
 ];
 
 /// The arguments and options of `differences`.
-const DIFFERENCES: [Argument; 11] = [
+const DIFFERENCES: [Argument; 12] = [
     Argument::FieldFile,
-    Argument::Station,
+    Argument::StationOrTable,
     Argument::Table,
+    Argument::All,
     Argument::Degrees,
     Argument::MinutesAfterPoint,
     Argument::Columns,

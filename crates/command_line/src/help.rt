@@ -66,6 +66,9 @@ With --degrees a direction is in degrees, from -360 to 360: with minutes and sec
 decimals, as 59.069217. With --dmmss it has minutes and seconds after the point, as 59.040918.
 Minutes and seconds have two digits each.
 
+With --all the second word is the path of one table of all stations, as 'directions --all' prints
+it: each row begins with the name of its station.
+
 STATION is a name of the field file, byte for byte, without the zeros on its left. Write '--' before
 a name that begins with '-'.";
 
@@ -99,8 +102,9 @@ with 9 if one needs more; the least-squares ones counted from the first target, 
 stated in degrees is rounded to the ninth decimal of a gon. Differences are in mgon with 3 decimals.
 Rounded values are rounded once, from the exact fraction, and halves go up.
 
-TABLE is read as 'compare' reads it. STATION is a name of the field file, byte for byte, without the
-zeros on its left. Write '--' before a name that begins with '-'.";
+TABLE is read as 'compare' reads it, also with --all, where each row begins with the name of its
+station. STATION is a name of the field file, byte for byte, without the zeros on its left. Write
+'--' before a name that begins with '-'.";
 
 pub const DIFFERENCES_EXAMPLE: &str = "\
 Exit status:
@@ -427,6 +431,14 @@ pub const ALL_ALONE: &str = "\
 
 pub const NO_STATION: &str = "\
 no station is named: name a STATION, or ask for all of them with '--all'";
+
+pub const TABLE_OF_ALL_ALONE: &str = "\
+'--all' takes one table of all stations in the place of STATION: not with another TABLE, '--json' \
+or '--sha256'";
+
+pub const NO_TABLE: &str = "\
+the following required arguments were not provided:
+  <TABLE>";
 
 pub const NO_NAME: &str = "\
 the name of a station has 1 to 16 characters of ASCII, from the blank to '~'";

@@ -29,6 +29,6 @@ mod subcommands;
 
 pub use asked::asked_for;
 pub use request::{
-    Digests, FieldStation, FieldStations, ListForm, Request, SheetCheck, StationText, StationsText,
-    TableBeside, TableText,
+    AllTableText, Digests, FieldStation, FieldStations, ListForm, Request, SheetCheck, StationText,
+    StationsBeside, StationsText, TableBeside, TableText,
 };

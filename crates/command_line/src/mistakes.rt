@@ -1,13 +1,15 @@
 //! The mistakes of a command line that the grammar takes.
 
-ghost use Rattle.std.specs.Prelude.{◌≡◌, ◌↔◌, ◌++◌, IfErr, IfNone, IfOk, IfSome, IsTrue};
+ghost use Rattle.std.specs.Prelude.{◌≡◌, ◌<◌, ◌↔◌, ◌++◌, IfErr, IfNone, IfOk, IfSome, IsTrue};
 ghost use Rattle.std.specs.Prelude.{string_bytes};
 ghost use Rattle.clap.specs.Words.{found_of, kind_of};
 ghost use Rattle.command_line.specs.Mistakes.{AreRightLimits, HasRightCounts, IsMistakeAmong};
 ghost use Rattle.command_line.specs.Mistakes.{IsMistakeFrom, IsNoLimit, IsRightLimit, IsWrongCode};
 ghost use Rattle.command_line.specs.Mistakes.{HasForm, IsOfOneReport, IsWrongColumns, IsWrongCount};
 ghost use Rattle.command_line.specs.Mistakes.{IsThere, NoneIsBefore, NoneIsBetween};
+ghost use Rattle.command_line.specs.Mistakes.{IsMistakeAfter, IsMistakeBesideTable, rank};
 ghost use Rattle.command_line.specs.Mistakes.{StandsBesideAll, StandsBesideRows};
+ghost use Rattle.command_line.specs.Mistakes.{StandsBesideTable};
 ghost use Rattle.command_line.specs.Mistakes.{count_why, mistake_text};
 ghost use Rattle.command_line.specs.declared.mistakes.Mistake.TheVariants as mistake;
 ghost use Rattle.command_line.specs.Stated.{IsCommaAlone, IsCommaInJson, StatesNoCode};
@@ -15,7 +17,7 @@ ghost use Rattle.command_line.specs.Stated.{StatesNoColumns};
 
 use crate::arguments::{
     ALL, COLUMNS, CSV, DECIMAL_COMMA, JSON, STATED_NAME, STATED_TABLE, STATION, STATION_CODE,
-    WITHIN,
+    TABLE, WITHIN,
 };
 use crate::commands::command_named;
 use crate::count_option::CountOption;
@@ -94,6 +96,12 @@ pub(crate) enum Mistake<'a> {
 
     /// No station is named, and not all are asked for.
     NoStation,
+
+    /// One table of all stations is asked for, and something that is of one station.
+    TableOfAll,
+
+    /// No table is named, and not all stations are asked for.
+    NoTable,
 }
 
 /// The mistake of words that lack what their subcommand needs.
@@ -106,7 +114,7 @@ pub(crate) fn mistake_in(
     ensures kind { IfOk result (λ error. kind_of error ≡ ErrorKind.ValueValidation) }
     ensures memory { IfErr result (λ error. kind_of error ≡ ErrorKind.OutOfMemory) }
 {
-    let message = message_of(alloc, mistake_among(alloc, found)?)?;
+    let message = message_of(alloc, mistake_after(alloc, name, found)?)?;
     let kind = ErrorKind::ValueValidation;
     mistake_of(alloc, called, name, kind, message.as_str())
 }
@@ -153,6 +161,8 @@ fn message_of(alloc: Global, mistake: Mistake<'_>) -> Result<String, AllocError>
         Mistake::All => help::ALL_ALONE.to_string(alloc),
         Mistake::Name => help::NO_NAME.to_string(alloc),
         Mistake::NoStation => help::NO_STATION.to_string(alloc),
+        Mistake::TableOfAll => help::TABLE_OF_ALL_ALONE.to_string(alloc),
+        Mistake::NoTable => help::NO_TABLE.to_string(alloc),
     }
 }
 
@@ -168,6 +178,44 @@ fn told_of<'a>(option: CountOption, fault: CountFault<'a>) -> (&'a str, &'static
         CountFault::EachTwice => ("", help::EACH_TWICE),
         CountFault::OneTwice => ("", help::ONE_TWICE),
     }
+}
+
+/// The mistake that is told of what is found after the name of a subcommand.
+fn mistake_after<'a>(
+    alloc: Global,
+    name: &str,
+    found: &ArgMatches<'a>,
+) -> Result<Mistake<'a>, AllocError>
+    ensures { IfOk result (IsMistakeAfter name.now (found_of found.now)) }
+{
+    match name {
+        "compare" => Ok(mistake_beside_table(found)),
+        "differences" => Ok(mistake_beside_table(found)),
+        _ => mistake_among(alloc, found),
+    }
+}
+
+/// The mistake that is told of what is found after the name of a command that reads a table. That
+/// no table is named is what is left, since all else has been tested.
+fn mistake_beside_table<'a>(found: &ArgMatches<'a>) -> Mistake<'a>
+    ensures { IsMistakeBesideTable (found_of found.now) result }
+{
+    if let Some(mistake) = mistake_of_values(found) {
+        return mistake;
+    }
+    match has_flag(found, ALL) && has_more_than_table(found) {
+        true => Mistake::TableOfAll,
+        false => Mistake::NoTable,
+    }
+}
+
+/// Whether something is stated that may not stand beside one table of all stations.
+pub(crate) fn has_more_than_table(found: &ArgMatches<'_>) -> bool
+    ensures { IsTrue result ↔ StandsBesideTable (found_of found.now) }
+{
+    found.contains_id(TABLE)
+        || has_flag(found, JSON)
+        || matches!(digests_of(found), Digests::Printed)
 }
 
 /// The mistake that is told of what is found: the first that is there.
@@ -188,6 +236,24 @@ fn mistake_beside_copies<'a>(found: &ArgMatches<'a>) -> Option<Mistake<'a>>
     ensures first { IfSome result (IsMistakeAmong (found_of found.now)) }
     ensures none { IfNone result (NoneIsBefore 8 (found_of found.now)) }
 {
+    if let Some(mistake) = mistake_of_values(found) {
+        return Some(mistake);
+    }
+    if has_within_alone(found) {
+        return Some(Mistake::Within);
+    }
+    if has_form_alone(found) {
+        return Some(Mistake::Form);
+    }
+    None
+}
+
+/// The mistake in limits, columns, JSON lines and rows: the first that is there.
+fn mistake_of_values<'a>(found: &ArgMatches<'a>) -> Option<Mistake<'a>>
+    ensures first { IfSome result (IsMistakeAmong (found_of found.now)) }
+    ensures early { IfSome result (λ told. rank told < 6) }
+    ensures none { IfNone result (NoneIsBefore 6 (found_of found.now)) }
+{
     if let Some(mistake) = wrong_limit(found) {
         return Some(mistake);
     }
@@ -199,12 +265,6 @@ fn mistake_beside_copies<'a>(found: &ArgMatches<'a>) -> Option<Mistake<'a>>
     }
     if has_rows_and_more(found) {
         return Some(Mistake::Rows);
-    }
-    if has_within_alone(found) {
-        return Some(Mistake::Within);
-    }
-    if has_form_alone(found) {
-        return Some(Mistake::Form);
     }
     None
 }
@@ -355,8 +415,10 @@ fn wrong_code<'a>(found: &ArgMatches<'a>) -> Option<&'a str>
 }
 
 /// The mistake of the first option after which no limit stands that may be stated.
+#[tactic(auto, using(crate::proofs::MistakeLaws::place_early))]
 fn wrong_limit<'a>(found: &ArgMatches<'a>) -> Option<Mistake<'a>>
     ensures first { IfSome result (IsMistakeAmong (found_of found.now)) }
+    ensures early { IfSome result (λ told. rank told < 6) }
     ensures none { IfNone result (AreRightLimits (found_of found.now)) }
 {
     for option in LIMIT_OPTIONS {

@@ -85,6 +85,19 @@ pub struct TableBeside<'a, F> {
     pub form: TableForm,
 }
 
+/// All stations of a field file, and one table of the directions of all.
+#[derive(Drop)]
+pub struct StationsBeside<F> {
+    /// The stations.
+    pub stations: FieldStations<F>,
+
+    /// The table's file.
+    pub file: F,
+
+    /// How it is read: the unit of its directions, and its columns.
+    pub form: TableForm,
+}
+
 /// What is printed of a station.
 #[derive(Drop)]
 pub enum StationText<'a> {
@@ -138,6 +151,17 @@ pub enum TableText<'a> {
     },
 }
 
+/// What is printed of all stations and of one table of them: of each what is printed of it and of
+/// its part of the table.
+#[derive(Drop)]
+pub enum AllTableText {
+    /// Whether they agree, as for `TableText::Comparison`.
+    Comparison { within: Option<u32> },
+
+    /// How far the table is off, target by target.
+    Differences { form: RowForm },
+}
+
 /// What the program is asked to do with files of type `F`, which are read, and of type `N`, which
 /// are new: their paths, or the files once they are open. A variant is a shape: the files, and what
 /// is stated of them. What is printed of one shape is a text of its own.
@@ -169,6 +193,12 @@ pub enum Request<'a, F, N> {
     Table {
         beside: TableBeside<'a, F>,
         text: TableText<'a>,
+    },
+
+    /// Prints a text of all stations of a field file and of one table of them.
+    StationsTable {
+        beside: StationsBeside<F>,
+        text: AllTableText,
     },
 
     /// Prints a copy of a field file with codes put in, or writes it to a new file of the path that

@@ -1,15 +1,17 @@
 //! What each subcommand asks for.
 
-ghost use Rattle.std.specs.Prelude.{◌≡◌, ◌↔◌, IfOk, IfSome, IfNone, IsTrue, codes, true};
+ghost use Rattle.std.specs.Prelude.{◌≡◌, ◌↔◌, ◌⊎◌, IfOk, IfSome, IfNone, IsTrue, codes, true};
 ghost use Rattle.clap.specs.Words.{found_of};
 ghost use Rattle.command_line.specs.CommandLine.{AsksFor, AsksForAll, AsksForResult};
 ghost use Rattle.command_line.specs.CommandLine.{AsksOfStation, Lacks, LacksAll, LacksLimits};
-ghost use Rattle.command_line.specs.CommandLine.{HoldsResult};
+ghost use Rattle.command_line.specs.CommandLine.{AsksForTableOfAll, HoldsResult};
 ghost use Rattle.command_line.specs.CommandLine.{LacksForDifferences, LacksResult};
 ghost use Rattle.command_line.specs.CommandLine.{LacksForDirections, LacksForList, LacksStation};
 ghost use Rattle.command_line.specs.CommandLine.{LacksToCheck, LacksToCompare, LacksToMark};
 ghost use Rattle.command_line.specs.CommandLine.{LacksToChange, LacksToReport};
-ghost use Rattle.command_line.specs.Stated.{IsMissing, IsStatedForm, StatesFlag};
+ghost use Rattle.command_line.specs.Mistakes.{StandsBesideTable};
+ghost use Rattle.command_line.specs.Stated.{IsGiven, IsMissing, IsStatedForm, StatesFlag};
+ghost use Rattle.command_line.specs.Stated.{StatesNoColumns, StatesTableForm};
 ghost use Rattle.command_line.specs.StatedNotes.{StatesNotes};
 ghost use Rattle.command_line.specs.StatedNumbers.{StatesNumbers};
 
@@ -19,10 +21,10 @@ use crate::found::{
     beginnings_of, count_of, decimals_of, digests_of, form_of, has_flag, limits_of, residual_of,
     row_form_of, table_form_of, within_of,
 };
-use crate::mistakes::has_more_than_all;
+use crate::mistakes::{has_more_than_all, has_more_than_table};
 use crate::request::{
-    Digests, FieldStation, FieldStations, ListForm, Request, SheetCheck, StationText, StationsText,
-    TableBeside, TableText,
+    AllTableText, Digests, FieldStation, FieldStations, ListForm, Request, SheetCheck, StationText,
+    StationsBeside, StationsText, TableBeside, TableText,
 };
 use crate::stated_changes::changes_stated;
 use crate::stated_notes::{has_notes, notes_stated};
@@ -111,22 +113,62 @@ fn all_of<'a>(found: &ArgMatches<'a>) -> Option<FieldStations<&'a str>>
     })
 }
 
-fn compare_request<'a>(found: &ArgMatches<'a>) -> Option<Request<'a, &'a str, &'a str>>
-    ensures asked { IfSome result (AsksFor (codes "compare") (found_of found.now)) }
-    ensures none { IfNone result (LacksToCompare (found_of found.now)) }
+/// All stations and the one table of them that are asked for.
+fn table_of_all<'a>(found: &ArgMatches<'a>) -> Option<StationsBeside<&'a str>>
+    ensures asked { IfSome result (AsksForTableOfAll (found_of found.now)) }
+    ensures none { IfNone result (LacksResult (found_of found.now)
+        ⊎ StandsBesideTable (found_of found.now) ⊎ StatesNoColumns (found_of found.now)) }
+{
+    if has_more_than_table(found) {
+        return None;
+    }
+    Some(StationsBeside {
+        stations: FieldStations {
+            gsi: found.get_str(GSI)?,
+            limits: result_limits_of(found)?,
+        },
+        file: found.get_str(STATION)?,
+        form: table_form_of(found)?,
+    })
+}
+
+/// The station and its table that are asked for.
+fn table_of_one<'a>(found: &ArgMatches<'a>) -> Option<TableBeside<'a, &'a str>>
+    ensures station { IfSome result (λ beside. AsksForResult (found_of found.now) beside.station) }
+    ensures table { IfSome result (λ beside.
+        IsGiven (found_of found.now) (codes "TABLE") beside.file.now) }
+    ensures form { IfSome result (λ beside. StatesTableForm (found_of found.now) beside.form) }
+    ensures none { IfNone result (LacksResult (found_of found.now)
+        ⊎ IsMissing (found_of found.now) (codes "TABLE")
+        ⊎ StatesNoColumns (found_of found.now)) }
 {
     let Some(station) = result_of(found) else {
         return None;
     };
-    let beside = TableBeside {
+    Some(TableBeside {
         station,
         file: found.get_str(TABLE)?,
         form: table_form_of(found)?,
+    })
+}
+
+fn compare_request<'a>(found: &ArgMatches<'a>) -> Option<Request<'a, &'a str, &'a str>>
+    ensures asked { IfSome result (AsksFor (codes "compare") (found_of found.now)) }
+    ensures none { IfNone result (LacksToCompare (found_of found.now)) }
+{
+    let within = within_of(found)?;
+    if has_flag(found, ALL) {
+        let Some(beside) = table_of_all(found) else {
+            return None;
+        };
+        let text = AllTableText::Comparison { within };
+        return Some(Request::StationsTable { beside, text });
+    }
+    let Some(beside) = table_of_one(found) else {
+        return None;
     };
-    let text = TableText::Comparison {
-        within: within_of(found)?,
-        digests: digests_of(found),
-    };
+    let digests = digests_of(found);
+    let text = TableText::Comparison { within, digests };
     Some(Request::Table { beside, text })
 }
 
@@ -134,21 +176,29 @@ fn differences_request<'a>(found: &ArgMatches<'a>) -> Option<Request<'a, &'a str
     ensures asked { IfSome result (AsksFor (codes "differences") (found_of found.now)) }
     ensures none { IfNone result (LacksForDifferences (found_of found.now)) }
 {
-    let Some(station) = result_of(found) else {
+    let form = row_form_of(found);
+    if has_flag(found, ALL) {
+        let Some(beside) = table_of_all(found) else {
+            return None;
+        };
+        let text = AllTableText::Differences { form };
+        return Some(Request::StationsTable { beside, text });
+    }
+    let Some(beside) = table_of_one(found) else {
         return None;
     };
-    let beside = TableBeside {
-        station,
-        file: found.get_str(TABLE)?,
-        form: table_form_of(found)?,
-    };
-    let text = match (has_flag(found, JSON), row_form_of(found)) {
-        (false, form) => TableText::Differences { form },
-        (true, RowForm::Commas) => TableText::JsonLines,
+    match (has_flag(found, JSON), form) {
+        (false, form) => {
+            let text = TableText::Differences { form };
+            Some(Request::Table { beside, text })
+        }
+        (true, RowForm::Commas) => {
+            let text = TableText::JsonLines;
+            Some(Request::Table { beside, text })
+        }
         // Decimal commas, which JSON does not have.
-        (true, RowForm::Semicolons) => return None,
-    };
-    Some(Request::Table { beside, text })
+        (true, RowForm::Semicolons) => None,
+    }
 }
 
 fn directions_request<'a>(found: &ArgMatches<'a>) -> Option<Request<'a, &'a str, &'a str>>

@@ -3,7 +3,11 @@ use Rattle.std.specs.Prelude.{◌≡◌, ◌⊎◌, ℕ, true, List, Option, Som
 use Rattle.std.specs.Borrow.{Bor}
 use Rattle.book_answers.specs.Refusals.{named_refusal_text}
 use Rattle.book_answers.specs.Runs.{IsRunOfAll}
+use Rattle.book_answers.specs.Tables.{IsRunOfTable}
 use Rattle.book_answers.specs.declared.arrangement.Arrangement.TheVariants as arrangement
+use Rattle.book_answers.specs.declared.part.PartAsked.{PartAsked}
+use Rattle.book_answers.specs.declared.part.PartText.{PartText}
+use Rattle.book_answers.specs.declared.part.PartText.TheVariants as part
 use Rattle.changed_lines.specs.declared.change.Change.{Change}
 use Rattle.byte_ends.specs.Sink.{WriterChange}
 use Rattle.byte_ends.specs.Writers.{writer_change}
@@ -12,6 +16,8 @@ use Rattle.byte_ends.specs.Source.{Told}
 use Rattle.clap.specs.Words.{Text}
 use Rattle.clap.specs.declared.error.Error.{Error}
 use Rattle.command_line.specs.CommandLine.{Asked, IsAskedForBy, IsMistakeIn}
+use Rattle.command_line.specs.declared.request.AllTableText.{AllTableText}
+use Rattle.command_line.specs.declared.request.AllTableText.TheVariants as all_text
 use Rattle.command_line.specs.declared.request.Digests.{Digests}
 use Rattle.command_line.specs.declared.request.Digests.TheVariants as digests
 use Rattle.command_line.specs.declared.request.FieldStation.{FieldStation}
@@ -22,6 +28,7 @@ use Rattle.command_line.specs.declared.request.Request.TheVariants as request
 use Rattle.command_line.specs.declared.request.SheetCheck.{SheetCheck}
 use Rattle.command_line.specs.declared.request.StationText.{StationText}
 use Rattle.command_line.specs.declared.request.StationText.TheVariants as text
+use Rattle.command_line.specs.declared.request.StationsBeside.{StationsBeside}
 use Rattle.command_line.specs.declared.request.StationsText.{StationsText}
 use Rattle.command_line.specs.declared.request.StationsText.TheVariants as texts
 use Rattle.command_line.specs.declared.request.TableBeside.{TableBeside}
@@ -156,6 +163,23 @@ PrintsBeside files out err its (table_text.Report within digests.Printed notes) 
     RunTold {A = ⊤} (IsRecordedTableReport (asked_of its within notes)
     its.station.limits gsi table its.station.name.now) status out err))
 
+-- What is asked of each station and of its part of one table of all.
+abbrev pub part_text : AllTableText → PartText
+part_text (all_text.Comparison within) = part.Comparison within
+part_text (all_text.Differences rows) = part.Differences rows
+
+abbrev pub part_asked : {F : Type 0} → StationsBeside F → AllTableText → PartAsked
+part_asked its text = record { form = its.form; text = part_text text }
+
+-- A text of all stations of a field file and of one table of them was printed with this exit
+-- status.
+abbrev pub PrintsTableOfAll : {F : Type 0} → Readers F → WriterChange → WriterChange
+    → StationsBeside (NamedReader F) → AllTableText → ℕ → Type 0
+PrintsTableOfAll {F} files out err its text status =
+    (table' : F) × IsTakenIn files its.stations.gsi.reader (λ gsi. Run {A = ⊤} named_refusal_text
+    (IsRunOfTable (part_asked its text) its.stations.limits gsi
+    (change_of files its.file.reader table')) status out err)
+
 -- A copy with codes was made of a field file with this exit status: it went to `out`; or to a new
 -- file, and nothing is asked of `out`.
 abbrev pub MarksFile : {F N : Type 0} → Readers F → Ghosts N → WriterChange → WriterChange
@@ -197,6 +221,8 @@ IsRun files new_files inputs input faults out err (request.Stations stations tex
     PrintsStations files out err stations text status
 IsRun files new_files inputs input faults out err (request.Table beside text) status =
     PrintsBeside files out err beside text status
+IsRun files new_files inputs input faults out err (request.StationsTable beside text) status =
+    PrintsTableOfAll files out err beside text status
 IsRun files new_files inputs input faults out err (request.Mark gsi copy beginnings stated) status =
     MarksFile files new_files out err gsi copy beginnings (said_in stated) status
 IsRun files new_files inputs input faults out err (request.Change gsi copy changes) status =
@@ -251,6 +277,13 @@ IsOpenedBeside files known asked opened =
     IsOpenedStation files known asked.station opened.station
     × IsUnread files known asked.file.now opened.file × (opened.form ≡ asked.form)
 
+-- The same of all stations and one table of them.
+abbrev pub IsOpenedTableOfAll : {F : Type 0} → Readers F → (List ℕ → Option Told)
+    → StationsBeside (Bor (List ℕ)) → StationsBeside (NamedReader F) → Type 0
+IsOpenedTableOfAll files known asked opened =
+    IsOpenedStations files known asked.stations opened.stations
+    × IsUnread files known asked.file.now opened.file × (opened.form ≡ asked.form)
+
 -- The files of a request were opened, each the one of its path, which is its name, and all else of
 -- it is as it was asked for.
 abbrev pub IsOpened : {F N : Type 0} → Readers F → (List ℕ → Option Told) → Ghosts N
@@ -268,6 +301,9 @@ IsOpened files known new_files new (request.Stations stations text)
     IsOpenedStations files known stations stations' × (text' ≡ text)
 IsOpened files known new_files new (request.Table beside text) (request.Table beside' text') =
     IsOpenedBeside files known beside beside' × (text' ≡ text)
+IsOpened files known new_files new (request.StationsTable beside text)
+    (request.StationsTable beside' text') =
+    IsOpenedTableOfAll files known beside beside' × (text' ≡ text)
 IsOpened files known new_files new (request.Mark gsi copy beginnings stated)
     (request.Mark field_file copy' beginnings' stated') =
     IsUnread files known gsi.now field_file
@@ -305,6 +341,8 @@ NamesFirst files known (request.Station station text) path = path ≡ station.gs
 NamesFirst files known (request.Stations stations text) path = path ≡ stations.gsi.now
 NamesFirst files known (request.Table beside text) path =
     IsFirstOfTwo files known beside.station.gsi.now beside.file.now path
+NamesFirst files known (request.StationsTable beside text) path =
+    IsFirstOfTwo files known beside.stations.gsi.now beside.file.now path
 NamesFirst files known (request.Mark gsi copy beginnings stated) path = path ≡ gsi.now
 NamesFirst files known (request.Change gsi copy changes) path = path ≡ gsi.now
 NamesFirst files known (request.List gsi limits form) path = path ≡ gsi.now

@@ -4,7 +4,7 @@ ghost use Rattle.std.specs.Prelude.{◌≡◌, ◌≤◌, IfOk, IfErr, OnErr, op
 ghost use Rattle.byte_ends.specs.Writers.{writer_change};
 ghost use Rattle.command_run.specs.Answering.{IsAnswered, IsFirstOfTwo, IsOpened, IsOpenedCheck};
 ghost use Rattle.command_run.specs.Answering.{IsOpenedBeside, IsOpenedStation, IsOpenedStations};
-ghost use Rattle.command_run.specs.Answering.{IsRun};
+ghost use Rattle.command_run.specs.Answering.{IsOpenedTableOfAll, IsRun, PrintsTableOfAll};
 ghost use Rattle.command_line.specs.declared.request.Request.TheVariants as request;
 ghost use Rattle.command_run.specs.Answering.{ChangesFile, ChecksSheet, IsNewFile, IsPathFault};
 ghost use Rattle.command_run.specs.Answering.{NamesFirst};
@@ -17,12 +17,12 @@ use crate::explaining::run_explain;
 use crate::host::Host;
 use crate::new_file::NewFile;
 use crate::unopened::{PathFault, Unopened};
-use book_answers::{Arrangement, run_answer_of_all};
+use book_answers::{Arrangement, PartAsked, PartText, run_answer_of_all, run_table_answer_of_all};
 use byte_ends::{Failed, Sink, Source};
 use changed_lines::Change;
 use command_line::{
-    Digests, FieldStation, FieldStations, ListForm, Request, SheetCheck, StationText, StationsText,
-    TableBeside, TableText,
+    AllTableText, Digests, FieldStation, FieldStations, ListForm, Request, SheetCheck, StationText,
+    StationsBeside, StationsText, TableBeside, TableText,
 };
 use instrument_reports::{run_report, run_reports, run_table_report};
 use list_rows::run_list_rows;
@@ -125,6 +125,10 @@ fn open_files<'a, H: Host>(
         },
         Request::Table { beside, text } => Request::Table {
             beside: open_beside(host, &beside)?,
+            text,
+        },
+        Request::StationsTable { beside, text } => Request::StationsTable {
+            beside: open_table_of_all(host, &beside)?,
             text,
         },
         Request::Mark {
@@ -234,6 +238,29 @@ fn open_beside<'a, H: Host>(
     })
 }
 
+/// One table of all stations and the stations with their files open, the field file first.
+fn open_table_of_all<'a, H: Host>(
+    host: &H,
+    asked: &StationsBeside<&'a str>,
+) -> Result<StationsBeside<NamedReader<'a, H::File>>, Unopened<'a>>
+    ensures opened { IfOk result (IsOpenedTableOfAll
+        (readers H.File.told H.File.failed H.File.gave) (H.known_file host.now) asked.now) }
+    ensures unopened { IfErr result (λ unopened.
+        IsFirstOfTwo (readers H.File.told H.File.failed H.File.gave) (H.known_file host.now)
+        asked.now.stations.gsi.now asked.now.file.now unopened.path.now) }
+    ensures fails { IfErr result (λ unopened. H.may_not_open host.now unopened.path.now ≡ true) }
+{
+    let (gsi, file) = open_two(host, asked.stations.gsi, asked.file)?;
+    Ok(StationsBeside {
+        stations: FieldStations {
+            gsi,
+            limits: asked.stations.limits,
+        },
+        file,
+        form: asked.form,
+    })
+}
+
 /// The changes of lines of a field file with it open, and the new file of their copy.
 fn open_change<'a, H: Host>(
     host: &'a H,
@@ -326,6 +353,9 @@ fn run_request<'a, H: Host, W: Sink, E: Sink>(
         Request::Station { station, text } => print_station(alloc, station, text, out, err),
         Request::Stations { stations, text } => print_stations(alloc, stations, text, out, err),
         Request::Table { beside, text } => print_beside(alloc, beside, text, out, err),
+        Request::StationsTable { beside, text } => {
+            print_table_of_all(alloc, beside, text, out, err)
+        }
         Request::Mark {
             gsi,
             copy,
@@ -482,6 +512,49 @@ fn print_stations<F: Source, W: Sink, E: Sink>(
             run_answer_of_all(alloc, gsi.reader, limits, &asked, arrangement, out, err)
         }
     }
+}
+
+/// What is asked of each station and of its part of one table of all.
+fn part_text(text: AllTableText) -> PartText
+    ensures { result ≡ spec.part_text text }
+{
+    match text {
+        AllTableText::Comparison { within } => PartText::Comparison { within },
+        AllTableText::Differences { form } => PartText::Differences { rows: form },
+    }
+}
+
+/// Prints a text of all stations of a field file and of one table of them, and answers the exit
+/// status.
+fn print_table_of_all<F: Source, W: Sink, E: Sink>(
+    alloc: Global,
+    beside: StationsBeside<NamedReader<'_, F>>,
+    text: AllTableText,
+    out: &mut W,
+    err: &mut E,
+) -> u8
+    ensures status { result ≤ 1 }
+    ensures run { PrintsTableOfAll (readers F.told F.failed F.gave)
+        (writer_change W.Sink out.old out.new)
+        (writer_change E.Sink err.old err.new) beside.entry text result }
+{
+    let StationsBeside {
+        stations,
+        file: mut table,
+        form,
+    } = beside;
+    let FieldStations { gsi, limits } = stations;
+    let text = part_text(text);
+    let asked = PartAsked { form, text };
+    run_table_answer_of_all(
+        alloc,
+        gsi.reader,
+        &mut table.reader,
+        limits,
+        asked,
+        out,
+        err,
+    )
 }
 
 /// Prints a text of a station of a field file and of a table, and answers the exit status. The run

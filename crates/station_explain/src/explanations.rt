@@ -1131,8 +1131,9 @@ const TABLE_FAULTS: &[Explanation] = &[
         names: &["Unknown"],
         meaning: "a row of the table names no target of the station",
         when: "\
-The station has no target of the name in the first column of this row. Names are compared byte by
-byte. Blanks around a name are no part of it, unless a target's name has them.",
+The station has no target of the name in the first column of this row; or, with --all, no station
+of the file has the name with which it begins. Names are compared byte by byte. Blanks around a
+target's name are no part of it, unless the name has them.",
         example: "refused: table row 2: Unknown",
         remedy: "\
 See the names by 'station_check list GSI'. Capitals and small letters differ, and blanks

@@ -3,8 +3,9 @@ use Rattle.std.specs.Prelude.{MatchResult}
 use Rattle.byte_ends.proofs.Coming.{came_so}
 use Rattle.byte_ends.specs.Source.{Told}
 use Rattle.gsi_file.specs.FileAnswers.{file_answers}
-use Rattle.book_answers.proofs.FileLaws.{left_of_all, none_named, told_of_all}
+use Rattle.book_answers.proofs.FileLaws.{left_alone, left_of_all, none_named, told_of_all}
 use Rattle.book_answers.specs.Answers.{IsRefusedOfAll, StatesAll}
+use Rattle.book_answers.specs.OfStations.{IsRefusedOfOne}
 use Rattle.book_answers.specs.Refusals.{of_no_one}
 use Rattle.station_answers.proofs.AnswerLaws.{none_by_file}
 use Rattle.station_check.specs.NotedSurveys.{NotesSurvey}
@@ -36,7 +37,8 @@ returns g c =
             stations_are = survey.stations_are;
           })
           c.recall.ensures says arrangement (λ text. text.items) answer (search rules) told);
-      left = left_of_all says limits.residual found.0 _ answer _ told file.left;
+      left = left_of_all says (IsRefusedOfOne limits.residual) limits.residual found.0 _ answer _
+          (left_alone limits.residual _ file.left) told file.left;
     }
 
 pub returns-then-len-eq0 : goal.returns-then-len-eq0

@@ -10,12 +10,12 @@ use Rattle.book_answers.proofs.answering.text_of_stations.Goals.{in-Some+in_ok-o
 
 pub stations-init : goal.stations-init
 stations-init g c =
-    none_yet (g.A.StationAnswer.says c.args.asked.now c.args.limits) c.args.limits.residual
+    none_yet (g.E.EachAnswer.says c.args.asked.now c.args.limits) c.args.limits.residual
     c.args.arrangement _ (search rules)
 
 pub stations-preserved : goal.stations-preserved
 stations-preserved g c =
-    let says = g.A.StationAnswer.says c.args.asked.now c.args.limits in
+    let says = g.E.EachAnswer.says c.args.asked.now c.args.limits in
     let stations = c.args.stations.now in
     let place = c.stations.place in
     let a = c.args.arrangement in

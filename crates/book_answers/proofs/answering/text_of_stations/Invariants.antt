@@ -4,5 +4,5 @@ use Rattle.book_answers.proofs.answering.text_of_stations.Given as goal
 
 -- The text is that of the stations before the place.
 abbrev pub invariant-stations : goal.invariant-stations
-invariant-stations g l = IsOneText (g.A.StationAnswer.says l.fn.asked l.fn.limits)
+invariant-stations g l = IsOneText (g.E.EachAnswer.says l.fn.asked l.fn.limits)
     l.fn.limits.residual l.arrangement (take l.place l.stations) l.text.items

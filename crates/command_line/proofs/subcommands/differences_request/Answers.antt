@@ -1,13 +1,9 @@
-use Rattle.std.proofs.Common.{refl, rules}
+use Rattle.std.proofs.Common.{rules}
+use Rattle.clap.specs.Words.{found_of}
+use Rattle.command_line.proofs.TableLaws.{lacks-table}
 use Rattle.command_line.proofs.subcommands.differences_request.Goals as goal
-use Rattle.command_line.proofs.subcommands.differences_request.Goals.{in-true-Commas, in-false-default}
 
-pub returns-clause-asked : goal.returns-clause-asked
-returns-clause-asked c = (
-  search rules,
-  (search rules, search rules),
-  elim c.if-has_flag.branch [
-    | in-true-Commas w ↦ rw w.text-is (refl, search rules, search rules, search rules)
-    | in-false-default w ↦ rw w.text-is (refl, search rules, search rules, search rules)
-  ],
-)
+pub returns-in_default-table_of_one-clause-none : goal.returns-in_default-table_of_one-clause-none
+returns-in_default-table_of_one-clause-none c =
+    lacks-table (found_of c.args.found.now) _ (search rules)
+    c.in_default-table_of_one.ensures.none

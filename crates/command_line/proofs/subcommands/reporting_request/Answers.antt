@@ -8,7 +8,8 @@ pub returns-in-Lines-Some-default-default-default-default-clause-asked :
 returns-in-Lines-Some-default-default-default-default-clause-asked c = (
   search rules,
   (search rules, search rules),
-  (refl, search rules, search rules, search rules, search rules, search rules, search rules),
+  (refl, search rules, search rules, search rules, search rules, search rules),
+  search rules,
 )
 
 pub returns-in-Lines-None-None-false-default-default-clause-asked :

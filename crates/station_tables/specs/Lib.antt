@@ -1,0 +1,5 @@
+-- The public definitions, which public contracts cite, in the order in which a reader needs them.
+pub mod Lines
+pub mod Said
+pub mod Parts
+pub mod Strays
