@@ -21,7 +21,7 @@ SHARED := $(sort $(shell cd packaging && find share -type f))
 
 # The documents and the examples, as they lie in the repository, so that their links hold; those to
 # sources, which are not installed, become plain text.
-DOCUMENTS := README.md CHANGELOG.md capi/example.c $(sort $(wildcard docs/*.md docs/*.png)) \
+DOCUMENTS := README.md CHANGELOG.md capi/example.c $(sort $(wildcard docs/*.md docs/*.png docs/*.csv)) \
   $(sort $(wildcard examples/*.md examples/*.gsi examples/*.csv examples/*.txt examples/*.svg examples/*.py examples/*.html))
 DOCUMENT_FOLDER := share/doc/station_check
 UNLINKED = sed -E 's/\[([^][]*)\]\((\.\.\/)*((bench|conformance|crates|page|tests)\/[^)]*|HANDLES|crates\.txt)\)/\1/g'

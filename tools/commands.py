@@ -28,6 +28,7 @@ HEADING = re.compile(r"^(Usage|Commands|Arguments|Options|Exit status):", re.MUL
 # An option or an operand in a long help text, and what is said of it below.
 ENTRY = re.compile(r"^ +(?:-\w, )?(--[\w-]+|<\w+>|\[\w+\]\S*)(?: <([\w,=]+)>)?\n((?:^ {10}.*\n|^\s*\n)*)", re.MULTILINE)
 DEFAULT = re.compile(r"\s*\[default: (\w+)\]")
+POSSIBLE = re.compile(r"\s*\[possible values: [\w, ]+\]")
 RANGE = re.compile(r"(\d+) to (\d+)")
 
 # What stands for a limit, which may be stated in mgon.
@@ -92,7 +93,8 @@ def options_in(part: str) -> Iterator[Option]:
     for name, value, text in entries(part):
         if name not in GENERAL:
             usual = DEFAULT.search(text)
-            yield Option(name, value, DEFAULT.sub("", text), usual[1] if usual else None)
+            said = POSSIBLE.sub("", DEFAULT.sub("", text))
+            yield Option(name, value, said, usual[1] if usual else None)
 
 
 def command_of(program: Path, name: str, summary: str) -> Command:

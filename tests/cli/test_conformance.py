@@ -81,12 +81,13 @@ def renaming(text):
     return line_number(number), name.encode()
 
 
-def note(text):
-    """What is noted in a report, and of what."""
-    found = model.note_in(text.encode())
-    if found is None:
-        raise Mistake(text)
-    return found
+def notes_asked(asked):
+    """What a report is told to note, and in which language."""
+    language = model.LANGUAGES[asked.language or "en"]
+    lines = [model.note_in(text, language) for text in asked.note]
+    if None in lines:
+        raise Mistake(asked.note)
+    return model.ReportNotes(asked.date, lines, asked.signature, language)
 
 
 def command_line():
@@ -118,7 +119,8 @@ def command_line():
     parser.add_argument("--leave-out", action="append", type=line_number, default=[])
     parser.add_argument("--rename", action="append", type=renaming, default=[])
     parser.add_argument("--date", type=str.encode)
-    parser.add_argument("--note", action="append", type=note, default=[])
+    parser.add_argument("--note", action="append", type=str.encode, default=[])
+    parser.add_argument("--language", choices=model.LANGUAGES)
     parser.add_argument("--signature", action="store_true")
     parser.add_argument("command", nargs="?")
     parser.add_argument("operands", nargs="*")
@@ -174,6 +176,7 @@ def model_answer(case):
         asked = command_line().parse_intermixed_args(case.args)
         sets, own_sets = numbers(asked.sets, model.MOST_SETS)
         targets, own_targets = numbers(asked.targets, model.MOST_TARGETS)
+        notes = notes_asked(asked)
     except Mistake:
         return (2, b"", b"")
     if asked.residual is not None and asked.command not in HELD:
@@ -182,8 +185,8 @@ def model_answer(case):
         return (2, b"", b"")
     if asked.json and (asked.command != "differences" or asked.decimal_comma):
         return (2, b"", b"")
-    notes = model.ReportNotes(asked.date, asked.note, asked.signature)
-    if notes != model.ReportNotes() and (asked.command != "report" or asked.csv):
+    is_noted = asked.language or notes != model.ReportNotes()
+    if is_noted and (asked.command != "report" or asked.csv):
         return (2, b"", b"")
     limits, held = model.Limits(asked.two_c, asked.two_i), {"residual": asked.residual}
     formed = {"decimal_comma": asked.decimal_comma}
@@ -240,7 +243,8 @@ def model_answer(case):
         units = asked.within, form
         stated = model.ReportTable(names[1], files[1], *units, fails[1]) if asked.table else None
         report = model.reported(files[0], names[0], station, limits, fails[0], stated, **held, notes=notes)
-        return model.with_digests(report, *zip(names, files)) if asked.sha256 else report
+        recorded = partial(model.with_digests, report, *zip(names, files), language=notes.language)
+        return recorded() if asked.sha256 else report
     units = asked.within, form
     return model.compared(files[0], station, files[1], limits, *units, fails, **held)
 

@@ -1,11 +1,12 @@
 """The reports of stations: examples worked out by hand; the path and the limits as they were given; a
 table that agrees and one that is apart; a wrong direction that stands alone; digests beside those of
 `sha256sum`; paths that would add lines or control a terminal; readings across 0; the rows of `--csv`;
-generated stations and tables beside the model; what was typed. No line is wider than 78 bytes but
-those of paths, of notes and of what is missing, and none ends in a blank."""
+generated stations and tables beside the model; what was typed; German and French. No line is wider
+than 78 characters but those of paths, of notes and of what is missing, and none ends in a blank."""
 
 import subprocess
 import unittest
+from functools import partial
 from itertools import product
 from pathlib import Path
 from random import Random
@@ -170,13 +171,62 @@ class ReportTest(ProgramTest):
                     self.assertEqual(self.report_of(STATION, "--csv"), self.report_of(gsi, "--csv"))
 
     def test_a_label_of_the_head_is_no_note(self):
-        """Nor is one with blanks that would make its line that of the label."""
-        for label, form in product(model.OWN_LABELS, [b"%s", b"%s ", b"%-21s", b"%-22sS9", b" %s"]):
-            key = form % label
-            with self.subTest(key=key):
-                status, printed, said = answer_of(["report", b"--note=%s=x" % key, EXAMPLE, "S1"])
-                self.assertEqual((2, b""), (status, printed))
-                self.assertIn(b"invalid value '%s=x' for '--note <KEY=TEXT>'" % key, said)
+        """Nor is one with blanks that would make its line that of the label; but a label of another
+        language is."""
+        for code, language in model.LANGUAGES.items():
+            own = [language.said(label) for label in model.OWN_LABELS]
+            for label, form in product(own, [b"%s", b"%s ", b"%-21s", b"%-22sS9", b" %s"]):
+                key = form % label
+                args = ["report", b"--note=%s=x" % key, f"--language={code}", EXAMPLE, "S1"]
+                with self.subTest(key=key, code=code):
+                    status, printed, said = answer_of(args)
+                    self.assertEqual((2, b""), (status, printed))
+                    self.assertIn(b"invalid value '%s=x' for '--note <KEY=TEXT>'" % key, said)
+        for code, key in [("en", "Messdatei"), ("de", "Field file"), ("fr", "Sätze")]:
+            args = ["report", f"--note={key}=x", f"--language={code}", EXAMPLE, "S1"]
+            with self.subTest(key=key, code=code):
+                self.assertEqual((0, b""), answer_of(args)[::2])
+
+    def test_languages_beside_the_model(self):
+        """With a table, digests and notes, of stations that have gaps and that have nothing to
+        compare; and no line is wider than it may be."""
+        field, table = self.folder / "field.gsi", self.folder / "table.csv"
+        for place in range(STATIONS):
+            file = station_to_adjust(Random(f"{SEED} language {place}"))
+            field.write_bytes(file)
+            table.write_bytes(answer_of(["directions", field, "S1"])[1])
+            for code, language in model.LANGUAGES.items():
+                notes = model.ReportNotes(b"30.11.2026", [("Gerät".encode(), b"TS16")], True, language)
+                typed = ["--date=30.11.2026", "--note=Gerät=TS16", "--signature", f"--language={code}"]
+                stated = model.ReportTable(bytes(table), table.read_bytes())
+                report = partial(model.reported, file, bytes(field), b"S1", notes=notes)
+                files = (bytes(field), file), (bytes(table), stated.text)
+                recorded = model.with_digests(report(table=stated), *files, language=language)
+                with self.subTest(place, code=code):
+                    found = answer_of(["report", *typed, field, "S1"])
+                    self.assertEqual(report(), found)
+                    args = ["report", *typed, "--sha256", f"--table={table}", field, "S1"]
+                    self.assertEqual(recorded, answer_of(args))
+                    wider = language.said("in set") + b" "
+                    for line in found[1].splitlines()[3:]:
+                        if not line[22:].startswith(wider):
+                            self.assertLessEqual(len(line.decode()), WIDEST, line)
+                        self.assertEqual(line.rstrip(), line)
+
+    def test_a_language_is_of_a_report_to_read(self):
+        for args, said in [
+            (["report", "--language=it", EXAMPLE, "S1"], b"[possible values: en, de, fr]"),
+            (["report", "--csv", "--language=de", EXAMPLE, "S1"], b"'--csv' prints rows alone"),
+            (["list", "--language=de", EXAMPLE], b"unexpected argument '--language'"),
+        ]:
+            with self.subTest(args=args):
+                found = answer_of(args)
+                self.assertEqual((2, b""), found[:2])
+                self.assertIn(said, found[2])
+        _, english, _ = answer_of(["report", EXAMPLE, "S1"])
+        self.assertEqual(english, answer_of(["report", "--language=en", EXAMPLE, "S1"])[1])
+        german, one = [answer_of(["report", "--language=de", *of])[1] for of in [["--all", EXAMPLE], [EXAMPLE, "S1"]]]
+        self.assertEqual(one, german)
 
     def test_the_first_fault_is_named(self):
         for name, file, station, fault in FAULTS:

@@ -78,6 +78,7 @@ is_simple_rule argument.StatedTargets = refl
 is_simple_rule argument.Others = refl
 is_simple_rule argument.LeaveOut = refl
 is_simple_rule argument.Rename = refl
+is_simple_rule argument.Language = refl
 is_simple_rule argument.Date = refl
 is_simple_rule argument.Note = refl
 is_simple_rule argument.Signature = refl

@@ -75,6 +75,10 @@ leave_out_rule = texts_rule (codes "leave-out")
 abbrev pub rename_rule : Rule
 rename_rule = texts_rule (codes "rename")
 
+-- The option `--language CODE`, which may be left out: the language of a report.
+abbrev pub language_rule : Rule
+language_rule = text_rule (codes "language")
+
 -- The option `--date TEXT`, which may be left out: the date of a report.
 abbrev pub date_rule : Rule
 date_rule = text_rule (codes "date")
@@ -220,6 +224,7 @@ rule_for argument.StatedTargets = targets_rule
 rule_for argument.Others = others_rule
 rule_for argument.LeaveOut = leave_out_rule
 rule_for argument.Rename = rename_rule
+rule_for argument.Language = language_rule
 rule_for argument.Date = date_rule
 rule_for argument.Note = note_rule
 rule_for argument.Signature = signature_rule
@@ -257,8 +262,8 @@ abbrev pub report_words : Shape
 report_words = of_rules (codes "report")
     (field_file_rule ∷ optional_station_rule ∷ all_rule
     ∷ two_c_rule ∷ two_i_rule ∷ residual_rule
-    ∷ stated_table_rule ∷ degrees_rule ∷ dmmss_rule ∷ columns_rule ∷ within_rule ∷ date_rule
-    ∷ note_rule ∷ digests_rule ∷ signature_rule ∷ csv_rule ∷ decimal_comma_rule ∷ [])
+    ∷ stated_table_rule ∷ degrees_rule ∷ dmmss_rule ∷ columns_rule ∷ within_rule ∷ language_rule
+    ∷ date_rule ∷ note_rule ∷ digests_rule ∷ signature_rule ∷ csv_rule ∷ decimal_comma_rule ∷ [])
 
 -- `check GSI SHEET`
 abbrev pub check_words : Shape

@@ -12,7 +12,7 @@ use Rattle.command_line.specs.Stated.{StatesNoCode, StatesNoColumns, StatesUnit}
 use Rattle.changed_lines.specs.Stated.{IsFirstUnsaid}
 use Rattle.changed_lines.specs.declared.stated.EditKind.{EditKind}
 use Rattle.command_line.specs.StatedChanges.{change_form, change_name, change_place, change_why}
-use Rattle.command_line.specs.StatedNotes.{SpeaksOfNotes}
+use Rattle.command_line.specs.StatedNotes.{SpeaksOfNotes, language_stated}
 use Rattle.command_line.specs.StatedNumbers.{texts_of}
 use Rattle.report_notes.specs.Stated.{IsFirstUnnoted}
 use Rattle.job_statements.specs.WrongTexts.{IsFirstWrong}
@@ -52,7 +52,7 @@ abbrev pub IsOfOneReport : Found → Type 0
 IsOfOneReport found = HasOption found (codes "table") ⊎ HasOption found (codes "within")
     ⊎ HasForm found ⊎ StatesDigests found Printed
 
--- What may not stand beside rows is stated: that, or what a report notes.
+-- What may not stand beside rows is stated: that, or a language, or what a report notes.
 abbrev pub StandsBesideRows : Found → Type 0
 StandsBesideRows found = IsOfOneReport found ⊎ SpeaksOfNotes found
 
@@ -90,7 +90,8 @@ IsWrongChange found kind text = IsFirstUnsaid kind (texts_of found (change_name 
 
 -- This text of the option is the first that states no note.
 abbrev pub IsWrongNote : Found → List ℕ → Type 0
-IsWrongNote found text = IsFirstUnnoted (texts_of found (codes "note")) text
+IsWrongNote found text =
+    IsFirstUnnoted (language_stated found) (texts_of found (codes "note")) text
 
 -- This mistake is there: the text of an option is no limit; a text states no columns; JSON lines are
 -- asked for, and decimal commas; rows are asked for, and something beside them; the limit of a
@@ -212,7 +213,7 @@ mistake_text (mistake.Limit option text) =
     ++ codes " <LIMIT>': " ++ option_limits option
 mistake_text mistake.Rows =
     codes "'--csv' prints rows alone: not with '--table', how it is read, '--within', '--sha256', "
-    ++ codes "or what a report notes"
+    ++ codes "'--language', or what a report notes"
 mistake_text mistake.Within =
     codes "'--within <LIMIT>' limits how far a table may be off: name it with '--table <TABLE>'"
 mistake_text mistake.Form =

@@ -101,6 +101,9 @@ pub(crate) const LEAVE_OUT: &str = "leave-out";
 /// The option of the lines whose points have other names.
 pub(crate) const RENAME: &str = "rename";
 
+/// The option of the language of a report.
+pub(crate) const LANGUAGE: &str = "language";
+
 /// The option of the date of a report.
 pub(crate) const DATE: &str = "date";
 
@@ -212,6 +215,9 @@ pub(crate) enum Argument {
     /// The lines whose points have other names.
     Rename,
 
+    /// The language of a report.
+    Language,
+
     /// The date of a report.
     Date,
 
@@ -267,6 +273,7 @@ impl Argument {
             Argument::Others => flag(alloc, OTHERS),
             Argument::LeaveOut => many_texts(alloc, LEAVE_OUT, "N"),
             Argument::Rename => many_texts(alloc, RENAME, "N=NAME"),
+            Argument::Language => text_option(alloc, LANGUAGE, "CODE"),
             Argument::Date => text_option(alloc, DATE, "TEXT"),
             Argument::Note => many_texts(alloc, NOTE, "KEY=TEXT"),
             Argument::Signature => flag(alloc, SIGNATURE),
@@ -314,6 +321,7 @@ impl Argument {
                 "Leave stations that are not recognized outside, and mark the others",
             Argument::LeaveOut => "Leave out line N: once for each line",
             Argument::Rename => "Give the point of line N this name: once for each line",
+            Argument::Language => "Write the report in this language",
             Argument::Date => "Print this date in the head of the report",
             Argument::Note => "Print a line KEY with TEXT in the head of the report: once a line",
             Argument::Signature => "End the report with lines for a place, a date and a signature",
@@ -347,6 +355,7 @@ impl Argument {
             Argument::Others => help::OTHERS_LONG_HELP,
             Argument::LeaveOut => help::LEAVE_OUT_LONG_HELP,
             Argument::Rename => help::RENAME_LONG_HELP,
+            Argument::Language => help::LANGUAGE_LONG_HELP,
             Argument::Date => help::DATE_LONG_HELP,
             Argument::Note => help::NOTE_LONG_HELP,
             Argument::FieldFile

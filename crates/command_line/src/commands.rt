@@ -201,7 +201,7 @@ const DIRECTIONS: [Argument; 8] = [
 ];
 
 /// The arguments and options of `report`.
-const REPORT: [Argument; 17] = [
+const REPORT: [Argument; 18] = [
     Argument::FieldFile,
     Argument::OptionalStation,
     Argument::All,
@@ -213,6 +213,7 @@ const REPORT: [Argument; 17] = [
     Argument::MinutesAfterPoint,
     Argument::Columns,
     Argument::Within,
+    Argument::Language,
     Argument::Date,
     Argument::Note,
     Argument::Digests,

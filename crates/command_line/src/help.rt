@@ -373,6 +373,10 @@ state the number of a line, from 1, '=', and a name of 1 to 16 characters, from 
 pub const DATE_LONG_HELP: &str = "\
 Print this date in the head of the report, as it is typed. The program asks no clock";
 
+pub const LANGUAGE_LONG_HELP: &str = "\
+Write the report in English (en), in German (de) or in French (fr). The line of a verdict is
+in English in all of them, and numbers have points";
+
 pub const NOTE_LONG_HELP: &str = "\
 Print a line in the head of the report: KEY, and in the column of the head TEXT, as it is
 typed. It may be stated several times, and the lines stand in this order:
@@ -385,8 +389,8 @@ state KEY=TEXT, where KEY is not empty, has blanks one at a time and none at an 
 label that the head has of its own, as 'Station'";
 
 pub const ROWS_ALONE: &str = "\
-'--csv' prints rows alone: not with '--table', how it is read, '--within', '--sha256', or \
-what a report notes";
+'--csv' prints rows alone: not with '--table', how it is read, '--within', '--sha256', \
+'--language', or what a report notes";
 
 pub const COMMA_ALONE: &str = "\
 '--decimal-comma' says how rows are written: print rows with '--csv'";

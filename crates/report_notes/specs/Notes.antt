@@ -2,15 +2,18 @@
 use Rattle.std.specs.Prelude.{ℕ, Bool, false, List, [], map, Option, None, option_map}
 use Rattle.report_notes.specs.declared.notes.Note.{Note}
 use Rattle.report_notes.specs.declared.notes.Notes.{Notes}
+use Rattle.report_phrases.specs.declared.language.Language.{Language}
+use Rattle.report_phrases.specs.declared.language.Language.TheVariants.{English}
 
 -- A note: what it is of, and what is said of it.
 pub record NoteValue : Type 0 where
   pub key : List ℕ
   pub text : List ℕ
 
--- What a report notes: its date, where one is stated; its lines; and whether it ends with lines for
--- a place, a date and a signature.
+-- What a report notes: the language of its fixed phrases; its date, where one is stated; its lines;
+-- and whether it ends with lines for a place, a date and a signature.
 pub record NotesValue : Type 0 where
+  pub language : Language
   pub date : Option (List ℕ)
   pub lines : List NoteValue
   pub signature : Bool
@@ -22,11 +25,12 @@ note_value note = record { key = note.key.now; text = note.text.now }
 -- all of them
 abbrev pub notes_value : Notes → NotesValue
 notes_value notes = record {
+  language = notes.language;
   date = option_map (λ date. date.now) notes.date;
   lines = map note_value notes.lines.items;
   signature = notes.signature;
 }
 
--- What a report notes that is told to note nothing.
+-- What a report notes that is told to note nothing: it is in English.
 abbrev pub none_noted : NotesValue
-none_noted = record { date = None; lines = []; signature = false }
+none_noted = record { language = English; date = None; lines = []; signature = false }

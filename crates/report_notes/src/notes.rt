@@ -1,5 +1,7 @@
 //! The notes of a report.
 
+use report_phrases::Language;
+
 /// A line of the head of a report: what it is of, and what is said of it.
 #[derive(Clone, Copy, Debug, Drop)]
 pub struct Note<'a> {
@@ -9,9 +11,11 @@ pub struct Note<'a> {
     pub text: &'a str,
 }
 
-/// What a report is told to note.
+/// What a report is told to note, and in which language it is written.
 #[derive(Debug, Drop)]
 pub struct Notes<'a> {
+    /// The language of all its fixed phrases.
+    pub language: Language,
     /// Its date, as it was typed, where one is stated.
     pub date: Option<&'a str>,
     /// Its lines, in the order in which they were stated.

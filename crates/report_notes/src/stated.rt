@@ -1,13 +1,14 @@
 //! Notes that texts state, as those of an option of a command line.
 ghost use Rattle.std.specs.Prelude.{◌≡◌, ◌++◌, ◌∷◌, [], IfErr, IfNone, IfOk, IfSome, OnOk};
 ghost use Rattle.std.specs.Prelude.{true, false, map};
-ghost use Rattle.report_notes.specs.Stated.{AddsNote, AreNoted, AreUnnoted, IsFree, IsUnnoted};
-ghost use Rattle.report_notes.specs.Stated.{StatesNote};
+ghost use Rattle.report_notes.specs.Stated.{AddsNote, AreNoted, AreUnnoted, IsFree, IsOwnLabel};
+ghost use Rattle.report_notes.specs.Stated.{IsUnnoted, StatesNote};
 ghost use Rattle.report_notes.specs.Stated as spec;
 ghost use Rattle.report_notes.specs.declared.notes.Note.{Note};
 ghost use Rattle.report_notes.specs.declared.stated.Unnoted.TheVariants.{Memory};
 
 use crate::notes::Note;
+use report_phrases::{Language, Phrase};
 use std::alloc::{AllocError, Global};
 
 /// Why texts state no notes.
@@ -44,27 +45,39 @@ fn is_spaced(text: &[u8]) -> bool
     !after
 }
 
-/// Whether a note may be of this: it is not empty, it has blanks one at a time and inside alone, and
-/// it is no label that the head of a report has of its own.
-fn is_free(key: &str) -> bool
-    ensures yes { result ≡ true → IsFree key.now }
-    ensures no { result ≡ false → ¬ (IsFree key.now) }
+/// Whether the head of a report in a language has this label of its own.
+fn is_own_label(language: Language, label: &[u8]) -> bool
+    ensures yes { result ≡ true → IsOwnLabel language label.now }
+    ensures no { result ≡ false → ¬ (IsOwnLabel language label.now) }
 {
-    match key {
-        "Field file" | "Station" | "Date" | "Sets" | "Targets" => false,
-        "Two-face directions" | "Missing directions" => false,
-        "Limit of 2c" | "Limit of 2i" | "Limit of residuals" => false,
-        _ => is_spaced(key.as_bytes()),
-    }
+    label == Phrase::FieldFile.said(language)
+        || label == Phrase::Station.said(language)
+        || label == Phrase::Date.said(language)
+        || label == Phrase::Sets.said(language)
+        || label == Phrase::Targets.said(language)
+        || label == Phrase::TwoFaceDirections.said(language)
+        || label == Phrase::MissingDirections.said(language)
+        || label == Phrase::LimitOfTwoC.said(language)
+        || label == Phrase::LimitOfTwoI.said(language)
+        || label == Phrase::LimitOfResiduals.said(language)
+}
+
+/// Whether a note may be of this: it is not empty, it has blanks one at a time and inside alone, and
+/// it is no label that the head of a report in a language has of its own.
+fn is_free(language: Language, key: &[u8]) -> bool
+    ensures yes { result ≡ true → IsFree language key.now }
+    ensures no { result ≡ false → ¬ (IsFree language key.now) }
+{
+    is_spaced(key) && !is_own_label(language, key)
 }
 
 /// The note that a text `KEY=TEXT` states: what it is of stands before the first `=`.
-fn note_in(text: &str) -> Option<Note<'_>>
-    ensures note { IfSome result (StatesNote text.now) }
-    ensures none { IfNone result ((note : Note) → ¬ StatesNote text.now note) }
+fn note_in(language: Language, text: &str) -> Option<Note<'_>>
+    ensures note { IfSome result (StatesNote language text.now) }
+    ensures none { IfNone result ((note : Note) → ¬ StatesNote language text.now note) }
 {
     let (key, said) = text.split_once('=')?;
-    if is_free(key) {
+    if is_free(language, key.as_bytes()) {
         Some(Note { key, text: said })
     } else {
         None
@@ -80,11 +93,12 @@ fn push<'a>(notes: &mut Vec<Note<'a>>, note: Note<'a>) -> Result<(), AllocError>
 }
 
 /// Adds the note that a text states.
-fn add<'a>(notes: &mut Vec<Note<'a>>, text: &'a str) -> Result<(), Unnoted<'a>>
-    ensures added { IfOk result (λ _. AddsNote notes.old.items text.now notes.new.items) }
-    ensures why { IfErr result (IsUnnoted text.now) }
+fn add<'a>(language: Language, notes: &mut Vec<Note<'a>>, text: &'a str) -> Result<(), Unnoted<'a>>
+    ensures added { IfOk result
+        (λ _. AddsNote language notes.old.items text.now notes.new.items) }
+    ensures why { IfErr result (IsUnnoted language text.now) }
 {
-    match note_in(text) {
+    match note_in(language, text) {
         Some(note) => {
             push(notes, note)?;
             Ok(())
@@ -93,20 +107,25 @@ fn add<'a>(notes: &mut Vec<Note<'a>>, text: &'a str) -> Result<(), Unnoted<'a>>
     }
 }
 
-/// The notes that texts `KEY=TEXT` state, in the order in which they stand.
+/// The notes of a report in a language that texts `KEY=TEXT` state, in the order in which they
+/// stand.
 ///
 /// # Errors
 ///
 /// The first text that states none, which has no `=`, or before it nothing, a blank at an end or
-/// beside another, or a label of the head of a report; or that memory ran out.
-pub fn notes_of<'a>(alloc: Global, texts: &[&'a str]) -> Result<Vec<Note<'a>>, Unnoted<'a>>
+/// beside another, or a label of the head of such a report; or that memory ran out.
+pub fn notes_of<'a>(
+    alloc: Global,
+    language: Language,
+    texts: &[&'a str],
+) -> Result<Vec<Note<'a>>, Unnoted<'a>>
     ensures noted { IfOk result
-        (λ notes. AreNoted (map (λ text. text.now) texts.now) notes.items) }
-    ensures why { IfErr result (AreUnnoted (map (λ text. text.now) texts.now)) }
+        (λ notes. AreNoted language (map (λ text. text.now) texts.now) notes.items) }
+    ensures why { IfErr result (AreUnnoted language (map (λ text. text.now) texts.now)) }
 {
     let mut notes = Vec::new(alloc);
     for &text in texts {
-        add(&mut notes, text)?;
+        add(language, &mut notes, text)?;
     }
     Ok(notes)
 }

@@ -102,14 +102,17 @@ pub recorded_report : {T A : Type 0} (items : T → List ℕ) (head : ReportHead
     (HasNone limits file station) × IsHinted limits file station answer)) (d : List ℕ)
     → d ≡ sha256 a.came.given
     → (r : Result A Refusal) (out : WriterChange)
-    → PrintsAnswer (λ text. recorded_report_text (items text) d head.path) (unhinted Write) answer r out
+    → PrintsAnswer (λ text. recorded_report_text head.notes.language (items text) d head.path)
+    (unhinted Write) answer r out
     → IsRecordedReport head limits gsi station r out
 recorded_report items head limits gsi station (Ok text) a d is_d r out p = record {
   answer = Ok (items text);
   tells = record { came = a.came; left = a.left };
-  printed = subst (λ (t : List ℕ). PrintsAnswer (λ text. recorded_report_text text t head.path)
+  printed = subst (λ (t : List ℕ). PrintsAnswer
+      (λ text. recorded_report_text head.notes.language text t head.path)
       (unhinted Write) (Ok (items text)) r out) is_d
-      (printed_too items (λ text. recorded_report_text text d head.path) text r out p);
+      (printed_too items (λ text. recorded_report_text head.notes.language text d head.path) text
+      r out p);
 }
 recorded_report items head limits gsi station (Err refusal) a d is_d r out p = record {
   answer = Err refusal;

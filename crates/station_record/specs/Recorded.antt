@@ -1,5 +1,5 @@
 -- The runs that say which bytes they judged.
-use Rattle.std.specs.Prelude.{◌≡◌, ℕ, List, ◌++◌, Option, Result, codes}
+use Rattle.std.specs.Prelude.{◌≡◌, ℕ, List, ◌++◌, Option, Result}
 use Rattle.adjust_kernel.specs.declared.accepted.Accepted.{Accepted}
 use Rattle.byte_digests.specs.DigestLines.{digest_line}
 use Rattle.byte_ends.specs.Sink.{WriterChange}
@@ -7,6 +7,9 @@ use Rattle.byte_ends.specs.Source.{ReaderChange}
 use Rattle.direction_table.specs.declared.form.TableForm.{TableForm}
 use Rattle.gsi_file.specs.FileAnswers.{FileAnswers}
 use Rattle.instrument_reports.specs.Answers.{SaysReportOf, SaysTableReportOf}
+use Rattle.report_phrases.specs.Phrases.{said}
+use Rattle.report_phrases.specs.declared.language.Language.{Language}
+use Rattle.report_phrases.specs.declared.phrase.Phrase.TheVariants as phrase
 use Rattle.sha2.specs.Sha256.{sha256}
 use Rattle.station_answers.specs.Answers.{TellsOf}
 use Rattle.station_book.specs.Limits.{FaceLimits}
@@ -82,18 +85,15 @@ IsRecordedCompare form limits within station gsi gsi_name table table_name r not
     IsRecordedBoth (λ _. SaysComparison form within limits) (PrintsRecorded gsi_name table_name) form
     limits gsi table station r note out
 
--- The line above the digests of a report.
-abbrev pub digests_title : List ℕ
-digests_title = codes "\nSHA-256 digests of what was read, as sha256sum prints them\n\n"
-
--- The text of a report, and then its digest: that of its field file, beside its name.
-abbrev pub recorded_report_text : List ℕ → List ℕ → List ℕ → List ℕ
-recorded_report_text text gsi gsi_name = text ++ (digests_title ++ digest_line gsi gsi_name)
+-- The text of a report in a language, and then its digest: that of its field file, beside its name.
+abbrev pub recorded_report_text : Language → List ℕ → List ℕ → List ℕ → List ℕ
+recorded_report_text language text gsi gsi_name =
+    text ++ (said language phrase.Digests ++ digest_line gsi gsi_name)
 
 -- The same of a report with a table: the digests of the field file and of the table.
-abbrev pub recorded_both_text : List ℕ → List ℕ → List ℕ → List ℕ → List ℕ → List ℕ
-recorded_both_text text gsi gsi_name table table_name =
-    text ++ recorded_text digests_title gsi gsi_name table table_name
+abbrev pub recorded_both_text : Language → List ℕ → List ℕ → List ℕ → List ℕ → List ℕ → List ℕ
+recorded_both_text language text gsi gsi_name table table_name =
+    text ++ recorded_text (said language phrase.Digests) gsi gsi_name table table_name
 
 -- A run of the report that is recorded: all that the report promises of its text, with the hint of a
 -- refusal, and how it was printed. The digest is that of the very bytes that the reader gave and
@@ -105,15 +105,15 @@ pub record IsRecordedReport {A : Type 0} (head : ReportHead) (limits : ResultLim
   pub tells : ReadsFieldFile gsi (by_fault answer)
       (λ file. TellsOf (SaysReportOf file head limits) limits file station (by_fault answer)
       × IsHinted limits file station answer)
-  pub printed : PrintsAnswer (λ text. recorded_report_text text (sha256 tells.came.given) head.path)
-      (unhinted compare.Write) answer r out
+  pub printed : PrintsAnswer (λ text. recorded_report_text head.notes.language text
+      (sha256 tells.came.given) head.path) (unhinted compare.Write) answer r out
 
 -- What is made of a report with a table: its text and the digests, and its verdict.
 abbrev pub PrintsRecordedReport : {A : Type 0} → ReportAsked → List ℕ → List ℕ → ReportValue
     → Result A CompareFault → WriterChange → Type 0
 PrintsRecordedReport asked gsi table report r out =
-    PrintsVerdict (recorded_both_text report.text gsi asked.head.path table asked.table_path)
-    report.beyond r out
+    PrintsVerdict (recorded_both_text asked.head.notes.language report.text gsi asked.head.path
+    table asked.table_path) report.beyond r out
 
 -- A recorded run of the report with a table.
 abbrev pub IsRecordedTableReport : {A : Type 0} → ReportAsked → ResultLimits → ReaderChange

@@ -8,9 +8,7 @@ ghost use Rattle.station_record.specs.Recorded.{recorded_text};
 
 use byte_digests::write_digest_line;
 use byte_ends::{Failed, Sink};
-
-/// The line above the digests of a report.
-const DIGESTS_TITLE: &[u8] = b"\nSHA-256 digests of what was read, as sha256sum prints them\n\n";
+use report_phrases::{Language, Phrase};
 
 /// Writes the line of an answer and those of its two files, and flushes once.
 pub(crate) fn write_recorded<W: Sink>(
@@ -34,8 +32,9 @@ pub(crate) fn write_recorded<W: Sink>(
     out.flush()
 }
 
-/// Writes the text of a report and the line of its file, and flushes once.
+/// Writes the text of a report in a language and the line of its file, and flushes once.
 pub(crate) fn write_recorded_report<W: Sink>(
+    language: Language,
     text: &[u8],
     gsi: &[u8; 32],
     gsi_name: &[u8],
@@ -43,19 +42,20 @@ pub(crate) fn write_recorded_report<W: Sink>(
 ) -> Result<(), Failed>
     ensures failed { W.failed out.new ≡ failed_after (W.failed out.old) result }
     ensures ok { OnOk result (Appends (W.holds out.old) (W.holds out.new)
-        (recorded_report_text text.now gsi.now gsi_name.now)) }
+        (recorded_report_text language text.now gsi.now gsi_name.now)) }
     ensures flushed { OnOk result (W.flushed out.new ≡ true) }
     ensures cut_short { OnErr result (AppendsSome (W.holds out.old) (W.holds out.new)
-        (recorded_report_text text.now gsi.now gsi_name.now)) }
+        (recorded_report_text language text.now gsi.now gsi_name.now)) }
 {
     out.write_all(text)?;
-    out.write_all(DIGESTS_TITLE)?;
+    out.write_all(Phrase::Digests.said(language))?;
     write_digest_line(gsi, gsi_name, out)?;
     out.flush()
 }
 
-/// Writes the text of a report and the lines of its two files, and flushes once.
+/// Writes the text of a report in a language and the lines of its two files, and flushes once.
 pub(crate) fn write_recorded_both<W: Sink>(
+    language: Language,
     text: &[u8],
     gsi: &[u8; 32],
     gsi_name: &[u8],
@@ -65,11 +65,12 @@ pub(crate) fn write_recorded_both<W: Sink>(
 ) -> Result<(), Failed>
     ensures failed { W.failed out.new ≡ failed_after (W.failed out.old) result }
     ensures ok { OnOk result (Appends (W.holds out.old) (W.holds out.new)
-        (recorded_both_text text.now gsi.now gsi_name.now table.now table_name.now)) }
+        (recorded_both_text language text.now gsi.now gsi_name.now table.now table_name.now)) }
     ensures flushed { OnOk result (W.flushed out.new ≡ true) }
     ensures cut_short { OnErr result (AppendsSome (W.holds out.old) (W.holds out.new)
-        (recorded_both_text text.now gsi.now gsi_name.now table.now table_name.now)) }
+        (recorded_both_text language text.now gsi.now gsi_name.now table.now table_name.now)) }
 {
     out.write_all(text)?;
-    write_recorded(DIGESTS_TITLE, gsi, gsi_name, table, table_name, out)
+    let title = Phrase::Digests.said(language);
+    write_recorded(title, gsi, gsi_name, table, table_name, out)
 }

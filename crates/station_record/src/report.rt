@@ -17,6 +17,7 @@ use byte_ends::{Sink, Source};
 use instrument_reports::report_of;
 use station_book::ResultLimits;
 use station_compare::Refusal;
+use station_report::Head;
 use std::alloc::Global;
 
 /// Writes the report of a station as `run_report` does, and answers its exit status. After the text
@@ -41,7 +42,7 @@ pub fn run_report_recorded<R: Source, W: Sink, E: Sink>(
     let digested = Digesting::new(gsi.reader);
     let (answer, digested) = report_of(alloc, digested, station, limits, gsi.head);
     let digest = digested.digest();
-    let printed = print_report(answer, digest, gsi.head.path, out);
+    let printed = print_report(answer, digest, gsi.head, out);
     report(printed, err)
 }
 
@@ -49,13 +50,14 @@ pub fn run_report_recorded<R: Source, W: Sink, E: Sink>(
 fn print_report<W: Sink>(
     answer: Result<Vec<u8>, Refusal>,
     gsi: [u8; 32],
-    gsi_name: &[u8],
+    head: Head<'_, '_>,
     out: &mut W,
 ) -> Result<(), Refusal>
-    ensures { PrintsAnswer (λ text. recorded_report_text text.items gsi gsi_name.now)
+    ensures { PrintsAnswer (λ text. recorded_report_text (head_of head.entry).notes.language
+        text.items gsi head.entry.path.now)
         (unhinted Write) answer result (writer_change W.Sink out.old out.new) }
 {
     let text = answer?;
-    write_recorded_report(&text, &gsi, gsi_name, out)?;
+    write_recorded_report(head.language(), &text, &gsi, head.path, out)?;
     Ok(())
 }

@@ -4,6 +4,7 @@ ghost use Rattle.std.specs.Prelude.{⊤};
 ghost use Rattle.byte_ends.specs.Writers.{writer_change};
 ghost use Rattle.byte_ends.specs.Source.{UntilDropped};
 ghost use Rattle.station_record.specs.Recorded.{IsRecordedTableReport, recorded_both_text};
+ghost use Rattle.station_report.specs.NoteTexts.{head_of};
 ghost use Rattle.table_answers.specs.Printing.{PrintsVerdict};
 ghost use Rattle.table_answers.specs.Runs.{PrintsBeside};
 ghost use Rattle.table_answers.specs.Telling.{RunTold};
@@ -69,11 +70,13 @@ fn print_report<W: Sink>(
     out: &mut W,
 ) -> Result<(), Refusal>
     ensures { PrintsBeside (λ report. PrintsVerdict
-        (recorded_both_text report.text.items gsi asked.now.head.path.now table asked.now.table_path.now)
+        (recorded_both_text (head_of asked.now.head).notes.language report.text.items gsi
+        asked.now.head.path.now table asked.now.table_path.now)
         report.beyond) answer result (writer_change W.Sink out.old out.new) }
 {
     let report = answer?;
     write_recorded_both(
+        asked.head.language(),
         &report.text,
         &gsi,
         asked.head.path,

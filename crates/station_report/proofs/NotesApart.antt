@@ -1,16 +1,26 @@
 -- The line of a note is none that the head has under a label of its own.
 use Rattle.std.proofs.Common.{◌≡◌, ◌≢◌, ◌∙◌, ◌-◌, ◌<◌, ◌≤◌, ℕ, zero, suc, Bool, true, false, not}
 use Rattle.std.proofs.Common.{◌&&◌, ◌||◌, ◌==◌, List, [], ◌∷◌, ◌++◌, length, replicate, ap, arith}
+use Rattle.std.proofs.lemmas.Bool.{leb-true}
 use Rattle.std.proofs.Common.{append_assoc, codes, flat_map, inl, inr, refl, subst, sym}
+use Rattle.std.proofs.Common.{true≢false}
 use Rattle.std.proofs.lemmas.List.Sums.{count_by-le-length}
 use Rattle.std.specs.List.{list_any}
-use Rattle.std.specs.Prelude.{if◌then◌else◌}
+use Rattle.std.specs.Char.{encode_utf8}
+use Rattle.std.specs.Prelude.{if◌then◌else◌, nat_le}
 use Rattle.byte_digests.specs.DigestLines.{is_escaped}
 use Rattle.byte_digests.specs.NameTexts.{is_coded, name_text, shown}
-use Rattle.report_notes.specs.Stated.{IsFree, is_spaced}
-use Rattle.station_report.specs.NoteTexts.{IsOwnLabel, begins_character, characters_of, label_text}
-use Rattle.station_report.specs.NoteTexts.{note_text}
+use Rattle.report_notes.specs.Stated.{IsFree, IsOwnLabel, is_spaced}
+use Rattle.report_phrases.specs.Phrases.{said}
+use Rattle.report_phrases.specs.declared.language.Language.{Language}
+use Rattle.report_phrases.specs.declared.language.Language.TheVariants.{English, French, German}
+use Rattle.report_phrases.specs.declared.phrase.Phrase.TheVariants as phrase
+use Rattle.station_report.specs.NoteTexts.{begins_character, characters_of, label_text, note_text}
 use Rattle.station_report.specs.ReportTexts.{entry_text}
+
+and_left : (a b : Bool) → (a && b) ≡ true → a ≡ true
+and_left true b e = refl
+and_left false b e = absurd cc
 
 and_right : (a b : Bool) → (a && b) ≡ true → b ≡ true
 and_right true b e = e
@@ -106,21 +116,21 @@ all_shown (b ∷ name) e c =
     (or_right (is_coded b) (list_any is_coded name) c) in
     (λ i. first i ++ others i)
 
-module _ (label key said line rest : List ℕ) (first : ℕ) (after_first : List ℕ)
+module _ (label key words line rest : List ℕ) (first : ℕ) (after_first : List ℕ)
     (begins : label ≡ first ∷ after_first) (is_no_mark : first ≢ 92)
-    (spaced_label : is_spaced true label ≡ true) (short : length label ≤ 20)
+    (spaced_label : is_spaced true label ≡ true) (short : length label ≤ 21)
     (spaced_key : is_spaced true key ≡ true) (other : key ≢ label)
     (line_is : line ≡ label ++ (32 ∷ 32 ∷ rest)) where
   text : List ℕ
-  text = name_text said ++ codes "\n"
+  text = name_text words ++ codes "\n"
 
   -- The key stands for itself.
-  plain : name_text key ≡ key → note_text key said ≢ line
+  plain : name_text key ≡ key → note_text key words ≢ line
   unfolding text
   plain same e =
       let count = 21 - characters_of key in
       let blanks = blanks_first count text in
-      let there : note_text key said ≡ key ++ (32 ∷ blanks.0) =
+      let there : note_text key words ≡ key ++ (32 ∷ blanks.0) =
       ap (λ (k : List ℕ). label_text k ++ text) same
       ∙ (append_assoc key (replicate count 32 ++ codes " ") text
       ∙ ap (λ (l : List ℕ). key ++ l) blanks.1) in
@@ -129,7 +139,7 @@ module _ (label key said line rest : List ℕ) (first : ℕ) (after_first : List
       (λ h. blanks.2 (omega (arith, few, h, short))) (sym there ∙ (e ∙ line_is)))
 
   -- The key has a mark before it.
-  marked : (shown_key : List ℕ) → name_text key ≡ 92 ∷ shown_key → note_text key said ≢ line
+  marked : (shown_key : List ℕ) → name_text key ≡ 92 ∷ shown_key → note_text key words ≢ line
   unfolding text
   marked shown_key mark e =
       let there : label_text (92 ∷ shown_key) ++ text ≡ (first ∷ after_first) ++ (32 ∷ 32 ∷ rest) =
@@ -138,59 +148,91 @@ module _ (label key said line rest : List ℕ) (first : ℕ) (after_first : List
       let same : 92 ≡ first = cc in
       is_no_mark (sym same)
 
-  pub no_line : note_text key said ≢ line
+  pub no_line : note_text key words ≢ line
   no_line = by (list_any is_escaped key) (list_any is_coded key) refl refl
     where
       by : (a b : Bool) → list_any is_escaped key ≡ a → list_any is_coded key ≡ b
-          → note_text key said ≢ line
+          → note_text key words ≢ line
       by true b e c = marked (flat_map shown key) (rw (e) refl)
       by false true e c = marked (flat_map shown key) (rw (e, c) refl)
       by false false e c = plain (rw (e, c) (all_shown key e c))
 
-module _ (key said entry : List ℕ) (spaced_key : is_spaced true key ≡ true) where
-  -- A label of the head, by its first byte and what stands after it.
-  own : (first : ℕ) (after_first : List ℕ) → first ≢ 92
-      → is_spaced true (first ∷ after_first) ≡ true → length (first ∷ after_first) ≤ 20
-      → entry_text (first ∷ after_first) entry ≡ (first ∷ after_first)
-      ++ (32 ∷ 32 ∷ (replicate (20 - length (first ∷ after_first)) 32 ++ (entry ++ codes "\n")))
-      → (label : List ℕ) → label ≡ first ∷ after_first → key ≢ label
-      → note_text key said ≢ entry_text label entry
-  own first after_first is_no_mark spaced short line_is label is other =
-      let here : List ℕ = first ∷ after_first in
-      let rest : List ℕ = replicate (20 - length here) 32 ++ (entry ++ codes "\n") in
-      subst (λ (l : List ℕ). note_text key said ≢ entry_text l entry) (sym is)
-      (no_line here key said (entry_text here entry) rest first after_first refl is_no_mark spaced
-      short spaced_key (λ e. other (e ∙ sym is)) line_is)
+-- Whether a label is as those of the head: with blanks one at a time and inside alone, without a
+-- mark before it, and with room for two blanks after it.
+abbrev fits : List ℕ → Bool
+fits [] = false
+fits (byte ∷ label) =
+    not (byte == 92) && (is_spaced true (byte ∷ label) && (nat_le (length (byte ∷ label)) 21
+    && nat_le (characters_of (byte ∷ label)) 20))
 
-pub apart : (label key said entry : List ℕ) → IsOwnLabel label → IsFree key
-    → note_text key said ≢ entry_text label entry
-apart label key said entry (inl is) free =
-    own key said entry free.0 70 (codes "ield file") (λ e. omega (arith, e)) refl (omega arith) refl
-    label is (λ e. free.1 (e ∙ is))
-apart label key said entry (inr (inl is)) free =
-    own key said entry free.0 83 (codes "tation") (λ e. omega (arith, e)) refl (omega arith) refl
-    label is (λ e. free.2 (e ∙ is))
-apart label key said entry (inr (inr (inl is))) free =
-    own key said entry free.0 68 (codes "ate") (λ e. omega (arith, e)) refl (omega arith) refl
-    label is (λ e. free.3 (e ∙ is))
-apart label key said entry (inr (inr (inr (inl is)))) free =
-    own key said entry free.0 83 (codes "ets") (λ e. omega (arith, e)) refl (omega arith) refl
-    label is (λ e. free.4 (e ∙ is))
-apart label key said entry (inr (inr (inr (inr (inl is))))) free =
-    own key said entry free.0 84 (codes "argets") (λ e. omega (arith, e)) refl (omega arith) refl
-    label is (λ e. free.5 (e ∙ is))
-apart label key said entry (inr (inr (inr (inr (inr (inl is)))))) free =
-    own key said entry free.0 84 (codes "wo-face directions") (λ e. omega (arith, e)) refl
-    (omega arith) refl label is (λ e. free.6 (e ∙ is))
-apart label key said entry (inr (inr (inr (inr (inr (inr (inl is))))))) free =
-    own key said entry free.0 77 (codes "issing directions") (λ e. omega (arith, e)) refl
-    (omega arith) refl label is (λ e. free.7 (e ∙ is))
-apart label key said entry (inr (inr (inr (inr (inr (inr (inr (inl is)))))))) free =
-    own key said entry free.0 76 (codes "imit of 2c") (λ e. omega (arith, e)) refl (omega arith) refl
-    label is (λ e. free.8 (e ∙ is))
-apart label key said entry (inr (inr (inr (inr (inr (inr (inr (inr (inl is))))))))) free =
-    own key said entry free.0 76 (codes "imit of 2i") (λ e. omega (arith, e)) refl (omega arith) refl
-    label is (λ e. free.9 (e ∙ is))
-apart label key said entry (inr (inr (inr (inr (inr (inr (inr (inr (inr is))))))))) free =
-    own key said entry free.0 76 (codes "imit of residuals") (λ e. omega (arith, e)) refl
-    (omega arith) refl label is (λ e. free.10 (e ∙ is))
+not_true : (a : Bool) → not a ≡ true → a ≡ false
+not_true true e = absurd cc
+not_true false e = refl
+
+-- The line of a label that fits has two blanks after it.
+line_of : (label entry : List ℕ) → characters_of label ≤ 20
+    → (rest : List ℕ) × (entry_text label entry ≡ label ++ (32 ∷ 32 ∷ rest))
+line_of label entry few =
+    let text = entry ++ codes "\n" in
+    let count = 21 - characters_of label in
+    let blanks = blanks_first count text in
+    let two = blanks.2 (omega (arith, few)) in (
+      two.0,
+      append_assoc label (replicate count 32 ++ codes " ") text
+          ∙ ap (λ (l : List ℕ). label ++ l) (blanks.1 ∙ ap (λ (l : List ℕ). 32 ∷ l) two.1),
+    )
+
+own : (label key words entry : List ℕ) → fits label ≡ true → is_spaced true key ≡ true
+    → key ≢ label → note_text key words ≢ entry_text label entry
+own [] key words entry fit spaced other = absurd cc
+own (byte ∷ label) key words entry fit spaced other =
+    let here : List ℕ = byte ∷ label in
+    let narrow = nat_le (length here) 21 && nat_le (characters_of here) 20 in
+    let rest = and_right (not (byte == 92)) (is_spaced true here && narrow) fit in
+    let both = and_right (is_spaced true here) narrow rest in
+    let no_mark : (byte == 92) ≡ false =
+    not_true (byte == 92) (and_left (not (byte == 92)) (is_spaced true here && narrow) fit) in
+    let short : length here ≤ 21 = leb-true (length here) 21
+    (and_left (nat_le (length here) 21) (nat_le (characters_of here) 20) both) in
+    let few : characters_of here ≤ 20 = leb-true (characters_of here) 20
+    (and_right (nat_le (length here) 21) (nat_le (characters_of here) 20) both) in
+    let line = line_of here entry few in
+    no_line here key words (entry_text here entry) line.0 byte label refl
+    (λ e. true≢false (subst (λ (b : ℕ). (b == 92) ≡ false) e no_mark))
+    (and_left (is_spaced true here) narrow rest) short spaced other line.1
+
+-- All labels of the head fit, in each language.
+all_fit : (language : Language) → (fits (said language phrase.FieldFile) ≡ true)
+    × (fits (said language phrase.Station) ≡ true) × (fits (said language phrase.Date) ≡ true)
+    × (fits (said language phrase.Sets) ≡ true) × (fits (said language phrase.Targets) ≡ true)
+    × (fits (said language phrase.TwoFaceDirections) ≡ true)
+    × (fits (said language phrase.MissingDirections) ≡ true)
+    × (fits (said language phrase.LimitOfTwoC) ≡ true)
+    × (fits (said language phrase.LimitOfTwoI) ≡ true)
+    × (fits (said language phrase.LimitOfResiduals) ≡ true)
+unfolding encode_utf8
+all_fit English = (refl, refl, refl, refl, refl, refl, refl, refl, refl, refl)
+all_fit German = (refl, refl, refl, refl, refl, refl, refl, refl, refl, refl)
+all_fit French = (refl, refl, refl, refl, refl, refl, refl, refl, refl, refl)
+
+fit : (language : Language) (label : List ℕ) → IsOwnLabel language label → fits label ≡ true
+fit language label (inl is) = ap fits is ∙ (all_fit language).0
+fit language label (inr (inl is)) = ap fits is ∙ (all_fit language).1
+fit language label (inr (inr (inl is))) = ap fits is ∙ (all_fit language).2
+fit language label (inr (inr (inr (inl is)))) = ap fits is ∙ (all_fit language).3
+fit language label (inr (inr (inr (inr (inl is))))) = ap fits is ∙ (all_fit language).4
+fit language label (inr (inr (inr (inr (inr (inl is)))))) = ap fits is ∙ (all_fit language).5
+fit language label (inr (inr (inr (inr (inr (inr (inl is))))))) =
+    ap fits is ∙ (all_fit language).6
+fit language label (inr (inr (inr (inr (inr (inr (inr (inl is)))))))) =
+    ap fits is ∙ (all_fit language).7
+fit language label (inr (inr (inr (inr (inr (inr (inr (inr (inl is))))))))) =
+    ap fits is ∙ (all_fit language).8
+fit language label (inr (inr (inr (inr (inr (inr (inr (inr (inr is))))))))) =
+    ap fits is ∙ (all_fit language).9
+
+pub apart : (language : Language) (label key words entry : List ℕ) → IsOwnLabel language label
+    → IsFree language key → note_text key words ≢ entry_text label entry
+apart language label key words entry label_is free =
+    own label key words entry (fit language label label_is) free.0
+    (λ e. free.1 (subst (IsOwnLabel language) (sym e) label_is))

@@ -3,6 +3,9 @@ use Rattle.std.specs.Prelude.{ℕ, ◌*◌, ◌-◌, List, [], ◌++◌, length,
 use Rattle.std.specs.Prelude.{if◌then◌else◌}
 use Rattle.std.specs.Option.{option_map_or}
 use Rattle.adjust_kernel.specs.Stations.{StationValue}
+use Rattle.report_phrases.specs.Phrases.{said}
+use Rattle.report_phrases.specs.declared.language.Language.{Language}
+use Rattle.report_phrases.specs.declared.phrase.Phrase.TheVariants as phrase
 use Rattle.station_report.specs.Columns.{each_place, left_text}
 use Rattle.station_report.specs.Readings.{name_of, number_of, place_of}
 
@@ -21,11 +24,13 @@ abbrev pub lacking_sets : StationValue → ℕ → List ℕ
 lacking_sets station target = each_place (length station.sets) (lacking_number station target)
 
 -- the line of a target of this name, where some sets lack it
-abbrev pub gap_line : List ℕ → List ℕ → List ℕ
-gap_line name sets =
+abbrev pub gap_line : Language → List ℕ → List ℕ → List ℕ
+gap_line language name sets =
     if length sets == 0 then []
-    else codes "  " ++ (left_text 20 name ++ (codes "in set" ++ (sets ++ codes "\n")))
+    else codes "  " ++ (left_text 20 name
+    ++ (said language phrase.InSet ++ (sets ++ codes "\n")))
 
 -- the line of a target, by its place
-abbrev pub gaps_at : StationValue → ℕ → List ℕ
-gaps_at station target = gap_line (name_of station target) (lacking_sets station target)
+abbrev pub gaps_at : Language → StationValue → ℕ → List ℕ
+gaps_at language station target =
+    gap_line language (name_of station target) (lacking_sets station target)

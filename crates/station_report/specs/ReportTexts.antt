@@ -1,5 +1,6 @@
--- The text of a report (profile), in the order in which it is printed. Lines are at most 78 bytes
--- wide, which a page of A4 holds, but for the one that names the field file, and notes.
+-- The text of a report (profile), in the order in which it is printed. Its fixed phrases are those
+-- of its language. Lines are at most 78 characters wide, which a page of A4 holds, but for the one
+-- that names the field file, and notes.
 use Rattle.std.specs.Prelude.{ℕ, ◌+◌, ◌*◌, ◌/◌, ◌%◌, List, [], ◌++◌, length, codes, decimal, ℤ, pos}
 use Rattle.std.specs.Prelude.{Option, Some, None, slice_index_or, if◌then◌else◌, ◌==◌}
 use Rattle.std.specs.Prelude.{◌&&◌, nat_le, nat_lt}
@@ -9,6 +10,9 @@ use Rattle.angle_texts.specs.MgonTexts.{mgon_text, short_mgon_text, thousandths_
 use Rattle.byte_digests.specs.NameTexts.{name_text}
 use Rattle.direction_table.specs.Texts.{direction_text}
 use Rattle.adjust_kernel.specs.declared.units.TheConstants.{HALF_UNIT, UNIT}
+use Rattle.report_phrases.specs.Phrases.{said}
+use Rattle.report_phrases.specs.declared.language.Language.{Language}
+use Rattle.report_phrases.specs.declared.phrase.Phrase.TheVariants as phrase
 use Rattle.station_book.specs.declared.result_limits.ResultLimits.{ResultLimits}
 use Rattle.station_book.specs.Stations.{SurveyedStation}
 use Rattle.station_check.specs.declared.version.TheConstants.{VERSION}
@@ -17,6 +21,7 @@ use Rattle.station_report.specs.Deviations.{degrees_of}
 use Rattle.station_report.specs.FaceMeans.{half_mean_below, mean_below, spread_below}
 use Rattle.station_report.specs.GapTexts.{gaps_at, gaps_of}
 use Rattle.station_report.specs.NoteTexts.{ReportHead, notes_text, signature_text}
+use Rattle.station_report.specs.NoteTexts.{label_text as label_column}
 use Rattle.station_report.specs.Readings.{name_of, number_of, place_of, reading_one, reading_two}
 use Rattle.station_report.specs.Readings.{reduced, zenith_at, zenith_one, zenith_two}
 use Rattle.station_report.specs.Readings.{set_at, target_at, two_c_at, two_i_at, value_at}
@@ -34,9 +39,9 @@ read_text units = direction_text 5 (10_000 * units)
 abbrev pub mean_text : ℕ → List ℕ
 mean_text half_units = direction_text 6 (HALF_UNIT * half_units)
 
--- a line that says what something is: its name, in a column of 22, and the text
+-- a line that says what something is: its name, in a column of 22 characters, and the text
 abbrev pub entry_text : List ℕ → List ℕ → List ℕ
-entry_text name text = left_text 22 name ++ (text ++ codes "\n")
+entry_text name text = label_column name ++ (text ++ codes "\n")
 
 -- A line that names a file: the path, in which a line feed, a carriage return and a backslash are
 -- escaped as `sha256sum` escapes them, and each other control byte is a code, so that no path makes
@@ -45,26 +50,27 @@ abbrev pub file_text : List ℕ → List ℕ → List ℕ
 file_text name path = entry_text name (name_text path)
 
 -- the line of the program and its version, and an empty one
-abbrev pub title_text : List ℕ
-title_text =
-    codes "station_check " ++ (VERSION.now ++ codes ": report of the sets of a station\n\n")
+abbrev pub title_text : Language → List ℕ
+title_text language = codes "station_check " ++ (VERSION.now ++ said language phrase.Title)
 
 -- the program and its version, the field file, and the station
-abbrev pub named_text : List ℕ → StationValue → List ℕ
-named_text path station = title_text
-    ++ (file_text (codes "Field file") path ++ entry_text (codes "Station") station.name)
+abbrev pub named_text : Language → List ℕ → StationValue → List ℕ
+named_text language path station = title_text language
+    ++ (file_text (said language phrase.FieldFile) path
+    ++ entry_text (said language phrase.Station) station.name)
 
 -- how much was measured
-abbrev pub counts_text : StationValue → List ℕ
-counts_text station =
-    entry_text (codes "Sets") (decimal (length station.sets))
-    ++ (entry_text (codes "Targets") (decimal (length station.targets))
-    ++ entry_text (codes "Two-face directions") (decimal (length station.obs)))
+abbrev pub counts_text : Language → StationValue → List ℕ
+counts_text language station =
+    entry_text (said language phrase.Sets) (decimal (length station.sets))
+    ++ (entry_text (said language phrase.Targets) (decimal (length station.targets))
+    ++ entry_text (said language phrase.TwoFaceDirections) (decimal (length station.obs)))
 
 -- How many directions are missing; and a line of each target that some sets lack.
-abbrev pub gaps_text : StationValue → List ℕ
-gaps_text station = entry_text (codes "Missing directions") (decimal (gaps_of station))
-    ++ each_place (length station.targets) (gaps_at station)
+abbrev pub gaps_text : Language → StationValue → List ℕ
+gaps_text language station =
+    entry_text (said language phrase.MissingDirections) (decimal (gaps_of station))
+    ++ each_place (length station.targets) (gaps_at language station)
 
 -- a limit of residuals in mgon with three decimals: of half units
 abbrev pub residual_limit_text : ℕ → List ℕ
@@ -72,19 +78,22 @@ residual_limit_text half_units =
     thousandths_text (HALF_UNIT / UNIT * half_units) ++ codes " mgon"
 
 -- the limits of face differences, and that of residuals: each that was in force
-abbrev pub limits_text : ResultLimits → List ℕ
-limits_text limits =
-    entry_text (codes "Limit of 2c") (short_mgon_text (pos limits.faces.two_c) ++ codes " mgon")
-    ++ (entry_text (codes "Limit of 2i")
+abbrev pub limits_text : Language → ResultLimits → List ℕ
+limits_text language limits =
+    entry_text (said language phrase.LimitOfTwoC)
+    (short_mgon_text (pos limits.faces.two_c) ++ codes " mgon")
+    ++ (entry_text (said language phrase.LimitOfTwoI)
     (short_mgon_text (pos limits.faces.two_i) ++ codes " mgon")
-    ++ entry_text (codes "Limit of residuals") (residual_limit_text limits.residual))
+    ++ entry_text (said language phrase.LimitOfResiduals) (residual_limit_text limits.residual))
 
 -- The head: the program and its version, the field file as it was named, the station, what was told
 -- to note, how much was measured, what is missing, and the limits.
 abbrev pub head_text : ReportHead → ResultLimits → StationValue → List ℕ
 head_text head limits station =
-    named_text head.path station
-    ++ (notes_text head.notes ++ (counts_text station ++ (gaps_text station ++ limits_text limits)))
+    let language = head.notes.language in
+    named_text language head.path station
+    ++ (notes_text head.notes ++ (counts_text language station
+    ++ (gaps_text language station ++ limits_text language limits)))
 
 -- the number of the set of an observation, and the name of its target
 abbrev pub label_text : StationValue → ℕ → List ℕ
@@ -127,24 +136,23 @@ foot_line words two_c two_i =
     ++ (right_text 10 (short_mgon_text two_i) ++ codes "\n")))
 
 -- The means of 2c and of 2i, half of them, and how far each spreads.
-abbrev pub foot_text : SurveyedStation → List ℕ
-foot_text its =
+abbrev pub foot_text : Language → SurveyedStation → List ℕ
+foot_text language its =
     let count = length its.station.obs in
     codes "\n"
-    ++ (foot_line (codes "Mean")
+    ++ (foot_line (said language phrase.Mean)
     (mean_below count (two_c_at its)) (mean_below count (two_i_at its))
-    ++ (foot_line (codes "Half of the mean: collimation and index error")
+    ++ (foot_line (said language phrase.HalfOfMean)
     (half_mean_below count (two_c_at its)) (half_mean_below count (two_i_at its))
-    ++ foot_line (codes "Spread: the greatest less the least")
+    ++ foot_line (said language phrase.Spread)
     (spread_below count (two_c_at its)) (spread_below count (two_i_at its))))
 
 -- The readings, set by set, and what 2c and 2i have together.
-abbrev pub readings_text : SurveyedStation → List ℕ
-readings_text its =
-    codes "\nReadings in gon, mean of both faces counted from the first row of the set,\n"
-    ++ (codes "2c and 2i in mgon\n\n"
-    ++ (codes "  Set  Target               Face I    Face II         Mean        2c        2i\n"
-    ++ (each_place (length its.station.sets) (set_text its) ++ foot_text its)))
+abbrev pub readings_text : Language → SurveyedStation → List ℕ
+readings_text language its =
+    said language phrase.Readings
+    ++ (said language phrase.ReadingColumns
+    ++ (each_place (length its.station.sets) (set_text its) ++ foot_text language its))
 
 -- the zenith angles that were read in face I and in face II, and their mean
 abbrev pub zeniths_text : SurveyedStation → ℕ → List ℕ
@@ -190,18 +198,19 @@ zenith_mean_line its target =
     ++ zenith_numbers_text (zeniths_of its target))
 
 -- The means of zenith angles, target by target.
-abbrev pub zenith_means_text : SurveyedStation → List ℕ
-zenith_means_text its =
-    codes "\nMean of the sets of each target in gon, standard deviation of the mean in mgon\n\n"
-    ++ (codes "  Target            Sets         Mean  Standard deviation\n\n"
+abbrev pub zenith_means_text : Language → SurveyedStation → List ℕ
+zenith_means_text language its =
+    said language phrase.ZenithMeans
+    ++ (said language phrase.ZenithMeanColumns
     ++ each_place (length its.station.targets) (zenith_mean_line its))
 
 -- The zenith angles, set by set, and their means by target.
-abbrev pub zenith_angles_text : SurveyedStation → List ℕ
-zenith_angles_text its =
-    codes "\nZenith angles in gon, mean of both faces\n\n"
-    ++ (codes "  Set  Target               Face I    Face II         Mean\n"
-    ++ (each_place (length its.station.sets) (zenith_set_text its) ++ zenith_means_text its))
+abbrev pub zenith_angles_text : Language → SurveyedStation → List ℕ
+zenith_angles_text language its =
+    said language phrase.ZenithAngles
+    ++ (said language phrase.ZenithColumns
+    ++ (each_place (length its.station.sets) (zenith_set_text its)
+    ++ zenith_means_text language its))
 
 -- The line of a target: its name, and its adjusted direction.
 abbrev pub direction_line : StationValue → List ℕ → ℕ → List ℕ
@@ -210,10 +219,10 @@ direction_line station directions target =
     ++ (right_text 13 (direction_text 6 (slice_index_or directions target 0)) ++ codes "\n"))
 
 -- The adjusted directions, target by target.
-abbrev pub directions_text : StationValue → List ℕ → List ℕ
-directions_text station directions =
-    codes "\nAdjusted directions in gon, by least squares, counted from the first target\n\n"
-    ++ (codes "  Target              Direction\n\n"
+abbrev pub directions_text : Language → StationValue → List ℕ → List ℕ
+directions_text language station directions =
+    said language phrase.Directions
+    ++ (said language phrase.DirectionColumns
     ++ each_place (length station.targets) (direction_line station directions))
 
 -- the residual of a set and a target in mgon; a dash where the set has no such observation
@@ -234,9 +243,9 @@ number_columns station start =
     (λ set. column_text start set (decimal (number_of station set)))
 
 -- the line above the columns
-abbrev pub numbers_line : StationValue → ℕ → List ℕ
-numbers_line station start =
-    codes "\n  Target      Set " ++ (number_columns station start ++ codes "\n\n")
+abbrev pub numbers_line : Language → StationValue → ℕ → List ℕ
+numbers_line language station start =
+    said language phrase.ResidualColumns ++ (number_columns station start ++ codes "\n\n")
 
 -- the residuals of a target in these sets, in their columns
 abbrev pub cell_columns : StationValue → List AdjustedObs → ℕ → ℕ → List ℕ
@@ -251,83 +260,88 @@ residuals_line station rows start target =
     ++ (cell_columns station rows start target ++ codes "\n"))
 
 -- the residuals of seven sets from one on: their numbers, and a line for each target
-abbrev pub group_text : StationValue → List AdjustedObs → ℕ → List ℕ
-group_text station rows start =
-    numbers_line station start
+abbrev pub group_text : Language → StationValue → List AdjustedObs → ℕ → List ℕ
+group_text language station rows start =
+    numbers_line language station start
     ++ each_place (length station.targets) (residuals_line station rows start)
 
 -- the same, at each seventh set
-abbrev pub group_at : StationValue → List AdjustedObs → ℕ → List ℕ
-group_at station rows start = if start % 7 == 0 then group_text station rows start else []
+abbrev pub group_at : Language → StationValue → List AdjustedObs → ℕ → List ℕ
+group_at language station rows start =
+    if start % 7 == 0 then group_text language station rows start else []
 
 -- The residuals, a row for each target and a column for each set, seven sets beside each other.
-abbrev pub residuals_text : StationValue → List AdjustedObs → List ℕ
-residuals_text station rows =
-    codes "\nResiduals in mgon: adjusted direction less two-face direction\n"
-    ++ each_place (length station.sets) (group_at station rows)
+abbrev pub residuals_text : Language → StationValue → List AdjustedObs → List ℕ
+residuals_text language station rows =
+    said language phrase.Residuals
+    ++ each_place (length station.sets) (group_at language station rows)
 
 -- the set and the target of an observation
-abbrev pub place_text : StationValue → ℕ → List ℕ
-place_text station place =
+abbrev pub place_text : Language → StationValue → ℕ → List ℕ
+place_text language station place =
     decimal (number_of station (set_at station place))
-    ++ (codes ", target " ++ name_of station (target_at station place))
+    ++ (said language phrase.AndTarget ++ name_of station (target_at station place))
 
 -- the residual of an observation, with its set and its target
-abbrev pub greatest_text : StationValue → List AdjustedObs → ℕ → List ℕ
-greatest_text station rows place =
-    mgon_text (residual_at rows place) ++ (codes " mgon, set " ++ place_text station place)
+abbrev pub greatest_text : Language → StationValue → List AdjustedObs → ℕ → List ℕ
+greatest_text language station rows place =
+    mgon_text (residual_at rows place)
+    ++ (said language phrase.AndSet ++ place_text language station place)
 
 -- a sum of squares in mgon^2 with six decimals: of squares of 0.001 mgon
 abbrev pub squares_text : ℕ → List ℕ
 squares_text squares = direction_text 6 (1_000 * squares) ++ codes " mgon^2"
 
--- a standard deviation in mgon, and of what it is: of units of 0.001 mgon
+-- a standard deviation, its unit mgon and of what it is: of units of 0.001 mgon
 abbrev pub deviation_text : ℕ → List ℕ → List ℕ
-deviation_text units words = mgon_text (pos units) ++ (codes " mgon, of " ++ words)
+deviation_text units of_what = mgon_text (pos units) ++ of_what
 
 -- the standard deviation of each adjusted direction, if it is stated
-abbrev pub of_adjusted_text : Option ℕ → List ℕ
-of_adjusted_text None = codes "left out of adjusted directions: a set lacks a target"
-of_adjusted_text (Some units) = deviation_text units (codes "each adjusted direction")
+abbrev pub of_adjusted_text : Language → Option ℕ → List ℕ
+of_adjusted_text language None = said language phrase.NotOfAdjusted
+of_adjusted_text language (Some units) = deviation_text units (said language phrase.OfEachAdjusted)
 
 -- How accurate directions are: the sum of the squares of all residuals, the standard deviation of
 -- one two-face direction, and that of each adjusted direction.
-abbrev pub accuracy_text : Accuracy → List ℕ
-accuracy_text a =
-    entry_text (codes "Sum of squares [vv]") (squares_text a.squares)
-    ++ (entry_text (codes "Standard deviation")
-    (deviation_text a.of_one (codes "one two-face direction"))
-    ++ entry_text (codes "Standard deviation") (of_adjusted_text a.of_adjusted))
+abbrev pub accuracy_text : Language → Accuracy → List ℕ
+accuracy_text language a =
+    entry_text (said language phrase.SumOfSquares) (squares_text a.squares)
+    ++ (entry_text (said language phrase.StandardDeviation)
+    (deviation_text a.of_one (said language phrase.OfOneDirection))
+    ++ entry_text (said language phrase.StandardDeviation)
+    (of_adjusted_text language a.of_adjusted))
 
 -- The end: the greatest residual, the degrees of freedom, and the accuracy.
-abbrev pub end_text : StationValue → List AdjustedObs → ℕ → Accuracy → List ℕ
-end_text station rows greatest accuracy =
+abbrev pub end_text : Language → StationValue → List AdjustedObs → ℕ → Accuracy → List ℕ
+end_text language station rows greatest accuracy =
     codes "\n"
-    ++ (entry_text (codes "Greatest residual") (greatest_text station rows greatest)
-    ++ (entry_text (codes "Degrees of freedom") (decimal (degrees_of station))
-    ++ accuracy_text accuracy))
+    ++ (entry_text (said language phrase.GreatestResidual)
+    (greatest_text language station rows greatest)
+    ++ (entry_text (said language phrase.DegreesOfFreedom) (decimal (degrees_of station))
+    ++ accuracy_text language accuracy))
 
 -- What stands in place of residuals where no angle was measured twice: each would be 0, whatever was
 -- read.
-abbrev pub nothing_text : List ℕ
-nothing_text = codes "\n"
-    ++ entry_text (codes "Degrees of freedom")
-    (codes "0: no angle was measured twice, nothing to compare")
+abbrev pub nothing_text : Language → List ℕ
+nothing_text language = codes "\n"
+    ++ entry_text (said language phrase.DegreesOfFreedom) (said language phrase.NothingToCompare)
 
 -- What the sets say of each other: the residuals and the end; or that there is nothing to compare.
-abbrev pub agreement_text : StationValue → List AdjustedObs → ℕ → Option Accuracy → List ℕ
-agreement_text station rows greatest None = nothing_text
-agreement_text station rows greatest (Some accuracy) =
-    residuals_text station rows ++ end_text station rows greatest accuracy
+abbrev pub agreement_text : Language → StationValue → List AdjustedObs → ℕ → Option Accuracy
+    → List ℕ
+agreement_text language station rows greatest None = nothing_text language
+agreement_text language station rows greatest (Some accuracy) =
+    residuals_text language station rows ++ end_text language station rows greatest accuracy
 
 -- The report, with a section after the adjusted directions: that of a table beside them, or none.
 abbrev pub report_text : ReportHead → ResultLimits → SurveyedStation → List ℕ → List ℕ
     → List AdjustedObs → ℕ → Option Accuracy → List ℕ
 report_text head limits its directions section rows greatest accuracy =
+    let language = head.notes.language in
     head_text head limits its.station
-    ++ (readings_text its
-    ++ (zenith_angles_text its
-    ++ (directions_text its.station directions
+    ++ (readings_text language its
+    ++ (zenith_angles_text language its
+    ++ (directions_text language its.station directions
     ++ (section
-    ++ (agreement_text its.station rows greatest accuracy
-    ++ signature_text head.notes.signature)))))
+    ++ (agreement_text language its.station rows greatest accuracy
+    ++ signature_text head.notes)))))

@@ -4,9 +4,11 @@ ghost use Rattle.station_report.specs.Columns.{each_place};
 ghost use Rattle.station_report.specs.ReportTexts as spec;
 
 use crate::columns::{push_left, push_right};
+use crate::labels::push_phrase;
 use crate::places::name_of;
 use adjust_kernel::{LONGEST_NAME, Station};
 use angle_texts::push_gon;
+use report_phrases::{Language, Phrase};
 use std::alloc::{AllocError, Global};
 
 /// Adds the line of a target.
@@ -53,18 +55,17 @@ fn push_targets(
 pub(crate) fn push_directions(
     alloc: Global,
     text: &mut Vec<u8>,
+    language: Language,
     station: &Station,
     directions: &[u64],
 ) -> Result<(), AllocError>
     requires { length directions.now ≡ length station.now.targets }
     ensures { OnOk result (text.new.items ≡ text.old.items
-        ++ spec.directions_text station.now directions.now) }
+        ++ spec.directions_text language station.now directions.now) }
 {
     let mut field = Vec::new(alloc);
-    text.extend_from_slice(
-        b"\nAdjusted directions in gon, by least squares, counted from the first target\n\n",
-    )?;
-    text.extend_from_slice(b"  Target              Direction\n\n")?;
+    push_phrase(text, language, Phrase::Directions)?;
+    push_phrase(text, language, Phrase::DirectionColumns)?;
     push_targets(text, &mut field, station, directions)?;
     Ok(())
 }

@@ -1,6 +1,7 @@
 //! What the face differences of a station have together: the foot of their columns.
 ghost use Rattle.std.specs.Prelude.{◌≡◌, ◌<◌, ◌++◌, OnOk, length};
 ghost use Rattle.angle_texts.specs.MgonTexts.{hundredths_text, short_mgon_text, sign_text};
+ghost use Rattle.report_phrases.specs.Phrases.{said};
 ghost use Rattle.station_report.specs.Columns.{right_text};
 ghost use Rattle.station_report.specs.Readings.{two_c_at, two_i_at};
 ghost use Rattle.station_report.specs.ReportTexts as spec;
@@ -11,6 +12,7 @@ use crate::places::faces_at;
 use crate::together::Together;
 use angle_texts::digit;
 use itoa::Buffer;
+use report_phrases::{Language, Phrase};
 use station_book::Surveyed;
 use std::alloc::{AllocError, Global};
 
@@ -76,15 +78,16 @@ fn push_number(text: &mut Vec<u8>, field: &mut Vec<u8>, units: i64) -> Result<()
 fn push_line(
     text: &mut Vec<u8>,
     field: &mut Vec<u8>,
-    words: &[u8],
+    language: Language,
+    words: Phrase,
     two_c: i64,
     two_i: i64,
 ) -> Result<(), AllocError>
     ensures { OnOk result
-        (text.new.items ≡ text.old.items ++ spec.foot_line words.now two_c two_i) }
+        (text.new.items ≡ text.old.items ++ spec.foot_line (said language words) two_c two_i) }
 {
     text.extend_from_slice(b"  ")?;
-    push_left(text, WORDS, words)?;
+    push_left(text, WORDS, words.said(language))?;
     push_number(text, field, two_c)?;
     push_number(text, field, two_i)?;
     text.push(b'\n')?;
@@ -95,26 +98,37 @@ fn push_line(
 pub(crate) fn push_foot(
     text: &mut Vec<u8>,
     field: &mut Vec<u8>,
+    language: Language,
     surveyed: &Surveyed,
 ) -> Result<(), AllocError>
     requires { 0 < length surveyed.now.station.obs }
-    ensures { OnOk result (text.new.items ≡ text.old.items ++ spec.foot_text surveyed.now) }
+    ensures { OnOk result
+        (text.new.items ≡ text.old.items ++ spec.foot_text language surveyed.now) }
 {
     let count = surveyed.station().obs().len() as u32;
     let (two_c, two_i) = faces_together(surveyed);
     text.push(b'\n')?;
-    push_line(text, field, b"Mean", two_c.over(count), two_i.over(count))?;
     push_line(
         text,
         field,
-        b"Half of the mean: collimation and index error",
+        language,
+        Phrase::Mean,
+        two_c.over(count),
+        two_i.over(count),
+    )?;
+    push_line(
+        text,
+        field,
+        language,
+        Phrase::HalfOfMean,
         two_c.over(2 * count),
         two_i.over(2 * count),
     )?;
     push_line(
         text,
         field,
-        b"Spread: the greatest less the least",
+        language,
+        Phrase::Spread,
         two_c.spread(),
         two_i.spread(),
     )?;

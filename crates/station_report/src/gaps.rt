@@ -5,10 +5,12 @@ ghost use Rattle.station_report.specs.GapTexts as spec;
 ghost use Rattle.station_report.specs.ReportTexts.{gaps_text};
 
 use crate::columns::{push_count, push_left};
-use crate::head::{ENTRY_NAMES, push_counted};
+use crate::head::push_counted;
+use crate::labels::{ENTRY_NAMES, push_phrase};
 use crate::place_of::place_of;
 use crate::places::{name_of, number_of};
 use adjust_kernel::Station;
+use report_phrases::{Language, Phrase};
 use std::alloc::{AllocError, Global};
 
 /// What stands before the name of a target.
@@ -55,15 +57,21 @@ fn push_lacking_sets(text: &mut Vec<u8>, station: &Station, target: usize) -> Re
 }
 
 /// Adds the line of a target and of the sets that lack it, where some do.
-fn push_gap_line(text: &mut Vec<u8>, name: &[u8], sets: &[u8]) -> Result<(), AllocError>
-    ensures { OnOk result (text.new.items ≡ text.old.items ++ spec.gap_line name.now sets.now) }
+fn push_gap_line(
+    text: &mut Vec<u8>,
+    language: Language,
+    name: &[u8],
+    sets: &[u8],
+) -> Result<(), AllocError>
+    ensures { OnOk result
+        (text.new.items ≡ text.old.items ++ spec.gap_line language name.now sets.now) }
 {
     if sets.is_empty() {
         return Ok(());
     }
     text.extend_from_slice(INDENT)?;
     push_left(text, ENTRY_NAMES - INDENT.len(), name)?;
-    text.extend_from_slice(b"in set")?;
+    push_phrase(text, language, Phrase::InSet)?;
     text.extend_from_slice(sets)?;
     text.push(b'\n')?;
     Ok(())
@@ -73,16 +81,17 @@ fn push_gap_line(text: &mut Vec<u8>, name: &[u8], sets: &[u8]) -> Result<(), All
 fn push_gaps_at(
     text: &mut Vec<u8>,
     field: &mut Vec<u8>,
+    language: Language,
     station: &Station,
     target: usize,
 ) -> Result<(), AllocError>
     requires { target < length station.now.targets }
     ensures { OnOk result
-        (text.new.items ≡ text.old.items ++ spec.gaps_at station.now target) }
+        (text.new.items ≡ text.old.items ++ spec.gaps_at language station.now target) }
 {
     field.clear();
     push_lacking_sets(field, station, target)?;
-    push_gap_line(text, name_of(station, target).bytes(), field)?;
+    push_gap_line(text, language, name_of(station, target).bytes(), field)?;
     Ok(())
 }
 
@@ -90,13 +99,14 @@ fn push_gaps_at(
 fn push_gap_lines(
     text: &mut Vec<u8>,
     field: &mut Vec<u8>,
+    language: Language,
     station: &Station,
 ) -> Result<(), AllocError>
     ensures { OnOk result (text.new.items ≡ text.old.items
-        ++ each_place (length station.now.targets) (spec.gaps_at station.now)) }
+        ++ each_place (length station.now.targets) (spec.gaps_at language station.now)) }
 {
     for target in 0..station.targets().len() {
-        push_gaps_at(text, field, station, target)?;
+        push_gaps_at(text, field, language, station, target)?;
     }
     Ok(())
 }
@@ -105,12 +115,13 @@ fn push_gap_lines(
 pub(crate) fn push_gaps(
     alloc: Global,
     text: &mut Vec<u8>,
+    language: Language,
     station: &Station,
 ) -> Result<(), AllocError>
-    ensures { OnOk result (text.new.items ≡ text.old.items ++ gaps_text station.now) }
+    ensures { OnOk result (text.new.items ≡ text.old.items ++ gaps_text language station.now) }
 {
     let mut field = Vec::new(alloc);
-    push_counted(text, b"Missing directions", gaps_of(station))?;
-    push_gap_lines(text, &mut field, station)?;
+    push_counted(text, language, Phrase::MissingDirections, gaps_of(station))?;
+    push_gap_lines(text, &mut field, language, station)?;
     Ok(())
 }

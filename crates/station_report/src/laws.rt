@@ -7,8 +7,9 @@ ghost use Rattle.station_book.specs.Limits.{AreLimits, FaceLimits};
 ghost use Rattle.station_book.specs.Places.{History};
 ghost use Rattle.station_book.specs.Recorded.{IsRecordedWith};
 ghost use Rattle.station_book.specs.declared.faces.Faces.{Faces};
-ghost use Rattle.report_notes.specs.Stated.{IsFree};
-ghost use Rattle.station_report.specs.NoteTexts.{IsOwnLabel, note_text};
+ghost use Rattle.report_notes.specs.Stated.{IsFree, IsOwnLabel};
+ghost use Rattle.report_phrases.specs.declared.language.Language.{Language};
+ghost use Rattle.station_report.specs.NoteTexts.{note_text};
 ghost use Rattle.station_report.specs.ReportTexts.{entry_text};
 ghost use Rattle.station_report.specs.Readings.{reading_one, reading_two, zenith_mean};
 ghost use Rattle.station_report.specs.Readings.{zenith_one, zenith_two};
@@ -55,9 +56,9 @@ pub fn one_computed()
         → (ds ≡ es) × (rs ≡ ss) × (m ≡ n) × (d ≡ e) }
 {}
 
-/// No note that may be stated prints a line that the head has under a label of its own, whatever
-/// that line says.
+/// No note that may be stated in a language prints a line that the head has there under a label of
+/// its own, whatever that line says.
 pub fn notes_apart()
-    ensures { (label key said entry : List ℕ) → IsOwnLabel label → IsFree key
-        → note_text key said ≢ entry_text label entry }
+    ensures { (language : Language) (label key said entry : List ℕ) → IsOwnLabel language label
+        → IsFree language key → note_text key said ≢ entry_text label entry }
 {}

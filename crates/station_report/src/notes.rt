@@ -4,46 +4,18 @@ ghost use Rattle.report_notes.specs.Notes.{notes_value};
 ghost use Rattle.std.specs.List.{flat_map};
 ghost use Rattle.std.specs.Prelude.{map, option_map};
 ghost use Rattle.report_notes.specs.Notes.{note_value};
+ghost use Rattle.report_phrases.specs.Phrases.{said};
 ghost use Rattle.station_report.specs.NoteTexts as spec;
 
-use crate::columns::{push_blanks, push_left};
-use crate::head::ENTRY_NAMES;
+use crate::columns::push_left;
+use crate::labels::{ENTRY_NAMES, push_label};
 use byte_digests::push_name;
 use report_notes::{Note, Notes};
+use report_phrases::{Language, Phrase};
 use std::alloc::{AllocError, Global};
-
-/// The first byte of a character of UTF-8 is below this, or from [`FIRST_OF_MANY`] on.
-const FIRST_GOING_ON: u8 = 0x80;
-
-/// The least first byte of a character that has several.
-const FIRST_OF_MANY: u8 = 0xC0;
 
 /// A line to write on by hand.
 const LINE: &[u8] = b"________________________________________\n";
-
-/// Whether a byte begins a character.
-fn begins_character(byte: u8) -> bool
-    ensures { result ≡ spec.begins_character byte }
-{
-    byte < FIRST_GOING_ON || FIRST_OF_MANY <= byte
-}
-
-/// How many characters a text has.
-fn characters_of(text: &[u8]) -> usize
-    ensures { result ≡ spec.characters_of text.now }
-{
-    text.iter().filter(|byte| begins_character(**byte)).count()
-}
-
-/// Adds a label, in a column of characters that begins with it.
-fn push_label(text: &mut Vec<u8>, label: &[u8]) -> Result<(), AllocError>
-    ensures { OnOk result (text.new.items ≡ text.old.items ++ spec.label_text label.now) }
-{
-    text.extend_from_slice(label)?;
-    push_blanks(text, (ENTRY_NAMES - 1).saturating_sub(characters_of(label)))?;
-    text.push(b' ')?;
-    Ok(())
-}
 
 /// Adds the line of a note.
 fn push_note(
@@ -64,12 +36,17 @@ fn push_note(
 }
 
 /// Adds the line of the date, where one is stated.
-fn push_date(text: &mut Vec<u8>, field: &mut Vec<u8>, date: Option<&str>) -> Result<(), AllocError>
-    ensures { OnOk result (text.new.items
-        ≡ text.old.items ++ spec.date_text (option_map (λ date. date.now) date.entry)) }
+fn push_date(
+    text: &mut Vec<u8>,
+    field: &mut Vec<u8>,
+    language: Language,
+    date: Option<&str>,
+) -> Result<(), AllocError>
+    ensures { OnOk result (text.new.items ≡ text.old.items
+        ++ spec.date_text language (option_map (λ date. date.now) date.entry)) }
 {
     match date {
-        Some(date) => push_note(text, field, b"Date", date.as_bytes()),
+        Some(date) => push_note(text, field, Phrase::Date.said(language), date.as_bytes()),
         None => Ok(()),
     }
 }
@@ -99,7 +76,7 @@ fn push_noted(alloc: Global, text: &mut Vec<u8>, notes: &Notes<'_>) -> Result<()
         (text.new.items ≡ text.old.items ++ spec.notes_text (notes_value notes.now)) }
 {
     let mut field = Vec::new(alloc);
-    push_date(text, &mut field, notes.date)?;
+    push_date(text, &mut field, notes.language, notes.date)?;
     push_lines(text, &mut field, &notes.lines)?;
     Ok(())
 }
@@ -120,22 +97,33 @@ pub(crate) fn push_notes(
 }
 
 /// Adds a line to write on by hand.
-fn push_blank_line(text: &mut Vec<u8>, label: &[u8]) -> Result<(), AllocError>
-    ensures { OnOk result (text.new.items ≡ text.old.items ++ spec.blank_line label.now) }
+fn push_blank_line(text: &mut Vec<u8>, language: Language, label: Phrase) -> Result<(), AllocError>
+    ensures { OnOk result
+        (text.new.items ≡ text.old.items ++ spec.blank_line (said language label)) }
 {
     text.push(b'\n')?;
-    push_left(text, ENTRY_NAMES, label)?;
+    push_left(text, ENTRY_NAMES, label.said(language))?;
     text.extend_from_slice(LINE)?;
     Ok(())
 }
 
 /// Adds the lines for a place and a date, and for a signature.
-fn push_blank_lines(text: &mut Vec<u8>) -> Result<(), AllocError>
-    ensures { OnOk result (text.new.items ≡ text.old.items ++ spec.blank_lines) }
+fn push_blank_lines(text: &mut Vec<u8>, language: Language) -> Result<(), AllocError>
+    ensures { OnOk result (text.new.items ≡ text.old.items ++ spec.blank_lines language) }
 {
-    push_blank_line(text, b"Place, date")?;
-    push_blank_line(text, b"Signature")?;
+    push_blank_line(text, language, Phrase::PlaceAndDate)?;
+    push_blank_line(text, language, Phrase::Signature)?;
     Ok(())
+}
+
+/// The language of a report that notes this.
+pub(crate) fn language_of(notes: Option<&Notes<'_>>) -> Language
+    ensures { result ≡ (spec.noted notes.entry).language }
+{
+    match notes {
+        Some(notes) => notes.language,
+        None => Language::English,
+    }
 }
 
 /// Whether lines for a signature are asked for.
@@ -154,10 +142,10 @@ pub(crate) fn push_signature(
     notes: Option<&Notes<'_>>,
 ) -> Result<(), AllocError>
     ensures { OnOk result (text.new.items
-        ≡ text.old.items ++ spec.signature_text (spec.noted notes.entry).signature) }
+        ≡ text.old.items ++ spec.signature_text (spec.noted notes.entry)) }
 {
     if has_signature(notes) {
-        return push_blank_lines(text);
+        return push_blank_lines(text, language_of(notes));
     }
     Ok(())
 }

@@ -10,9 +10,11 @@ ghost use Rattle.angle_texts.specs.MgonTexts.{short_mgon_text};
 
 use crate::columns::{push_left, push_right, push_right_number};
 use crate::face_means::{DIFFERENCES, push_foot};
+use crate::labels::push_phrase;
 use crate::places::{faces_at, name_of, number_of, observation_at};
 use adjust_kernel::{HALF_UNIT, LONGEST_NAME, Station, TURN};
 use angle_texts::{push_gon, push_short_gon, push_short_mgon};
+use report_phrases::{Language, Phrase};
 use station_book::{CIRCLE, HALF_CIRCLE, Surveyed};
 use std::alloc::{AllocError, Global};
 
@@ -280,20 +282,17 @@ fn push_sets(text: &mut Vec<u8>, field: &mut Vec<u8>, surveyed: &Surveyed) -> Re
 pub(crate) fn push_readings(
     alloc: Global,
     text: &mut Vec<u8>,
+    language: Language,
     surveyed: &Surveyed,
 ) -> Result<(), AllocError>
     requires { 0 < length surveyed.now.station.obs }
-    ensures { OnOk result (text.new.items ≡ text.old.items ++ spec.readings_text surveyed.now) }
+    ensures { OnOk result
+        (text.new.items ≡ text.old.items ++ spec.readings_text language surveyed.now) }
 {
     let mut field = Vec::new(alloc);
-    text.extend_from_slice(
-        b"\nReadings in gon, mean of both faces counted from the first row of the set,\n",
-    )?;
-    text.extend_from_slice(b"2c and 2i in mgon\n\n")?;
-    text.extend_from_slice(
-        b"  Set  Target               Face I    Face II         Mean        2c        2i\n",
-    )?;
+    push_phrase(text, language, Phrase::Readings)?;
+    push_phrase(text, language, Phrase::ReadingColumns)?;
     push_sets(text, &mut field, surveyed)?;
-    push_foot(text, &mut field, surveyed)?;
+    push_foot(text, &mut field, language, surveyed)?;
     Ok(())
 }

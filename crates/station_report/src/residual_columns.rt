@@ -5,10 +5,12 @@ ghost use Rattle.station_report.specs.Readings as reading;
 ghost use Rattle.station_report.specs.ReportTexts as spec;
 
 use crate::columns::{push_left, push_right, push_right_number};
+use crate::labels::push_phrase;
 use crate::place_of::place_of;
 use crate::places::{name_of, number_of, residual_at};
 use adjust_kernel::{LONGEST_NAME, Station};
 use angle_texts::push_mgon;
+use report_phrases::{Language, Phrase};
 use station_results::AdjustedObs;
 use std::alloc::{AllocError, Global};
 
@@ -94,11 +96,16 @@ fn push_number_columns(
 }
 
 /// Adds the line of the numbers of seven sets from one on.
-fn push_numbers(text: &mut Vec<u8>, station: &Station, start: usize) -> Result<(), AllocError>
+fn push_numbers(
+    text: &mut Vec<u8>,
+    language: Language,
+    station: &Station,
+    start: usize,
+) -> Result<(), AllocError>
     ensures { OnOk result
-        (text.new.items ≡ text.old.items ++ spec.numbers_line station.now start) }
+        (text.new.items ≡ text.old.items ++ spec.numbers_line language station.now start) }
 {
-    text.extend_from_slice(b"\n  Target      Set ")?;
+    push_phrase(text, language, Phrase::ResidualColumns)?;
     push_number_columns(text, station, start)?;
     text.extend_from_slice(b"\n\n")?;
     Ok(())
@@ -167,15 +174,16 @@ fn push_lines(
 fn push_group(
     text: &mut Vec<u8>,
     field: &mut Vec<u8>,
+    language: Language,
     station: &Station,
     rows: &[AdjustedObs],
     start: usize,
 ) -> Result<(), AllocError>
     requires { length rows.now ≡ length station.now.obs }
     ensures { OnOk result
-        (text.new.items ≡ text.old.items ++ spec.group_text station.now rows.now start) }
+        (text.new.items ≡ text.old.items ++ spec.group_text language station.now rows.now start) }
 {
-    push_numbers(text, station, start)?;
+    push_numbers(text, language, station, start)?;
     push_lines(text, field, station, rows, start)?;
     Ok(())
 }
@@ -184,16 +192,17 @@ fn push_group(
 fn push_group_at(
     text: &mut Vec<u8>,
     field: &mut Vec<u8>,
+    language: Language,
     station: &Station,
     rows: &[AdjustedObs],
     start: usize,
 ) -> Result<(), AllocError>
     requires { length rows.now ≡ length station.now.obs }
     ensures { OnOk result
-        (text.new.items ≡ text.old.items ++ spec.group_at station.now rows.now start) }
+        (text.new.items ≡ text.old.items ++ spec.group_at language station.now rows.now start) }
 {
     if start % GROUP == 0 {
-        return push_group(text, field, station, rows, start);
+        return push_group(text, field, language, station, rows, start);
     }
     Ok(())
 }
@@ -202,15 +211,16 @@ fn push_group_at(
 fn push_groups(
     text: &mut Vec<u8>,
     field: &mut Vec<u8>,
+    language: Language,
     station: &Station,
     rows: &[AdjustedObs],
 ) -> Result<(), AllocError>
     requires { length rows.now ≡ length station.now.obs }
     ensures { OnOk result (text.new.items ≡ text.old.items
-        ++ each_place (length station.now.sets) (spec.group_at station.now rows.now)) }
+        ++ each_place (length station.now.sets) (spec.group_at language station.now rows.now)) }
 {
     for start in 0..station.sets().len() {
-        push_group_at(text, field, station, rows, start)?;
+        push_group_at(text, field, language, station, rows, start)?;
     }
     Ok(())
 }
@@ -219,15 +229,16 @@ fn push_groups(
 pub(crate) fn push_residuals(
     alloc: Global,
     text: &mut Vec<u8>,
+    language: Language,
     station: &Station,
     rows: &[AdjustedObs],
 ) -> Result<(), AllocError>
     requires { length rows.now ≡ length station.now.obs }
     ensures { OnOk result
-        (text.new.items ≡ text.old.items ++ spec.residuals_text station.now rows.now) }
+        (text.new.items ≡ text.old.items ++ spec.residuals_text language station.now rows.now) }
 {
     let mut field = Vec::new(alloc);
-    text.extend_from_slice(b"\nResiduals in mgon: adjusted direction less two-face direction\n")?;
-    push_groups(text, &mut field, station, rows)?;
+    push_phrase(text, language, Phrase::Residuals)?;
+    push_groups(text, &mut field, language, station, rows)?;
     Ok(())
 }

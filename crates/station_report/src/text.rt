@@ -33,16 +33,18 @@ pub(crate) fn text_of(
         computed.now.directions.items section.now computed.now.rows.items computed.now.greatest
         computed.now.accuracy) }
 {
+    let language = head.language();
     let station = surveyed.station();
     let mut text = Vec::new(alloc);
     push_head(alloc, &mut text, head, limits, station)?;
-    push_readings(alloc, &mut text, surveyed)?;
-    push_zenith_angles(alloc, &mut text, surveyed)?;
-    push_directions(alloc, &mut text, station, &computed.directions)?;
+    push_readings(alloc, &mut text, language, surveyed)?;
+    push_zenith_angles(alloc, &mut text, language, surveyed)?;
+    push_directions(alloc, &mut text, language, station, &computed.directions)?;
     text.extend_from_slice(section)?;
     push_agreement(
         alloc,
         &mut text,
+        language,
         station,
         &computed.rows,
         computed.greatest,

@@ -7,11 +7,13 @@ ghost use Rattle.station_report.specs.ZenithSums.{AreSumsOf};
 ghost use Rattle.station_report.specs.Zeniths.{zenith_of, zeniths_of};
 
 use crate::columns::{push_left, push_right, push_right_number};
+use crate::labels::push_phrase;
 use crate::places::{faces_at, name_of, observation_at};
 use crate::readings::zenith_mean;
 use crate::zenith_sums::ZenithSums;
 use adjust_kernel::{LONGEST_NAME, UNIT};
 use angle_texts::{push_gon, push_thousandths};
+use report_phrases::{Language, Phrase};
 use station_book::Surveyed;
 use std::alloc::AllocError;
 
@@ -138,15 +140,14 @@ fn push_targets(
 pub(crate) fn push_means(
     text: &mut Vec<u8>,
     field: &mut Vec<u8>,
+    language: Language,
     surveyed: &Surveyed,
 ) -> Result<(), AllocError>
     ensures { OnOk result
-        (text.new.items ≡ text.old.items ++ spec.zenith_means_text surveyed.now) }
+        (text.new.items ≡ text.old.items ++ spec.zenith_means_text language surveyed.now) }
 {
-    text.extend_from_slice(
-        b"\nMean of the sets of each target in gon, standard deviation of the mean in mgon\n\n",
-    )?;
-    text.extend_from_slice(b"  Target            Sets         Mean  Standard deviation\n\n")?;
+    push_phrase(text, language, Phrase::ZenithMeans)?;
+    push_phrase(text, language, Phrase::ZenithMeanColumns)?;
     push_targets(text, field, surveyed)?;
     Ok(())
 }

@@ -3,9 +3,11 @@ ghost use Rattle.std.specs.Prelude.{◌≡◌, ◌<◌, ◌++◌, OnOk, length};
 ghost use Rattle.station_report.specs.Columns.{each_place};
 ghost use Rattle.station_report.specs.ReportTexts as spec;
 
+use crate::labels::push_phrase;
 use crate::places::{faces_at, observation_at};
 use crate::readings::{push_label, push_mean, push_read, zenith_mean, zenith_one, zenith_two};
 use crate::zenith_means::push_means;
+use report_phrases::{Language, Phrase};
 use station_book::Surveyed;
 use std::alloc::{AllocError, Global};
 
@@ -109,15 +111,16 @@ fn push_sets(text: &mut Vec<u8>, field: &mut Vec<u8>, surveyed: &Surveyed) -> Re
 pub(crate) fn push_zenith_angles(
     alloc: Global,
     text: &mut Vec<u8>,
+    language: Language,
     surveyed: &Surveyed,
 ) -> Result<(), AllocError>
     ensures { OnOk result
-        (text.new.items ≡ text.old.items ++ spec.zenith_angles_text surveyed.now) }
+        (text.new.items ≡ text.old.items ++ spec.zenith_angles_text language surveyed.now) }
 {
     let mut field = Vec::new(alloc);
-    text.extend_from_slice(b"\nZenith angles in gon, mean of both faces\n\n")?;
-    text.extend_from_slice(b"  Set  Target               Face I    Face II         Mean\n")?;
+    push_phrase(text, language, Phrase::ZenithAngles)?;
+    push_phrase(text, language, Phrase::ZenithColumns)?;
     push_sets(text, &mut field, surveyed)?;
-    push_means(text, &mut field, surveyed)?;
+    push_means(text, &mut field, language, surveyed)?;
     Ok(())
 }

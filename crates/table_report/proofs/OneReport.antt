@@ -4,6 +4,7 @@ use Rattle.adjust_kernel.specs.Stations.{StationValue}
 use Rattle.direction_table.proofs.LawLemmas.{one_table}
 use Rattle.directions_apart.specs.Apart.{stated_by}
 use Rattle.least_directions.proofs.LeastLaws.{one_distance}
+use Rattle.report_phrases.specs.declared.language.Language.{Language}
 use Rattle.station_book.specs.Stations.{SurveyedStation}
 use Rattle.station_book.specs.declared.result_limits.ResultLimits.{ResultLimits}
 use Rattle.station_compare.specs.LimitInForce.{limit_in_force, off_in}
@@ -16,16 +17,18 @@ use Rattle.table_report.specs.Stating.{IsReportBeside, IsReportOfTable, IsSectio
 use Rattle.table_report.specs.Stating.{ReportValue, beyond_of}
 
 -- A section, and whether directions are apart, are one.
-one_section : (station : StationValue) (path : List ℕ) (directions : List ℤ) (off limit : ℕ)
-    (a b : List ℕ) (x y : Option HowFar) → IsSection station path directions off limit a x
-    → IsSection station path directions off limit b y → (a ≡ b) × (x ≡ y)
-one_section station path directions off limit a b x y p q =
+one_section : (language : Language) (station : StationValue) (path : List ℕ)
+    (directions : List ℤ) (off limit : ℕ) (a b : List ℕ) (x y : Option HowFar)
+    → IsSection language station path directions off limit a x
+    → IsSection language station path directions off limit b y → (a ≡ b) × (x ≡ y)
+one_section language station path directions off limit a b x y p q =
     let rows = one_list station directions p.rows q.rows p.compared q.compared in
     let apart = one_distance station (stated_by directions) off p.how_far.apart
     q.how_far.apart p.are_apart q.are_apart in
     let limits = p.held_to ∙ sym q.held_to in
     let how_far : p.how_far ≡ q.how_far = λ i. record { apart = apart i; limit = limits i } in (
-      p.section_is ∙ (λ i. section_text path station (rows i) (how_far i)) ∙ sym q.section_is,
+      p.section_is ∙ (λ i. section_text language path station (rows i) (how_far i))
+          ∙ sym q.section_is,
       p.beyond_is ∙ ap beyond_of how_far ∙ sym q.beyond_is,
     )
 
@@ -35,8 +38,8 @@ one_beside : (asked : ReportAsked) (limits : ResultLimits) (its : SurveyedStatio
     → IsReportBeside asked limits its directions off limit a
     → IsReportBeside asked limits its directions off limit b → a ≡ b
 one_beside asked limits its directions off limit a b p q =
-    let (section, beyond) = one_section its.station asked.table_path directions off limit p.section
-    q.section a.beyond b.beyond p.is_section q.is_section in
+    let (section, beyond) = one_section asked.head.notes.language its.station asked.table_path
+    directions off limit p.section q.section a.beyond b.beyond p.is_section q.is_section in
     let text = one_text asked.head limits its q.section a.text b.text
     (subst (λ (s : List ℕ). IsReportText asked.head limits its s a.text) section p.is_report)
     q.is_report in

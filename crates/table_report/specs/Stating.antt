@@ -10,6 +10,7 @@ use Rattle.direction_table.specs.Tables.{IsTableText}
 use Rattle.direction_table.specs.declared.form.TableForm.{TableForm}
 use Rattle.directions_apart.specs.Apart.{stated_by}
 use Rattle.least_directions.specs.LeastDirections.{AreApart}
+use Rattle.report_phrases.specs.declared.language.Language.{Language}
 use Rattle.station_book.specs.declared.result_limits.ResultLimits.{ResultLimits}
 use Rattle.station_book.specs.Stations.{SurveyedStation}
 use Rattle.station_compare.specs.LimitInForce.{limit_in_force, off_in}
@@ -39,10 +40,11 @@ pub record ReportValue : Type 0 where
 abbrev pub beyond_of : HowFar → Option HowFar
 beyond_of h = if nat_le h.apart h.limit then None else Some h
 
--- This is the section of stated directions beside their station, with this limit, where the numbers
--- of the table may be off from them by so many parts.
-pub record IsSection (station : StationValue) (path : List ℕ) (directions : List ℤ) (off limit : ℕ)
-    (section : List ℕ) (beyond : Option HowFar) : Type 0 where
+-- This is the section in a language of stated directions beside their station, with this limit,
+-- where the numbers of the table may be off from them by so many parts.
+pub record IsSection (language : Language) (station : StationValue) (path : List ℕ)
+    (directions : List ℤ) (off limit : ℕ) (section : List ℕ) (beyond : Option HowFar)
+    : Type 0 where
   -- The rows of the targets, with these directions and the least-squares ones, and their
   -- differences.
   pub rows : List TargetDifference
@@ -52,7 +54,7 @@ pub record IsSection (station : StationValue) (path : List ℕ) (directions : Li
   pub how_far : HowFar
   pub are_apart : AreApart station (stated_by directions) off how_far.apart
   pub held_to : how_far.limit ≡ limit
-  pub section_is : section ≡ section_text path station rows how_far
+  pub section_is : section ≡ section_text language path station rows how_far
   pub beyond_is : beyond ≡ beyond_of how_far
 
 -- This is the report of a station with these stated directions, from which the numbers of the table
@@ -60,8 +62,8 @@ pub record IsSection (station : StationValue) (path : List ℕ) (directions : Li
 pub record IsReportBeside (asked : ReportAsked) (limits : ResultLimits) (its : SurveyedStation)
     (directions : List ℤ) (off limit : ℕ) (report : ReportValue) : Type 0 where
   pub section : List ℕ
-  pub is_section : IsSection its.station asked.table_path directions off limit section
-      report.beyond
+  pub is_section : IsSection asked.head.notes.language its.station asked.table_path directions off
+      limit section report.beyond
   pub is_report : IsReportText asked.head limits its section report.text
 
 -- This is the report of a station with the directions that a table's bytes state. The limit is the

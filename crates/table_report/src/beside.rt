@@ -120,7 +120,8 @@ pub fn beside_by(
         limit: stated.limit,
     };
     let computed = computed_by(alloc, station, adjustment)?;
-    let section = section_text(alloc, asked.table_path, station, &rows, how_far)?;
+    let language = asked.head.language();
+    let section = section_text(alloc, language, asked.table_path, station, &rows, how_far)?;
     let report = text_by(alloc, asked.head, limits, surveyed, &computed, &section)?;
     Ok(Beside {
         rows,

@@ -4,34 +4,32 @@ ghost use Rattle.table_report.specs.Sections as spec;
 
 use adjust_kernel::{LONGEST_NAME, Station};
 use angle_texts::{push_mgon, push_thousandths};
+use report_phrases::{Language, Phrase};
 use station_compare::{HowFar, targets_word};
 use station_differences::{TargetDifference, are_short, median_of, push_from_median, push_stated};
-use station_report::{ENTRY_NAMES, push_count, push_file, push_left, push_right};
+use station_report::{push_count, push_file, push_label, push_left, push_phrase, push_right};
 use std::alloc::{AllocError, Global};
 
-/// The section of a table of this path, whose directions are so far apart from those of a station.
+/// The section in a language of a table of this path, whose directions are so far apart from those
+/// of a station.
 ///
 /// The only error is that memory was refused.
 pub(crate) fn section_text(
     alloc: Global,
+    language: Language,
     path: &[u8],
     station: &Station,
     rows: &[TargetDifference],
     how_far: HowFar,
 ) -> Result<Vec<u8>, AllocError>
     ensures { IfOk result (λ text. text.items
-        ≡ spec.section_text path.now station.now rows.now how_far) }
+        ≡ spec.section_text language path.now station.now rows.now how_far) }
 {
     let mut text = Vec::new(alloc);
-    text.extend_from_slice(
-        b"\nStated directions in gon, differences in mgon: stated less adjusted,\n",
-    )?;
-    text.extend_from_slice(b"after the best rotation\n\n")?;
-    text.extend_from_slice(
-        b"  Target                      Stated    Difference    From the median\n\n",
-    )?;
+    push_phrase(&mut text, language, Phrase::StatedDirections)?;
+    push_phrase(&mut text, language, Phrase::StatedColumns)?;
     push_targets(alloc, &mut text, rows)?;
-    push_end(&mut text, path, station, how_far)?;
+    push_end(&mut text, language, path, station, how_far)?;
     Ok(text)
 }
 
@@ -81,26 +79,28 @@ fn push_target(
 /// Adds the path of the table, the limit and the verdict.
 fn push_end(
     text: &mut Vec<u8>,
+    language: Language,
     path: &[u8],
     station: &Station,
     how_far: HowFar,
 ) -> Result<(), AllocError>
     ensures { OnOk result (text.new.items ≡ text.old.items
-        ++ spec.verdict_text path.now station.now how_far) }
+        ++ spec.verdict_text language path.now station.now how_far) }
 {
     text.push(b'\n')?;
-    push_file(text, b"Table", path)?;
-    push_limit(text, how_far.limit)?;
-    push_left(text, ENTRY_NAMES, b"Comparison")?;
+    push_file(text, language, Phrase::Table, path)?;
+    push_limit(text, language, how_far.limit)?;
+    push_label(text, Phrase::Comparison.said(language))?;
     push_verdict(text, station, how_far)?;
     Ok(())
 }
 
 /// Adds the line of the limit.
-fn push_limit(text: &mut Vec<u8>, limit: u32) -> Result<(), AllocError>
-    ensures { OnOk result (text.new.items ≡ text.old.items ++ spec.limit_text limit) }
+fn push_limit(text: &mut Vec<u8>, language: Language, limit: u32) -> Result<(), AllocError>
+    ensures { OnOk result
+        (text.new.items ≡ text.old.items ++ spec.limit_text language limit) }
 {
-    push_left(text, ENTRY_NAMES, b"Limit of differences")?;
+    push_label(text, Phrase::LimitOfDifferences.said(language))?;
     push_thousandths(text, limit)?;
     text.extend_from_slice(b" mgon\n")?;
     Ok(())

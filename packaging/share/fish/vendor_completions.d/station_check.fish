@@ -35,6 +35,7 @@ complete -c station_check -n '__fish_seen_subcommand_from differences' -l json -
 complete -c station_check -n '__fish_seen_subcommand_from directions report' -l all -d "Answer all stations of the file, in its order, in the place of one: of each what its own command prints"
 complete -c station_check -n '__fish_seen_subcommand_from directions' -l decimals -x -d "How many decimals of a gon a direction is written with: 1 to 8"
 complete -c station_check -n '__fish_seen_subcommand_from report' -l table -r -F -d "A table of directions, as 'compare' reads it, which stands beside the adjusted ones with the differences and whether it agrees"
+complete -c station_check -n '__fish_seen_subcommand_from report' -l language -x -d "Write the report in English (en), in German (de) or in French (fr)"
 complete -c station_check -n '__fish_seen_subcommand_from report' -l date -x -d "Print this date in the head of the report, as it is typed"
 complete -c station_check -n '__fish_seen_subcommand_from report' -l note -x -d "Print a line in the head of the report: KEY, and in the column of the head TEXT, as it is typed"
 complete -c station_check -n '__fish_seen_subcommand_from report' -l signature -d "End the report with lines for a place, a date and a signature"

@@ -11,10 +11,10 @@ pub returns-clause-ok : goal.returns-clause-ok
 returns-clause-ok g c =
     so_ok c.write_recorded.result
     (λ last. Appends-trans _ _ _ c.args.text.now _ c.in_ok-write_all.ensures.ok last)
-    c.write_recorded.ensures.ok
+    (rw c.said-title.ensures at c.write_recorded.ensures.ok)
 
 pub returns-clause-cut_short : goal.returns-clause-cut_short
 returns-clause-cut_short g c =
     so_err c.write_recorded.result
     (λ last. then_some _ _ _ c.args.text.now _ c.in_ok-write_all.ensures.ok last)
-    c.write_recorded.ensures.cut_short
+    (rw c.said-title.ensures at c.write_recorded.ensures.cut_short)

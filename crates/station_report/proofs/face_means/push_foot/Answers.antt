@@ -3,6 +3,8 @@ use Rattle.std.proofs.Common.{to_z, of_z}
 use Rattle.std.specs.Int.{w64}
 use Rattle.std.proofs.lemmas.Int.{to_z-of_z}
 use Rattle.adjust_kernel.specs.Stations.{StationValue}
+use Rattle.report_phrases.specs.Phrases.{said}
+use Rattle.report_phrases.specs.declared.phrase.Phrase.TheVariants as phrase
 use Rattle.station_report.specs.FaceMeans.{half_mean_below, mean_below, rounded_over, spread_below}
 use Rattle.station_report.specs.Readings.{two_c_at, two_i_at}
 use Rattle.station_report.specs.ReportTexts.{foot_line}
@@ -25,6 +27,7 @@ over-requires-4-clause-bound c =
 pub returns : goal.returns
 returns c =
     let its = c.args.surveyed.now in
+    let language = c.args.language in
     let count = length its.station.obs in
     let counted : length c.obs.result.now ≡ count =
     ap length c.obs.ensures.value
@@ -49,21 +52,22 @@ returns c =
     let spread_i : to_z w64 (of_z w64 c.spread-2.result) ≡ spread_below count (two_i_at its) =
     to_z-of_z w64 c.spread-2.result (record { sfits = c.spread-2.type_inv })
     ∙ c.spread-2.ensures ∙ (λ i. two_i.greatest i -ℤ two_i.least i) in
-    let mean = foot_line (codes "Mean") (mean_below count (two_c_at its))
+    let mean = foot_line (said language phrase.Mean) (mean_below count (two_c_at its))
     (mean_below count (two_i_at its)) in
-    let half = foot_line (codes "Half of the mean: collimation and index error")
+    let half = foot_line (said language phrase.HalfOfMean)
     (half_mean_below count (two_c_at its)) (half_mean_below count (two_i_at its)) in
-    let spread = foot_line (codes "Spread: the greatest less the least")
+    let spread = foot_line (said language phrase.Spread)
     (spread_below count (two_c_at its)) (spread_below count (two_i_at its)) in
     let last = two c.push_line.new.text.items c.push_line-2.new.text.items
     c.push_line-3.new.text.items half spread
     (c.in_ok-push_line-2.ensures
     ∙ (λ i. c.push_line.new.text.items
-    ++ foot_line (codes "Half of the mean: collimation and index error") (half_c i) (half_i i)))
+    ++ foot_line (said language phrase.HalfOfMean) (half_c i) (half_i i)))
     (c.in_ok-push_line-3.ensures
     ∙ (λ i. c.push_line-2.new.text.items
-    ++ foot_line (codes "Spread: the greatest less the least") (spread_c i) (spread_i i))) in
+    ++ foot_line (said language phrase.Spread) (spread_c i) (spread_i i))) in
     three c.args.text.now.items c.push.new.self.items c.push_line.new.text.items
     c.push_line-3.new.text.items (codes "\n") mean (half ++ spread) c.in_ok-push.ensures.items
     (c.in_ok-push_line.ensures
-    ∙ (λ i. c.push.new.self.items ++ foot_line (codes "Mean") (mean_c i) (mean_i i))) last
+    ∙ (λ i. c.push.new.self.items
+    ++ foot_line (said language phrase.Mean) (mean_c i) (mean_i i))) last

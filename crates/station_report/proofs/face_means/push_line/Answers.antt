@@ -2,6 +2,7 @@ use Rattle.std.proofs.Common.{◌++◌, codes, FitsSigned}
 use Rattle.std.specs.Int.{w64}
 use Rattle.std.proofs.lemmas.Int.{to_z-of_z}
 use Rattle.angle_texts.specs.MgonTexts.{short_mgon_text}
+use Rattle.report_phrases.specs.Phrases.{said}
 use Rattle.station_report.specs.Columns.{left_text, right_text}
 use Rattle.station_report.proofs.PlaceLaws.{three}
 use Rattle.station_report.proofs.face_means.push_line.Goals as goal
@@ -10,7 +11,7 @@ pub returns : goal.returns
 returns c =
     let two_c_fits : FitsSigned w64 c.args.two_c = c.ranges.two_c in
     let two_i_fits : FitsSigned w64 c.args.two_i = c.ranges.two_i in
-    let words = left_text 56 c.args.words.now in
+    let words = left_text 56 (said c.args.language c.args.words) in
     let two_c = right_text 10 (short_mgon_text c.args.two_c) in
     let two_i = right_text 10 (short_mgon_text c.args.two_i) in
     let last = three c.push_left.new.text.items c.push_number.new.text.items
@@ -20,4 +21,5 @@ returns c =
     c.in_ok-push.ensures.items in
     three c.args.text.now.items c.extend_from_slice.new.self.items c.push_left.new.text.items
     c.push.new.self.items (codes "  ") words (two_c ++ (two_i ++ codes "\n"))
-    c.in_ok-extend_from_slice.ensures.items c.in_ok-push_left.ensures.added last
+    c.in_ok-extend_from_slice.ensures.items
+    (rw c.said.ensures at c.in_ok-push_left.ensures.added) last

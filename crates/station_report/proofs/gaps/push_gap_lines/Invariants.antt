@@ -5,4 +5,4 @@ use Rattle.station_report.proofs.gaps.push_gap_lines.Given as goal
 
 abbrev pub invariant-loop-target : goal.invariant-loop-target
 invariant-loop-target l =
-    l.text.items ≡ l.fn.text.items ++ each_place l.target (gaps_at l.fn.station)
+    l.text.items ≡ l.fn.text.items ++ each_place l.target (gaps_at l.fn.language l.fn.station)

@@ -6,7 +6,8 @@ use Rattle.station_report.proofs.residual_columns.push_groups.Goals as goal
 pub loop-start-preserved : goal.loop-start-preserved
 loop-start-preserved c =
     push_place c.args.text.now.items c.loop-start.text.items c.push_group_at.new.text.items
-    c.loop-start.start (group_at c.args.station.now c.args.rows.now) c.loop-start.invariant
+    c.loop-start.start (group_at c.args.language c.args.station.now c.args.rows.now)
+    c.loop-start.invariant
     c.in_ok-push_group_at.ensures
 
 pub returns : goal.returns
@@ -15,5 +16,6 @@ returns c =
     let count : c.loop-start.start ≡ length c.args.station.now.sets =
     omega (arith, counted, c.loop-start-test.false, c.loop-start.auto.start-end) in
     all_places c.args.text.now.items c.loop-start.text.items c.loop-start.start
-    (length c.args.station.now.sets) (group_at c.args.station.now c.args.rows.now) count
+    (length c.args.station.now.sets)
+    (group_at c.args.language c.args.station.now c.args.rows.now) count
     c.loop-start.invariant

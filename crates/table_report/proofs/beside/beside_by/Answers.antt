@@ -42,7 +42,7 @@ returns-clause-report c =
             (stated_by stated.directions.now) stated.off c.apart_of.result
             (rw c.requires.each at c.apart_of.ensures.apart);
         held_to = refl;
-        section_is = rw (c.station-station.ensures, c.deref.ensures.value) at
+        section_is = rw (c.language-language.ensures, c.station-station.ensures, c.deref.ensures.value) at
             c.in_ok-section.ensures;
         beyond_is = refl;
       };

@@ -1,0 +1,2 @@
+-- The public definitions.
+pub mod Phrases
