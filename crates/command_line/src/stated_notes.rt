@@ -54,6 +54,7 @@ pub(crate) fn notes_stated<'a>(
             date: found.get_str(DATE),
             lines,
             signature: has_flag(found, SIGNATURE),
+            pages: false,
         })),
         Err(Unnoted::Memory) => Err(AllocError),
         Err(Unnoted::Wrong(_)) => Ok(None),

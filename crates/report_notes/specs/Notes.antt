@@ -11,12 +11,13 @@ pub record NoteValue : Type 0 where
   pub text : List ℕ
 
 -- What a report notes: the language of its fixed phrases; its date, where one is stated; its lines;
--- and whether it ends with lines for a place, a date and a signature.
+-- whether it ends with lines for a place, a date and a signature; and whether it is divided into pages.
 pub record NotesValue : Type 0 where
   pub language : Language
   pub date : Option (List ℕ)
   pub lines : List NoteValue
   pub signature : Bool
+  pub pages : Bool
 
 -- a note
 abbrev pub note_value : Note → NoteValue
@@ -29,8 +30,9 @@ notes_value notes = record {
   date = option_map (λ date. date.now) notes.date;
   lines = map note_value notes.lines.items;
   signature = notes.signature;
+  pages = notes.pages;
 }
 
 -- What a report notes that is told to note nothing: it is in English.
 abbrev pub none_noted : NotesValue
-none_noted = record { language = English; date = None; lines = []; signature = false }
+none_noted = record { language = English; date = None; lines = []; signature = false; pages = false }

@@ -22,4 +22,6 @@ pub struct Notes<'a> {
     pub lines: Vec<Note<'a>>,
     /// Whether it ends with lines for a place, a date and a signature.
     pub signature: bool,
+    /// Whether it is divided into pages, each of which says of what it is.
+    pub pages: bool,
 }
