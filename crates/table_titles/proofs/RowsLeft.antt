@@ -1,8 +1,8 @@
 -- The rows that a reader has left, among which the row of titles is looked for.
 use Rattle.std.proofs.Common.{◌≡◌, ◌∙◌, ℕ, zero, suc, ◌+◌, ◌<◌, ◌≤◌, true, false, List, [], ◌∷◌}
 use Rattle.std.proofs.Common.{◌++◌, length, length-append, Option, Some, None, refl, sym, ap, arith}
-use Rattle.std.proofs.Common.{inl, inr, subst}
-use Rattle.std.specs.Prelude.{find}
+use Rattle.std.proofs.Common.{inl, inr}
+use Rattle.std.specs.Prelude.{find, unwrap_or}
 use Rattle.std.proofs.lemmas.Bool.{cases_Bool}
 use Rattle.std.proofs.lemmas.Option.{same_Some}
 use Rattle.csv.specs.Machine.{Read, next_record, step, is_end, ends_at_end, fields_after}
@@ -124,11 +124,7 @@ left-all rem title bytes d reader start source = record {
 -- A row that was read of those that were left.
 pub record IsTaken {R : Type 0} (rem : R → Option (List ℕ)) (title bytes : List ℕ) (d : ℕ)
     (a b : Reader R) (row : List (List ℕ)) : Type 0 where
-  pub before : List ℕ
-  pub before-is : source_of rem a ≡ Some before
-  pub after : List ℕ
-  pub after-is : source_of rem b ≡ Some after
-  pub shorter : length after < length before
+  pub shorter : length (unwrap_or (source_of rem b) []) < length (unwrap_or (source_of rem a) [])
   pub few : length row ≤ length bytes + 1
   pub is : has_title title row ≡ true → Some row ≡ title_row_by title bytes d
   pub more : has_title title row ≡ false → IsLeft rem title bytes d b
@@ -155,11 +151,7 @@ taken rem title bytes d a b row config left read =
     ≡ title_row_by title bytes d
     = rw is at left.found in
     record {
-      before = left.text;
-      before-is = left.source;
-      after = z;
-      after-is = at-z;
-      shorter = shorter;
+      shorter = rw (at-z, left.source) shorter;
       few = omega (arith, l.few, left.short);
       is = λ has. rw has at found;
       more = λ no. record {

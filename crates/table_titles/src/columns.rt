@@ -46,6 +46,7 @@ pub fn titled_columns<Q: Source>(
 }
 
 /// The same of the bytes of a table; `Read` is never answered.
+#[tactic(auto, using(crate::proofs::OfRow::too_long))]
 pub fn columns_by_titles(
     alloc: Global,
     titles: Titles<'_>,
