@@ -1,10 +1,8 @@
 -- The cells of a row with a title, by their places.
 use Rattle.std.proofs.Common.{◌≡◌, ℕ, ◌+◌, ◌<◌, ◌≤◌, List, [], ◌∷◌, length, drop, refl}
-use Rattle.std.specs.Prelude.{◌||◌, if◌then◌else◌, unwrap_or, Option, Some, None}
-use Rattle.std.specs.List.{list_any}
+use Rattle.std.specs.Prelude.{◌||◌, if◌then◌else◌, Option, Some, None}
 use Rattle.std.specs.Option.{ok_or}
 use Rattle.std.proofs.lemmas.List.{drop_all, drop_more}
-use Rattle.csv.specs.Records.{field_at}
 use Rattle.direction_table.proofs.FieldsAt.{at, at-is}
 use Rattle.table_titles.specs.Titles.{columns_from, has_title, is_title, the_one}
 use Rattle.table_titles.specs.declared.fault.TitlesFault.TheVariants.{NoTitle}

@@ -1,4 +1,4 @@
-use Rattle.std.proofs.Common.{◌∙◌, ◌+◌, Bor, List, ℕ, Some, inl, inr, arith, length, sym}
+use Rattle.std.proofs.Common.{◌∙◌, Bor, List, ℕ, Some, inl, inr, arith, sym}
 use Rattle.csv.specs.Records.{fields_of}
 use Rattle.table_titles.proofs.RowsLeft.{left-all, none-left, taken}
 use Rattle.table_titles.proofs.row.title_row_by.Goals as goal
