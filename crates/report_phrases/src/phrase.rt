@@ -343,7 +343,7 @@ fn french(phrase: Phrase) -> &'static str
         Phrase::Sets => "Séries",
         Phrase::Targets => "Points visés",
         Phrase::TwoFaceDirections => "Directions moyennes",
-        Phrase::MissingDirections => "Directions manquantes",
+        Phrase::MissingDirections => "Directions absentes",
         Phrase::InSet => "dans la série",
         Phrase::LimitOfTwoC => "Limite de 2c",
         Phrase::LimitOfTwoI => "Limite de 2i",
