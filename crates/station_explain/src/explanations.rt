@@ -1163,6 +1163,18 @@ State which column names the targets and which has their directions, by their nu
 '--columns 2,4'. If the two are degrees and minutes, with seconds after them, state --degrees.",
     },
     Said {
+        names: &["NoTitle", "TwiceTitled", "SameTitle"],
+        meaning: "the titles that are stated name no two columns of the table",
+        when: "\
+'--columns' states two titles. At NoTitle no row has the one of targets as a cell, or the first row
+that has it lacks the one of directions; at TwiceTitled that row has the title in two cells; at
+SameTitle both titles are the same. They are compared as they stand, capitals and blanks too.",
+        example: "refused: table: NoTitle directions",
+        remedy: "\
+Write both titles as one row of the table has them, with quotes around them for the
+shell: --columns 'Point,Hz [gon]'. Or state the columns by their numbers, as '--columns 2,4'.",
+    },
+    Said {
         names: &["Missing"],
         meaning: "a target of the station has no row in the table",
         when: "\
