@@ -1,6 +1,7 @@
 -- What is told of stations beside their one text.
-use Rattle.std.specs.Prelude.{◌≡◌, ℕ, List, [], ◌++◌, codes, drop, Option, Some, None}
-use Rattle.std.specs.List.{AllZip, concat}
+use Rattle.std.specs.Prelude.{◌≡◌, ℕ, List, [], ◌++◌, codes, drop, Option, Some, None, nat_eq}
+use Rattle.std.specs.Prelude.{if◌then◌else◌}
+use Rattle.std.specs.List.{AllZip, concat, starts_with}
 use Rattle.book_answers.specs.Columns.{form_in_part, pair_in_whole}
 use Rattle.direction_table.specs.TableNotes.{note_line, table_note, told_note}
 use Rattle.direction_table.specs.declared.form.TableForm.{TableForm}
@@ -19,9 +20,9 @@ pub record AreNotes (IsNote : SurveyedStation → List ℕ → Type 0)
 abbrev pub IsNoNote : SurveyedStation → List ℕ → Type 0
 IsNoNote its note = note ≡ []
 
--- what stands behind `note: ` in a line
+-- what a line has behind `note: `, where it begins so
 abbrev pub noted : List ℕ → List ℕ
-noted line = drop 6 line
+noted line = if starts_with nat_eq line (codes "note: ") then drop 6 line else line
 
 -- The note of the part of the station of this name: as of a table of it alone, but with its name,
 -- and the columns of the whole table; none of a part of two columns.

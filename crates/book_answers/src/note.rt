@@ -14,6 +14,17 @@ use std::alloc::{AllocError, Global};
 /// What a note begins with.
 const NOTE: &[u8] = b"note: ";
 
+/// What a line has behind `note: `, where it begins so.
+fn behind_note(line: &[u8]) -> &[u8]
+    ensures { result.now ≡ spec.noted line.now }
+{
+    if line.starts_with(NOTE) {
+        &line[NOTE.len()..]
+    } else {
+        line
+    }
+}
+
 /// The note of a part that was read by a pair of its columns, with the name of its station.
 fn named_note(alloc: Global, name: Name, by: ByColumns) -> Result<Vec<u8>, AllocError>
     ensures { IfOk result (λ note. note.items ≡ spec.named_note name (Some by)) }
@@ -24,7 +35,7 @@ fn named_note(alloc: Global, name: Name, by: ByColumns) -> Result<Vec<u8>, Alloc
     note.extend_from_slice(b"note: station ")?;
     note.extend_from_slice(name.bytes())?;
     note.extend_from_slice(b": ")?;
-    note.extend_from_slice(&line[NOTE.len()..])?;
+    note.extend_from_slice(behind_note(&line))?;
     Ok(note)
 }
 
