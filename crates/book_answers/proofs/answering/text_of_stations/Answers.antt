@@ -49,8 +49,8 @@ stations-preserved g c =
           (sym c.at.ensures ∙ ap option_copied w.in_default.is))
     ]
 
-pub returns-in_err-own : goal.returns-in_err-own
-returns-in_err-own g c =
+pub returns-in_err-own-clause-text : goal.returns-in_err-own-clause-text
+returns-in_err-own-clause-text g c =
     let refused = c.in_err-own.field-0.0 in
     let is_its : c.from_residual-in_err-own.result ≡ Err refused = search rules in
     rw is_its (inr (record {

@@ -5,6 +5,7 @@ use Rattle.book_answers.proofs.table.write_table_answer_of_all.Goals as goal
 
 pub returns-in_err-told : goal.returns-in_err-told
 returns-in_err-told g c =
+    let is_its : c.from_residual.result ≡ Err c.in_err-told.field-0.0 = search rules in
     let told = rw c.in_err-told.was at c.table_answer_of_all-answer.ensures in (
       c.table_answer_of_all-answer.result.1,
       record {
@@ -19,7 +20,7 @@ returns-in_err-told g c =
           table_reader = told.table_reader;
         };
         printed = (search rules, refl);
-        given = tt;
+        given = rw is_its tt;
       },
     )
 
