@@ -154,16 +154,17 @@ def answer_of_table(asked, files, limits, fails, held, formed):
     """The same of all stations and of one table."""
     if len(asked.operands) != 2 or asked.json or asked.sha256:
         return (2, b"", b"")
-    form = model.TableForm(asked.unit, asked.columns)
+    form = model.form_in_part(model.TableForm(asked.unit, asked.columns))
     if asked.command == "compare":
         joined, one = model.line_by_line, partial(model.compared, within=asked.within)
     else:
-        joined, one = model.named_differences, partial(model.differences, **formed)
+        joined, one = model.named_differences, model.differences
 
     def of_part(name, part):
         return one(files[0], name, part, limits, form=form, **held)
 
-    return model.of_table_of_all(*files, limits, fails, of_part, joined)
+    found = model.of_table_of_all(*files, limits, fails, of_part, joined)
+    return model.written(found, model.NAMES_OF_ALL, **formed)
 
 
 # The commands that take a limit of residuals.
