@@ -1158,7 +1158,8 @@ class PageInBrowserTest(TimedTest):
             status, said, told = model.compared(P7_FIELD.read_bytes(), b"P7", degrees, form=model.TableForm(unit))
             with self.subTest(unit):
                 self.assertEqual(["good" if status == 0 else "bad"], [card[0] for card in self.cards(page)])
-                self.assertEqual((said + told).decode().strip(), page.text(".exact samp"))
+                # The line of the verdict, and then the note, which names the unit in which it agrees.
+                self.assertCountEqual((said + told).decode().splitlines(), page.texts(".exact samp"))
                 option = "" if unit == "gon" else f"--{unit} "
                 self.assertEqual(f"station_check compare {option}station_p7.gsi P7 degrees.csv", page.text(".exact code"))
                 self.assertEqual(place, page.js("document.querySelector('#inputs select.unit').selectedIndex"))

@@ -2,4 +2,5 @@ pub mod Given
 pub mod AnswerLaws
 pub mod ComparisonRuns
 pub mod Told
+pub mod OtherUnits
 pub mod ComparedBy

@@ -11,7 +11,7 @@ ghost use Rattle.table_report.specs.Values.{asked_of};
 use crate::answer::TableAnswer;
 use crate::compared::Compared;
 use crate::comparison::compared_by;
-use crate::noted::{Noted, note_text};
+use crate::noted::{Noted, note_of};
 use crate::report::verdict;
 use crate::verdict_row::{verdict_line, verdict_rows};
 use arrayvec::ArrayVec;
@@ -70,9 +70,9 @@ impl<'a, 'n> TableAnswer for Whole<'a, 'n> {
     ) -> Result<Noted<WholeTable>, CompareFault> {
         let (asked, station) = (&self.asked, surveyed.station());
         let table = read_stated_table(alloc, asked.form, station.targets(), bytes)?;
-        let note = note_text(alloc, table.by_columns)?;
         let limit = asked.within.unwrap_or(table.usual_within);
         let adjustment = adjust(alloc, station, limits.residual)?;
+        let note = note_of(alloc, asked.form, station, &adjustment, &table, bytes)?;
         let stated = StatedDirections {
             directions: &table.directions,
             off: table.most_off,

@@ -44,7 +44,7 @@ returns-clause-tells c =
         text_is = c.in_ok-text.ensures
             ∙ (λ i. whole_text compared (c.deref-3.ensures.value i) (c.deref-4.ensures.value i));
       },
-      search rules,
+      rw c.station-station.ensures at c.in_ok-note.ensures,
     )
 
 pub returns-clause-held : goal.returns-clause-held
