@@ -187,7 +187,7 @@ pub enum AllTableText {
 
 /// A request as the words of a command line state it: its files are paths, the name of a station may
 /// be left out, which is then the only one of its file, and columns may be stated by titles.
-pub type Stated<'a> = Request<'a, &'a str, &'a str, Option<&'a str>, FormStated<'a>>;
+pub type Asked<'a> = Request<'a, &'a str, &'a str, Option<&'a str>, FormStated<'a>>;
 
 /// What the program is asked to do with files of type `F`, which are read, and of type `N`, which
 /// are new: their paths, or the files once they are open. The name of a station is of type `S`, and
