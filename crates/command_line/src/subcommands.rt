@@ -332,7 +332,7 @@ fn reporting_request<'a>(
 
 /// Whether it is not how a table is read of which nothing is stated.
 fn is_stated(form: FormStated<'_>) -> bool
-    ensures { IsTrue result ↔ IsStatedForm form }
+    ensures { IsTrue result ↔ IsStatedForm form.entry }
 {
     form.unit != AngleUnit::Gon || form.columns.is_some()
 }
