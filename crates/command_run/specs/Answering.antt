@@ -408,31 +408,42 @@ IsUnopenedOfTwo files known may_not first second why =
     IsUnopened may_not first why
     ⊎ (WasOpened files known first × IsUnopened may_not second why)
 
--- What hinders a run of a station of the field file of this path: the file can't be opened; or no name
--- is stated, and the file is refused where its only station was looked for.
+-- The name of a station is left out, and the field file of this path is refused where its only
+-- station was looked for.
+abbrev pub LacksName : {F : Type 0} → Readers F → (List ℕ → Option Told) → FaceLimits → List ℕ
+    → NameAsked → Hindrance → Type 0
+LacksName files known limits path name (hindrance.Station refusal) =
+    (name ≡ None) × LooksForOnly files known limits path (Err refusal)
+LacksName files known limits path name other = ⊥
+
+-- What hinders a run of a station of the field file of this path: that it can't be opened, or that.
 abbrev pub HindersStation : {F : Type 0} → Readers F → (List ℕ → Option Told) → (List ℕ → Bool)
     → FaceLimits → List ℕ → NameAsked → Hindrance → Type 0
-HindersStation files known may_not limits path name (hindrance.Station refusal) =
-    (name ≡ None) × LooksForOnly files known limits path (Err refusal)
-HindersStation files known may_not limits path name other = IsUnopened may_not path other
+HindersStation files known may_not limits path name why =
+    IsUnopened may_not path why ⊎ LacksName files known limits path name why
 
--- What hinders where the columns of the table of this path are looked for by these titles: the file
--- can't be opened, or is refused.
+-- The table of this path is refused where its columns were looked for by these titles.
+abbrev pub LacksTitles : {F : Type 0} → Readers F → (List ℕ → Option Told) → List ℕ → List ℕ
+    → List ℕ → Hindrance → Type 0
+LacksTitles files known path targets directions (hindrance.Columns fault) =
+    LooksForTitles files known path targets directions (Err fault)
+LacksTitles files known path targets directions other = ⊥
+
+-- What hinders there: that the table can't be opened, or that.
 abbrev pub HindersTitles : {F : Type 0} → Readers F → (List ℕ → Option Told) → (List ℕ → Bool)
     → List ℕ → List ℕ → List ℕ → Hindrance → Type 0
-HindersTitles files known may_not path targets directions (hindrance.Columns fault) =
-    LooksForTitles files known path targets directions (Err fault)
-HindersTitles files known may_not path targets directions other = IsUnopened may_not path other
+HindersTitles files known may_not path targets directions why =
+    IsUnopened may_not path why ⊎ LacksTitles files known path targets directions why
 
--- What hinders a run of the table of this path: the file can't be opened; or its columns are stated by
--- titles, and it is refused where they were looked for.
+-- What hinders a run of the table of this path: that it can't be opened; or its columns are stated by
+-- titles, and that hinders.
 abbrev pub HindersTable : {F : Type 0} → Readers F → (List ℕ → Option Told) → (List ℕ → Bool)
     → List ℕ → FormStated → Hindrance → Type 0
-HindersTable files known may_not path stated (hindrance.Columns fault) =
-    (targets directions : Bor (List ℕ))
+HindersTable files known may_not path stated why =
+    IsUnopened may_not path why
+    ⊎ ((targets directions : Bor (List ℕ))
     × (stated.columns ≡ Some (by.Titles targets directions))
-    × LooksForTitles files known path targets.now directions.now (Err fault)
-HindersTable files known may_not path stated other = IsUnopened may_not path other
+    × LacksTitles files known path targets.now directions.now why)
 
 -- What hinders a run of a table beside its station: what hinders one of the station; or one of the
 -- table, and the field file was opened.
@@ -483,12 +494,16 @@ new_path (request.Mark gsi copy beginnings stated) = option_map (λ path. path.n
 new_path (request.Change gsi copy changes) = option_map (λ path. path.now) copy
 new_path asked = None
 
--- What hinders a run of a request: a new file is to have a path whose file was opened, so it is there
--- already; or what comes before its files are open.
-abbrev pub Hinders : {F N I : Type 0} → Known F N I → Asked → Hindrance → Type 0
-Hinders host asked (hindrance.IsThere path) =
+-- A new file is to have this path, and the file of it was opened, so it is there already.
+abbrev pub IsThereAlready : {F N I : Type 0} → Known F N I → Asked → Hindrance → Type 0
+IsThereAlready host asked (hindrance.IsThere path) =
     (new_path asked ≡ Some path.now) × WasOpened host.files host.file path.now
-Hinders host asked other = HindersOpening host.files host.file host.may_not_open asked other
+IsThereAlready host asked other = ⊥
+
+-- What hinders a run of a request: that, or what comes before its files are open.
+abbrev pub Hinders : {F N I : Type 0} → Known F N I → Asked → Hindrance → Type 0
+Hinders host asked why = IsThereAlready host asked why
+    ⊎ HindersOpening host.files host.file host.may_not_open asked why
 
 -- A request was answered with this exit status: its files were opened, each the one of its path,
 -- and its run was made over them, or over standard input.
