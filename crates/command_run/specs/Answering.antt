@@ -435,14 +435,14 @@ abbrev pub HindersTitles : {F : Type 0} → Readers F → (List ℕ → Option T
 HindersTitles files known may_not path targets directions why =
     IsUnopened may_not path why ⊎ LacksTitles files known path targets directions why
 
--- What hinders a run of the table of this path: that it can't be opened; or its columns are stated by
--- titles, and that hinders.
+-- What hinders a run of the table of this path, of which these columns are stated: that it can't be
+-- opened; or they are stated by titles, and that hinders.
 abbrev pub HindersTable : {F : Type 0} → Readers F → (List ℕ → Option Told) → (List ℕ → Bool)
-    → List ℕ → FormStated → Hindrance → Type 0
+    → List ℕ → Option ColumnsStated → Hindrance → Type 0
 HindersTable files known may_not path stated why =
     IsUnopened may_not path why
     ⊎ ((targets directions : Bor (List ℕ))
-    × (stated.columns ≡ Some (by.Titles targets directions))
+    × (stated ≡ Some (by.Titles targets directions))
     × LacksTitles files known path targets.now directions.now why)
 
 -- What hinders a run of a table beside its station: what hinders one of the station; or one of the
@@ -453,7 +453,7 @@ HindersBeside files known may_not asked why =
     HindersStation files known may_not asked.station.limits.faces asked.station.gsi.now
     asked.station.name why
     ⊎ (WasOpened files known asked.station.gsi.now
-    × HindersTable files known may_not asked.file.now asked.form why)
+    × HindersTable files known may_not asked.file.now asked.form.columns why)
 
 -- The same of all stations and one table of them.
 abbrev pub HindersTableOfAll : {F : Type 0} → Readers F → (List ℕ → Option Told) → (List ℕ → Bool)
@@ -461,7 +461,7 @@ abbrev pub HindersTableOfAll : {F : Type 0} → Readers F → (List ℕ → Opti
 HindersTableOfAll files known may_not asked why =
     IsUnopened may_not asked.stations.gsi.now why
     ⊎ (WasOpened files known asked.stations.gsi.now
-    × HindersTable files known may_not asked.file.now asked.form why)
+    × HindersTable files known may_not asked.file.now asked.form.columns why)
 
 -- What hinders a run of a request before its files are open.
 abbrev pub HindersOpening : {F : Type 0} → Readers F → (List ℕ → Option Told) → (List ℕ → Bool)

@@ -1,10 +1,12 @@
 //! How a request is answered: its files are opened, and its run is made over them.
 
-ghost use Rattle.std.specs.Prelude.{◌≡◌, ◌≤◌, IfOk, IfErr, Ok, OnErr, option_map, true};
+ghost use Rattle.std.specs.Prelude.{◌≡◌, ◌≤◌, IfOk, IfErr, None, Ok, OnErr, option_map};
+ghost use Rattle.std.specs.Prelude.{true};
 ghost use Rattle.byte_ends.specs.Writers.{writer_change};
 ghost use Rattle.command_run.specs.Answering.{Hinders, HindersBeside, HindersOpening};
 ghost use Rattle.command_run.specs.Answering.{HindersStation, HindersTable, HindersTableOfAll};
-ghost use Rattle.command_run.specs.Answering.{HindersTitles, IsFormOf, IsNamed, LooksForTitles};
+ghost use Rattle.command_run.specs.Answering.{AreColumns, HindersTitles, IsFormOf, IsNamed};
+ghost use Rattle.command_run.specs.Answering.{LooksForTitles};
 ghost use Rattle.command_run.specs.Answering.{IsAnswered, IsOpened, IsOpenedCheck, IsUnopened};
 ghost use Rattle.command_run.specs.Answering.{IsUnopenedOfTwo};
 ghost use Rattle.command_run.specs.Answering.{IsOpenedBeside, IsOpenedStation, IsOpenedStations};
@@ -128,11 +130,14 @@ fn open_files<'a, H: Host>(
             gsi,
             station,
             limits,
-        } => Request::Means {
-            station: name_of(alloc, host, gsi, station, limits)?,
-            gsi: open(host, gsi)?,
-            limits,
-        },
+        } => {
+            let (gsi, station) = open_named(alloc, host, gsi, station, limits)?;
+            Request::Means {
+                gsi,
+                station,
+                limits,
+            }
+        }
         Request::Station { station, text } => Request::Station {
             station: open_station(alloc, host, &station)?,
             text,
@@ -198,24 +203,47 @@ fn open_check<'a, H: Host>(
     })
 }
 
-/// The name of a station of the field file of a path: the one that is stated, or that of the only
-/// station of the file, which is opened and read for it.
-fn name_of<'a, H: Host>(
+/// The field file of a path with it open, and the name of a station of it: the one that is stated, or
+/// that of its only station.
+fn open_named<'a, H: Host>(
     alloc: Global,
     host: &H,
     gsi: &'a str,
     stated: Option<&'a str>,
     limits: Limits,
-) -> Result<StationName<'a>, Hindrance<'a>>
-    ensures named { IfOk result (IsNamed (readers H.File.told H.File.failed H.File.gave)
-        (H.known_file host.now) limits gsi.now stated.entry) }
+) -> Result<(NamedReader<'a, H::File>, StationName<'a>), Hindrance<'a>>
+    ensures opened { IfOk result (λ its. IsUnread
+        (readers H.File.told H.File.failed H.File.gave) (H.known_file host.now)
+        gsi.now its.0) }
+    ensures named { IfOk result (λ its. IsNamed
+        (readers H.File.told H.File.failed H.File.gave) (H.known_file host.now)
+        limits gsi.now stated.entry its.1) }
     ensures hindered { IfErr result (HindersStation
         (readers H.File.told H.File.failed H.File.gave) (H.known_file host.now)
         (H.may_not_open host.now) limits gsi.now stated.entry) }
 {
-    if let Some(name) = stated {
-        return Ok(StationName::Stated(name));
-    }
+    let name = match stated {
+        Some(name) => StationName::Stated(name),
+        None => only_name(alloc, host, gsi, limits)?,
+    };
+    let file = open(host, gsi)?;
+    Ok((file, name))
+}
+
+/// The name of the only station of the field file of a path, which is opened and read for it.
+fn only_name<'a, H: Host>(
+    alloc: Global,
+    host: &H,
+    gsi: &'a str,
+    limits: Limits,
+) -> Result<StationName<'a>, Hindrance<'a>>
+    ensures named { IfOk result (IsNamed
+        (readers H.File.told H.File.failed H.File.gave) (H.known_file host.now)
+        limits gsi.now None) }
+    ensures hindered { IfErr result (HindersStation
+        (readers H.File.told H.File.failed H.File.gave) (H.known_file host.now)
+        (H.may_not_open host.now) limits gsi.now None) }
+{
     let file = open(host, gsi)?;
     match only_station(alloc, file.reader, limits) {
         Ok(name) => Ok(StationName::Only(name)),
@@ -235,11 +263,9 @@ fn open_station<'a, H: Host>(
         (readers H.File.told H.File.failed H.File.gave) (H.known_file host.now)
         (H.may_not_open host.now) asked.now.limits.faces asked.now.gsi.now asked.now.name) }
 {
-    Ok(FieldStation {
-        name: name_of(alloc, host, asked.gsi, asked.name, asked.limits.faces)?,
-        gsi: open(host, asked.gsi)?,
-        limits: asked.limits,
-    })
+    let limits = asked.limits;
+    let (gsi, name) = open_named(alloc, host, asked.gsi, asked.name, limits.faces)?;
+    Ok(FieldStation { gsi, name, limits })
 }
 
 /// All stations with their field file open.
@@ -257,8 +283,7 @@ fn open_stations<'a, H: Host>(
     })
 }
 
-/// The table of a path with its file open, and how it is read: where columns are stated by titles, the
-/// file is read for them, and opened again.
+/// The table of a path with its file open, and how it is read.
 fn open_table<'a, H: Host>(
     alloc: Global,
     host: &H,
@@ -273,18 +298,40 @@ fn open_table<'a, H: Host>(
         path.now stated.entry table.1) }
     ensures hindered { IfErr result (HindersTable
         (readers H.File.told H.File.failed H.File.gave) (H.known_file host.now)
-        (H.may_not_open host.now) path.now stated.entry) }
+        (H.may_not_open host.now) path.now stated.entry.columns) }
 {
     let unit = stated.unit;
-    let columns = match stated.columns {
-        None => None,
-        Some(ColumnsStated::Numbers(pair)) => Some(pair),
+    let columns = columns_of(alloc, host, path, stated.columns)?;
+    let file = open(host, path)?;
+    Ok((file, TableForm { unit, columns }))
+}
+
+/// The columns of the table of a path: those that are stated by numbers, or none; or those that have
+/// the stated titles.
+fn columns_of<'a, H: Host>(
+    alloc: Global,
+    host: &H,
+    path: &'a str,
+    stated: Option<ColumnsStated<'a>>,
+) -> Result<Option<ColumnPair>, Hindrance<'a>>
+    ensures columns { IfOk result (AreColumns
+        (readers H.File.told H.File.failed H.File.gave) (H.known_file host.now)
+        path.now stated.entry) }
+    ensures hindered { IfErr result (HindersTable
+        (readers H.File.told H.File.failed H.File.gave) (H.known_file host.now)
+        (H.may_not_open host.now) path.now stated.entry) }
+{
+    match stated {
+        None => Ok(None),
+        Some(ColumnsStated::Numbers(pair)) => Ok(Some(pair)),
         Some(ColumnsStated::Titles {
             targets,
             directions,
-        }) => Some(columns_titled(alloc, host, path, targets, directions)?),
-    };
-    Ok((open(host, path)?, TableForm { unit, columns }))
+        }) => {
+            let pair = columns_titled(alloc, host, path, targets, directions)?;
+            Ok(Some(pair))
+        }
+    }
 }
 
 /// The columns of the table of a path that have these titles. Its file is opened and read for them.
