@@ -52,15 +52,6 @@ use table_answers::{Differences, JsonLines, run_compare, run_table_answer};
 use table_report::Asked as ReportAsked;
 use table_titles::{Titles, TitlesFault, titled_columns};
 
-/// A request whose files are open and all of whose names and columns are known.
-type Ready<'a, H> = Request<
-    'a,
-    NamedReader<'a, <H as Host>::File>,
-    NewFile<'a, H, <H as Host>::New>,
-    StationName<'a>,
-    TableForm,
->;
-
 /// The exit status of a request. All its files are opened before its run reads any, the field file
 /// first. Where the name of its station is left out, or columns are stated by titles, a file is
 /// opened a first time and read for them: so a pipe does for no such file. A new file is made at the
@@ -116,7 +107,7 @@ fn open_files<'a, H: Host>(
     alloc: Global,
     host: &'a H,
     request: Asked<'a>,
-) -> Result<Ready<'a, H>, Hindrance<'a>>
+) -> Result<Request<'a, NamedReader<'a, H::File>, NewFile<'a, H, H::New>, StationName<'a>, TableForm>, Hindrance<'a>>
     ensures opened { IfOk result
         (IsOpened (readers H.File.told H.File.failed H.File.gave) (H.known_file host.now)
         ⟦<NewFile<'a, H, H::New> as Sink>⟧ (H.known_new host.now) request.entry) }
@@ -408,7 +399,7 @@ fn open_change<'a, H: Host>(
     gsi: &'a str,
     copy: Option<&'a str>,
     changes: Vec<Change>,
-) -> Result<Ready<'a, H>, Hindrance<'a>>
+) -> Result<Request<'a, NamedReader<'a, H::File>, NewFile<'a, H, H::New>, StationName<'a>, TableForm>, Hindrance<'a>>
     ensures opened { IfOk result
         (IsOpened (readers H.File.told H.File.failed H.File.gave) (H.known_file host.now)
         ⟦<NewFile<'a, H, H::New> as Sink>⟧ (H.known_new host.now)
@@ -470,7 +461,7 @@ fn run_request<'a, H: Host, W: Sink, E: Sink>(
     alloc: Global,
     input: H::Input,
     faults: &[&'static [Explanation]],
-    request: Ready<'a, H>,
+    request: Request<'a, NamedReader<'a, H::File>, NewFile<'a, H, H::New>, StationName<'a>, TableForm>,
     out: &mut W,
     err: &mut E,
 ) -> u8

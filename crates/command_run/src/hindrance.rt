@@ -1,10 +1,9 @@
 //! Why no run is made of a request, and the line that says so.
 
-ghost use Rattle.std.specs.Prelude.{◌≡◌, ◌++◌};
+ghost use Rattle.std.specs.Prelude.{◌≡◌};
 ghost use Rattle.command_run.specs.TitlesTexts as spec;
 
 use crate::unopened::Unopened;
-use station_check::{VerdictLine, add};
 use station_compare::Refusal;
 use table_titles::{TitleOf, TitlesFault};
 
@@ -25,37 +24,19 @@ pub(crate) enum Hindrance<'a> {
 }
 
 /// The line of a refusal for the titles of a table, with its line feed.
-pub(crate) fn titles_line(fault: TitlesFault) -> VerdictLine
-    ensures { result.items ≡ spec.titles_line fault }
-{
-    let mut line = VerdictLine::new();
-    add(&mut line, b"refused: ");
-    add(&mut line, place_of(fault).as_bytes());
-    add(&mut line, fault.name().as_bytes());
-    add(&mut line, carried_by(fault).as_bytes());
-    add(&mut line, b"\n");
-    line
-}
-
-/// Where a fault is: in the table, unless memory ran out.
-fn place_of(fault: TitlesFault) -> &'static str
-    ensures { result.now ≡ spec.place_text fault }
+pub(crate) fn titles_line(fault: TitlesFault) -> &'static str
+    ensures { result.now ≡ spec.titles_line fault }
 {
     match fault {
-        TitlesFault::Memory => "",
-        _ => "table: ",
-    }
-}
-
-/// Which title a fault is of, after a blank.
-fn carried_by(fault: TitlesFault) -> &'static str
-    ensures { result.now ≡ spec.carried_text fault }
-{
-    match fault {
-        TitlesFault::NoTitle(of) | TitlesFault::TwiceTitled(of) => match of {
-            TitleOf::Targets => " targets",
-            TitleOf::Directions => " directions",
-        },
-        _ => "",
+        TitlesFault::Read => "refused: table: Read\n",
+        TitlesFault::TooLong => "refused: table: TooLong\n",
+        TitlesFault::NoTitle(TitleOf::Targets) => "refused: table: NoTitle targets\n",
+        TitlesFault::NoTitle(TitleOf::Directions) => "refused: table: NoTitle directions\n",
+        TitlesFault::TwiceTitled(TitleOf::Targets) => "refused: table: TwiceTitled targets\n",
+        TitlesFault::TwiceTitled(TitleOf::Directions) => {
+            "refused: table: TwiceTitled directions\n"
+        }
+        TitlesFault::SameTitle => "refused: table: SameTitle\n",
+        TitlesFault::Memory => "refused: out of memory\n",
     }
 }

@@ -107,9 +107,9 @@ fn report_hindrance<E: Sink>(alloc: Global, hindrance: &Hindrance<'_>, err: &mut
 {
     match hindrance {
         Hindrance::Unopened(unopened) => report_unopened(alloc, unopened, err),
-        Hindrance::IsThere(path) => report_there(alloc, path, err),
+        Hindrance::IsThere(path) => report_there(alloc, *path, err),
         Hindrance::Station(refusal) => station_compare::refuse(refusal, err),
-        Hindrance::Columns(fault) => refuse_by(titles_line(*fault).as_slice(), err),
+        Hindrance::Columns(fault) => refuse_by(titles_line(*fault).as_bytes(), err),
     }
 }
 
