@@ -1,6 +1,8 @@
 //! The columns of a table that a text states.
 
-ghost use Rattle.std.specs.Prelude.{◌≡◌, List, ℕ, IfNone, IfSome};
+ghost use Rattle.std.specs.Prelude.{◌≡◌, List, ℕ, IfNone, IfSome, not};
+ghost use Rattle.std.specs.Char.{is_ascii_digit};
+ghost use Rattle.std.specs.List.{list_all};
 ghost use Rattle.command_line.specs.StatedColumns as spec;
 ghost use Rattle.command_line.specs.StatedColumns.{StateColumns, StateNoColumns, StatesTitles};
 
@@ -40,5 +42,19 @@ fn titles_in(text: &str) -> Option<ColumnsStated<'_>>
 fn is_title(text: &[u8]) -> bool
     ensures { result ≡ spec.is_title text.now }
 {
-    !text.iter().all(|byte| byte.is_ascii_digit()) && text.iter().all(|byte| *byte != b',')
+    !is_number(text) && has_no_comma(text)
+}
+
+/// Whether each byte is a digit.
+fn is_number(text: &[u8]) -> bool
+    ensures { result ≡ list_all is_ascii_digit text.now }
+{
+    text.iter().all(|byte| byte.is_ascii_digit())
+}
+
+/// Whether no byte is a comma.
+fn has_no_comma(text: &[u8]) -> bool
+    ensures { result ≡ list_all (λ byte. not (spec.is_comma byte)) text.now }
+{
+    text.iter().all(|byte| *byte != b',')
 }
