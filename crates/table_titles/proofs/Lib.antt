@@ -1,0 +1,4 @@
+pub mod Cells
+pub mod RowsLeft
+pub mod Tried
+pub mod OfRow
