@@ -70,8 +70,8 @@ NamesTable found (Some name) table =
 NamesTable found None table =
     IsGiven found (codes "STATION") table × IsMissing found (codes "TABLE")
 
--- A station of a field file is asked for: the path of the file, the station's name where it has one,
--- and the limits of face differences.
+-- A station of a field file is asked for: the path of the file, the station's name where it has
+-- one, and the limits of face differences.
 pub record AsksOfStation (found : Found) (gsi : List ℕ) (station : NameAsked)
     (limits : FaceLimits) : Type 0 where
   pub field_file : IsGiven found (codes "GSI") gsi
@@ -142,9 +142,9 @@ AsksForTexts name found (texts.ReportRows form) =
     (name ≡ codes "report") × StatesForm found (Rows form) × ¬ SpeaksOfNotes found
 
 -- Which text of a station, by this name where it has one, and of the table of this path: by
--- `compare` the comparison, with its limit or none, and with digests or without; by `differences` the
--- differences in a form, or as JSON lines, which have points; by `report` the report with the table
--- of its option and with its notes, and all else as for `compare`.
+-- `compare` the comparison, with its limit or none, and with digests or without; by `differences`
+-- the differences in a form, or as JSON lines, which have points; by `report` the report with the
+-- table of its option and with its notes, and all else as for `compare`.
 abbrev pub AsksForTableText : Text → Found → NameAsked → List ℕ → TableText → Type 0
 AsksForTableText name found station table (table_text.Comparison within digests) =
     (name ≡ codes "compare") × NamesTable found station table × StatesWithin found within
@@ -254,8 +254,8 @@ LacksResults found =
     (StatesFlag found (codes "all") false × LacksResult found)
     ⊎ (StatesFlag found (codes "all") true × LacksAll found)
 
--- No table can be: no word of its path is there; or beside one table of all stations something stands
--- that is of one.
+-- No table can be: no word of its path is there; or beside one table of all stations something
+-- stands that is of one.
 abbrev pub LacksTable : Found → Type 0
 LacksTable found = IsMissing found (codes "STATION")
     ⊎ (StatesFlag found (codes "all") true × StandsBesideTable found)

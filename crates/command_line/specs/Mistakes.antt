@@ -48,8 +48,8 @@ HasOption found name = IsSome (matched_of found name)
 unfoldable pub HasForm : Found → Type 0
 HasForm found = ¬ (StatesUnit found Gon) ⊎ HasOption found (codes "columns")
 
--- What is of a table beside a report is stated: the table, a limit of a comparison, or how a table is
--- read.
+-- What is of a table beside a report is stated: the table, a limit of a comparison, or how a table
+-- is read.
 abbrev pub IsOfTable : Found → Type 0
 IsOfTable found = HasOption found (codes "table") ⊎ HasOption found (codes "within") ⊎ HasForm found
 
@@ -101,15 +101,15 @@ abbrev pub IsWrongNote : Found → List ℕ → Type 0
 IsWrongNote found text = (language : Language) × (language_stated found ≡ Some language)
     × IsFirstUnnoted language (texts_of found (codes "note")) text
 
--- This mistake is there: the text of an option is no limit; a text states no columns; JSON lines are
--- asked for, and decimal commas; rows are asked for, and something beside them; the limit of a
+-- This mistake is there: the text of an option is no limit; a text states no columns; JSON lines
+-- are asked for, and decimal commas; rows are asked for, and something beside them; the limit of a
 -- comparison, or how a table is read, is stated without a table; a decimal comma is stated, and no
 -- rows; a text of an option that states numbers can't stand where it does; the code of the stations
 -- is none that may be; a text of an option that states changes of lines says none; the text of the
 -- language is no code of one; a text of `--note` states no note; all stations are asked for, and
 -- something that is of one; a name is stated for a station; one table of all stations is asked for,
--- and something that is of one. That an argument is missing is told where no other mistake is there:
--- the grammar has refused it before.
+-- and something that is of one. That an argument is missing is told where no other mistake is
+-- there: the grammar has refused it before.
 abbrev pub IsThere : Found → Mistake → Type 0
 IsThere found (mistake.Limit option text) = IsNoLimit found option text.now
 IsThere found (mistake.Columns text) = IsWrongColumns found text.now
@@ -133,8 +133,8 @@ IsThere found mistake.TableOfAll = StatesFlag found (codes "all") true × Stands
 -- their options, then columns, then JSON lines or rows, of which no command has both, then what is
 -- stated without a table, a decimal comma, numbers, a code, changes of lines, the language, notes,
 -- all stations beside one, a name, and that an argument is missing last. What other commands than
--- `report` are told stands before what is stated without a table: it alone has that option. The very
--- last is of `compare` and `differences`, which lack it.
+-- `report` are told stands before what is stated without a table: it alone has that option. The
+-- very last is of `compare` and `differences`, which lack it.
 abbrev pub rank : Mistake → ℕ
 rank (mistake.Limit option text) = place option
 rank (mistake.Columns text) = 4
@@ -162,9 +162,9 @@ pub record IsMistakeAmong (found : Found) (mistake : Mistake) : Type 0 where
   pub there : IsThere found mistake
   pub first : NoneIsBefore (rank mistake) found
 
--- The mistake that is told of what is found after `compare` or `differences`: one that is told before
--- what is stated without the option of a table; or, where none of these is there, what may not stand
--- beside one table of all stations, or else that an argument is missing.
+-- The mistake that is told of what is found after `compare` or `differences`: one that is told
+-- before what is stated without the option of a table; or, where none of these is there, what may
+-- not stand beside one table of all stations, or else that an argument is missing.
 abbrev pub IsMistakeBesideTable : Found → Mistake → Type 0
 IsMistakeBesideTable found mistake.TableOfAll =
     NoneIsBefore 6 found × IsThere found mistake.TableOfAll

@@ -32,8 +32,8 @@ language_stated found = language_of (first_value found (codes "language"))
 abbrev pub StatesLines : Found → Language → List Note → Type 0
 StatesLines found language lines = AreNoted language (texts_of found (codes "note")) lines
 
--- This is stated: the language, a date or none, the lines of `--note`, whether lines for a signature
--- are asked for, and whether the report is divided into pages.
+-- This is stated: the language, a date or none, the lines of `--note`, whether lines for a
+-- signature are asked for, and whether the report is divided into pages.
 pub record StatesNotes (found : Found) (notes : Notes) : Type 0 where
   pub of_language : language_stated found ≡ Some notes.language
   pub of_date : first_value found (codes "date") ≡ option_map (λ date. date.now) notes.date

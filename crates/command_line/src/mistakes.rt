@@ -350,8 +350,8 @@ fn mistake_in_marking<'a>(
     }
 }
 
-/// The mistake in the changes that `change` alone is told, in what `report` notes, or in what is said
-/// of stations: the first that is there.
+/// The mistake in the changes that `change` alone is told, in what `report` notes, or in what is
+/// said of stations: the first that is there.
 fn mistake_in_changing<'a>(alloc: Global, found: &ArgMatches<'a>) -> Result<Mistake<'a>, AllocError>
     ensures { IfOk result (IsMistakeFrom 12 (found_of found.now)) }
 {

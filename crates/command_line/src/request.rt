@@ -185,15 +185,15 @@ pub enum AllTableText {
     Differences { form: RowForm },
 }
 
-/// A request as the words of a command line state it: its files are paths, the name of a station may
-/// be left out, which is then the only one of its file, and columns may be stated by titles.
+/// A request as the words of a command line state it: its files are paths, the name of a station
+/// may be left out, which is then the only one of its file, and columns may be stated by titles.
 pub type Asked<'a> = Request<'a, &'a str, &'a str, Option<&'a str>, FormStated<'a>>;
 
 /// What the program is asked to do with files of type `F`, which are read, and of type `N`, which
 /// are new: their paths, or the files once they are open. The name of a station is of type `S`, and
-/// how a table is read of type `T`: as they are stated, or as they are found in the files. A variant
-/// is a shape: the files, and what is stated of them. What is printed of one shape is a text of its
-/// own.
+/// how a table is read of type `T`: as they are stated, or as they are found in the files. A
+/// variant is a shape: the files, and what is stated of them. What is printed of one shape is a
+/// text of its own.
 #[derive(Drop)]
 pub enum Request<'a, F, N, S, T> {
     /// Checks a sheet against a field file.

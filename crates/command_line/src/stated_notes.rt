@@ -38,7 +38,8 @@ fn language_of(found: &ArgMatches<'_>) -> Option<Language>
     }
 }
 
-/// The notes that the texts of the option state of a report in this language, or why they state none.
+/// The notes that the texts of the option state of a report in this language, or why they state
+/// none.
 fn lines_by<'a>(
     alloc: Global,
     language: Language,

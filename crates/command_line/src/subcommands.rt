@@ -135,8 +135,8 @@ fn table_of_all<'a>(found: &ArgMatches<'a>) -> Option<StationsBeside<&'a str, Fo
     })
 }
 
-/// The words after the field file, as the name of a station where two are there, and the path of its
-/// table.
+/// The words after the field file, as the name of a station where two are there, and the path of
+/// its table.
 fn table_named<'a>(found: &ArgMatches<'a>) -> Option<(Option<&'a str>, &'a str)>
     ensures named { IfSome result (λ words. NamesTable (found_of found.now) words.0 words.1.now) }
     ensures none { IfNone result (IsMissing (found_of found.now) (codes "STATION")) }

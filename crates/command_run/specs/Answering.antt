@@ -296,7 +296,8 @@ IsNamed files known limits path (Some stated) name = name_bytes name ≡ stated.
 IsNamed files known limits path None name =
     LooksForOnly files known limits path (Ok (name_bytes name))
 
--- The columns of the table of a path were looked for by these titles, and this is what was answered.
+-- The columns of the table of a path were looked for by these titles, and this is what was
+-- answered.
 abbrev pub LooksForTitles : {F : Type 0} → Readers F → (List ℕ → Option Told) → List ℕ → List ℕ
     → List ℕ → Result ColumnPair TitlesFault → Type 0
 LooksForTitles {F} files known path targets directions r = (file : NamedReader F) × (read : F)
@@ -335,8 +336,8 @@ abbrev pub IsOpenedStations : {F : Type 0} → Readers F → (List ℕ → Optio
 IsOpenedStations files known asked opened =
     IsUnread files known asked.gsi.now opened.gsi × (opened.limits ≡ asked.limits)
 
--- Both files of a table and its station were opened, the station has its name, and the table is read
--- as it is stated.
+-- Both files of a table and its station were opened, the station has its name, and the table is
+-- read as it is stated.
 abbrev pub IsOpenedBeside : {F : Type 0} → Readers F → (List ℕ → Option Told)
     → TableBeside (Bor (List ℕ)) NameAsked FormStated
     → TableBeside (NamedReader F) StationName TableForm → Type 0
@@ -529,8 +530,8 @@ abbrev pub NamesThere : List ℕ → ℕ → WriterChange → Type 0
 NamesThere path status err =
     ((status ≡ 2) × WritesOrFails (there_line path) err) ⊎ IsOutOfMemory status err
 
--- What is told of a hindrance, with this exit status: the path of a file that can't be opened, or is
--- there already; or, with status 1, the refusal of the field file or of the table.
+-- What is told of a hindrance, with this exit status: the path of a file that can't be opened, or
+-- is there already; or, with status 1, the refusal of the field file or of the table.
 abbrev pub TellsHindrance : Hindrance → ℕ → WriterChange → Type 0
 TellsHindrance (hindrance.Unopened unopened) status err =
     NamesUnopened unopened.path.now status err

@@ -54,8 +54,8 @@ use table_titles::{Titles, TitlesFault, titled_columns};
 
 /// The exit status of a request. All its files are opened before its run reads any, the field file
 /// first. Where the name of its station is left out, or columns are stated by titles, a file is
-/// opened a first time and read for them: so a pipe does for no such file. A new file is made at the
-/// first byte that is written to it, where none is there.
+/// opened a first time and read for them: so a pipe does for no such file. A new file is made at
+/// the first byte that is written to it, where none is there.
 pub(crate) fn answer<'a, H: Host, W: Sink, E: Sink>(
     alloc: Global,
     host: &'a H,
@@ -194,8 +194,8 @@ fn open_check<'a, H: Host>(
     })
 }
 
-/// The field file of a path with it open, and the name of a station of it: the one that is stated, or
-/// that of its only station.
+/// The field file of a path with it open, and the name of a station of it: the one that is stated,
+/// or that of its only station.
 fn open_named<'a, H: Host>(
     alloc: Global,
     host: &H,
@@ -297,8 +297,8 @@ fn open_table<'a, H: Host>(
     Ok((file, TableForm { unit, columns }))
 }
 
-/// The columns of the table of a path: those that are stated by numbers, or none; or those that have
-/// the stated titles.
+/// The columns of the table of a path: those that are stated by numbers, or none; or those that
+/// have the stated titles.
 fn columns_of<'a, H: Host>(
     alloc: Global,
     host: &H,
