@@ -240,10 +240,7 @@ fn directions_request<'a>(found: &ArgMatches<'a>) -> Option<Asked<'a>>
 }
 
 /// What `report` asks for where it is of all stations and these notes are stated.
-fn report_of_all<'a>(
-    found: &ArgMatches<'a>,
-    notes: Notes<'a>,
-) -> Option<Asked<'a>>
+fn report_of_all<'a>(found: &ArgMatches<'a>, notes: Notes<'a>) -> Option<Asked<'a>>
     requires all { StatesFlag (found_of found.now) (codes "all") true }
     requires noted { StatesNotes (found_of found.now) notes }
     ensures asked { IfSome result (AsksFor (codes "report") (found_of found.now)) }
@@ -277,10 +274,7 @@ fn report_request<'a>(
 }
 
 /// What `report` asks for where these notes are stated.
-fn reporting_request<'a>(
-    found: &ArgMatches<'a>,
-    notes: Notes<'a>,
-) -> Option<Asked<'a>>
+fn reporting_request<'a>(found: &ArgMatches<'a>, notes: Notes<'a>) -> Option<Asked<'a>>
     requires { StatesNotes (found_of found.now) notes }
     ensures asked { IfSome result (AsksFor (codes "report") (found_of found.now)) }
     ensures none { IfNone result (LacksToReport (found_of found.now)) }
@@ -364,10 +358,7 @@ fn means_request<'a>(found: &ArgMatches<'a>) -> Option<Asked<'a>>
     })
 }
 
-fn mark_request<'a>(
-    alloc: Global,
-    found: &ArgMatches<'a>,
-) -> Result<Option<Asked<'a>>, AllocError>
+fn mark_request<'a>(alloc: Global, found: &ArgMatches<'a>) -> Result<Option<Asked<'a>>, AllocError>
     ensures asked { IfOk result (λ request. IfSome request
         (AsksFor (codes "mark") (found_of found.now))) }
     ensures none { IfOk result (λ request. IfNone request (LacksToMark (found_of found.now))) }

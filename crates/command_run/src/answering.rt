@@ -19,9 +19,9 @@ ghost use Rattle.command_run.specs.Hosts.{IsUnread, known_of, readers};
 ghost use Rattle.station_report.specs.NoteTexts.{head_of};
 
 use crate::explaining::run_explain;
+use crate::hindrance::Hindrance;
 use crate::host::Host;
 use crate::new_file::NewFile;
-use crate::hindrance::Hindrance;
 use crate::station_name::StationName;
 use crate::unopened::Unopened;
 use book_answers::{Arrangement, PartAsked, PartText, run_answer_of_all, run_table_answer_of_all};
@@ -36,8 +36,8 @@ use instrument_reports::{run_report, run_reports, run_table_report};
 use list_rows::run_list_rows;
 use only_station::only_station;
 use report_notes::Notes;
-use station_book::Limits;
 use station_answers::{Directions, ReportRows, run_answer};
+use station_book::Limits;
 use station_change::run_change;
 use station_check::{run_check, run_list, run_means, run_words};
 use station_explain::Explanation;
@@ -107,7 +107,10 @@ fn open_files<'a, H: Host>(
     alloc: Global,
     host: &'a H,
     request: Asked<'a>,
-) -> Result<Request<'a, NamedReader<'a, H::File>, NewFile<'a, H, H::New>, StationName<'a>, TableForm>, Hindrance<'a>>
+) -> Result<
+    Request<'a, NamedReader<'a, H::File>, NewFile<'a, H, H::New>, StationName<'a>, TableForm>,
+    Hindrance<'a>,
+>
     ensures opened { IfOk result
         (IsOpened (readers H.File.told H.File.failed H.File.gave) (H.known_file host.now)
         ⟦<NewFile<'a, H, H::New> as Sink>⟧ (H.known_new host.now) request.entry) }
@@ -315,10 +318,12 @@ fn columns_of<'a, H: Host>(
     match stated {
         None => Ok(None),
         Some(ColumnsStated::Numbers(pair)) => Ok(Some(pair)),
-        Some(ColumnsStated::Titles {
-            targets,
-            directions,
-        }) => {
+        Some(
+            ColumnsStated::Titles {
+                targets,
+                directions,
+            },
+        ) => {
             let pair = columns_titled(alloc, host, path, targets, directions)?;
             Ok(Some(pair))
         }
@@ -399,7 +404,10 @@ fn open_change<'a, H: Host>(
     gsi: &'a str,
     copy: Option<&'a str>,
     changes: Vec<Change>,
-) -> Result<Request<'a, NamedReader<'a, H::File>, NewFile<'a, H, H::New>, StationName<'a>, TableForm>, Hindrance<'a>>
+) -> Result<
+    Request<'a, NamedReader<'a, H::File>, NewFile<'a, H, H::New>, StationName<'a>, TableForm>,
+    Hindrance<'a>,
+>
     ensures opened { IfOk result
         (IsOpened (readers H.File.told H.File.failed H.File.gave) (H.known_file host.now)
         ⟦<NewFile<'a, H, H::New> as Sink>⟧ (H.known_new host.now)
@@ -461,7 +469,13 @@ fn run_request<'a, H: Host, W: Sink, E: Sink>(
     alloc: Global,
     input: H::Input,
     faults: &[&'static [Explanation]],
-    request: Request<'a, NamedReader<'a, H::File>, NewFile<'a, H, H::New>, StationName<'a>, TableForm>,
+    request: Request<
+        'a,
+        NamedReader<'a, H::File>,
+        NewFile<'a, H, H::New>,
+        StationName<'a>,
+        TableForm,
+    >,
     out: &mut W,
     err: &mut E,
 ) -> u8

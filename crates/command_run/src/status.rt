@@ -10,9 +10,9 @@ ghost use Rattle.command_run.specs.Answering.{TellsHindrance};
 ghost use Rattle.command_run.specs.Hosts.{known_of, readers};
 
 use crate::answering::answer;
+use crate::hindrance::{Hindrance, titles_line};
 use crate::host::{Host, NoWords};
 use crate::new_file::NewFile;
-use crate::hindrance::{Hindrance, titles_line};
 use crate::unopened::{Unopened, there_line, unopened_line};
 use byte_ends::Sink;
 use clap::Error;
