@@ -22,7 +22,7 @@ use Rattle.command_line.specs.CommandLine.{Asked, IsAskedForBy, IsMistakeIn, Nam
 use Rattle.command_line.specs.declared.request.AllTableText.{AllTableText}
 use Rattle.command_line.specs.declared.request.AllTableText.TheVariants as all_text
 use Rattle.command_line.specs.declared.request.ColumnsStated.{ColumnsStated}
-use Rattle.command_line.specs.declared.request.ColumnsStated.TheVariants as by
+use Rattle.command_line.specs.declared.request.ColumnsStated.TheVariants as stated_by
 use Rattle.command_line.specs.declared.request.Digests.{Digests}
 use Rattle.command_line.specs.declared.request.Digests.TheVariants as digests
 use Rattle.command_line.specs.declared.request.FieldStation.{FieldStation}
@@ -310,8 +310,8 @@ LooksForTitles {F} files known path targets directions r = (file : NamedReader F
 abbrev pub AreColumns : {F : Type 0} → Readers F → (List ℕ → Option Told) → List ℕ
     → Option ColumnsStated → Option ColumnPair → Type 0
 AreColumns files known path None columns = columns ≡ None
-AreColumns files known path (Some (by.Numbers pair)) columns = columns ≡ Some pair
-AreColumns files known path (Some (by.Titles targets directions)) columns =
+AreColumns files known path (Some (stated_by.Numbers pair)) columns = columns ≡ Some pair
+AreColumns files known path (Some (stated_by.Titles targets directions)) columns =
     (pair : ColumnPair) × (columns ≡ Some pair)
     × LooksForTitles files known path targets.now directions.now (Ok pair)
 
@@ -443,7 +443,7 @@ abbrev pub HindersTable : {F : Type 0} → Readers F → (List ℕ → Option To
 HindersTable files known may_not path stated why =
     IsUnopened may_not path why
     ⊎ ((targets directions : Bor (List ℕ))
-    × (stated ≡ Some (by.Titles targets directions))
+    × (stated ≡ Some (stated_by.Titles targets directions))
     × LacksTitles files known path targets.now directions.now why)
 
 -- What hinders a run of a table beside its station: what hinders one of the station; or one of the
