@@ -21,10 +21,8 @@ COMMANDS = [
 ]
 
 ALONE = "'--all' is of all stations: not with a STATION, '--table', how it is read, '--within' or '--sha256'"
-NEITHER = "no station is named: name a STATION, or ask for all of them with '--all'"
 
 ONE_TABLE = "'--all' takes one table of all stations in the place of STATION: not with another TABLE, "
-NO_TABLE = "the following required arguments were not provided:\n  <TABLE>\n"
 
 # Words that are a mistake beside a field file, and what is said of them.
 MISTAKES = [
@@ -32,17 +30,12 @@ MISTAKES = [
     (["report", "--all", "{gsi}", "S1"], ALONE),
     (["report", "--all", "--sha256", "{gsi}"], ALONE),
     (["report", "--all", "--table={gsi}", "{gsi}"], ALONE),
-    (["directions", "{gsi}"], NEITHER),
-    (["report", "{gsi}"], NEITHER),
-    (["report", "--all", "--csv", "--sha256", "{gsi}"], "'--csv' prints rows alone: "),
+    (["report", "--all", "--csv", "--sha256", "{gsi}"], ALONE),
     (["means", "--all", "{gsi}", "S1"], "unexpected argument '--all' found"),
     (["compare", "--all", "{gsi}", "S1", "{gsi}"], ONE_TABLE),
     (["differences", "--all", "{gsi}", "S1", "{gsi}"], ONE_TABLE),
     (["differences", "--all", "--json", "{gsi}", "{gsi}"], ONE_TABLE),
     (["compare", "--all", "--sha256", "--within=30", "{gsi}", "{gsi}"], ONE_TABLE),
-    (["compare", "{gsi}", "S1"], NO_TABLE),
-    (["compare", "--degrees", "--within=30", "{gsi}", "S1"], NO_TABLE),
-    (["differences", "{gsi}", "S1"], NO_TABLE),
     (["compare", "--columns=1", "{gsi}", "S1"], "invalid value '1' for '--columns <TARGET,DIRECTION>': "),
     (["compare", "--all", "{gsi}"], "the following required arguments were not provided:\n  <STATION>"),
 ]

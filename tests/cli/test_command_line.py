@@ -82,7 +82,6 @@ NO_MEMORY = (1, b"", b"refused: out of memory\n")
 # The status that the loader of shared libraries ends with.
 NOT_LOADED = 127
 
-NO_STATION = b"error: no station is named: name a STATION, or ask for all of them with '--all'\n"
 
 MORE = b"\nFor more information, try '--help'.\n"
 
@@ -238,15 +237,16 @@ class CommandLineTest(ProgramTest):
         mistakes = [
             (["words"], missing + b"  <GSI>\n"),
             (["list"], missing + b"  <GSI>\n"),
-            (["means", "a"], missing + b"  <STATION>\n"),
             (["check", "a"], missing + b"  <SHEET>\n"),
-            (["directions", "a"], NO_STATION),
-            (["report", "a"], NO_STATION),
-            (["report", "--csv", "a"], NO_STATION),
             (["compare", "a"], missing + b"  <STATION>\n"),
-            (["compare", "a", "b"], missing + b"  <TABLE>\n"),
             (["differences", "a"], missing + b"  <STATION>\n"),
-            (["differences", "a", "b"], missing + b"  <TABLE>\n"),
+            (["report", "--language", "es", "a"], b"error: invalid value 'es' for '--language <CODE>': state en for English, "),
+            (["report", "--note", "x", "--language", "", "a"], b"error: invalid value '' for '--language <CODE>': "),
+            (["report", "--csv", "--pages", "a"], b"error: '--csv' prints rows alone: "),
+            *(
+                (["compare", "--columns", text, "a", "b"], f"error: invalid value '{text}' for '--columns ".encode())
+                for text in ["", ",", "1", "Hz", "2,2", "0,1", "Target,", ",Hz", "2,Hz", "Target,6", "a,b,c"]
+            ),
             (["nonsense"], b"error: unrecognized subcommand 'nonsense'\n"),
             (["residuals", "a", "b"], b"error: unrecognized subcommand 'residuals'\n"),
             (["--nonsense"], b"error: unexpected argument '--nonsense' found\n"),
@@ -329,9 +329,9 @@ class CommandLineTest(ProgramTest):
             *([COMMANDS[command][0], "--two-c=", *COMMANDS[command][1:]] for command in LIMITED),
             *([command, "--residual=0.3", *COMMANDS[command][1:]] for command in HELD),
             ["compare", "--within=0.3", "a", "b", "c"],
-            ["compare", "--within=30", "a", "b"],
             ["differences", "--all", "a", "b", "c"],
-            ["report", "--csv", "--sha256", "a", "b"],
+            ["report", "--csv", "--signature", "a", "b"],
+            ["report", "--language=es", "a"],
             ["report", "--decimal-comma", "a", "b"],
             ["list", "--decimal-comma", "a"],
             ["differences", "--json", "--decimal-comma", "a", "b", "c"],
@@ -381,7 +381,7 @@ class CommandLineTest(ProgramTest):
             (["help"], [b"Usage: "]),
             *(([command, "--help"], RESIDUALS_HELP) for command in HELD),
             (["check", "--help"], [b"With --residual", b"no other full turns give a\nsmaller sum"]),
-            (["means", "--help"], [b"<STATION>", b"--two-c <LIMIT>", b"[default: 20mgon]"]),
+            (["means", "--help"], [b"[STATION]", b"--two-c <LIMIT>", b"[default: 20mgon]"]),
             (["means", "--help"], [b"if no residual\nlimit is stated"]),
             (["list", "--help"], [b"--csv", b"station,set,target,direction,2c,2i", b"in mgon with 2"]),
             (["list", "--help"], [b"0.01 mgon", b"--two-i <LIMIT>", b"[default: 20mgon]"]),
@@ -390,7 +390,7 @@ class CommandLineTest(ProgramTest):
             (["directions", "--help"], [b"--decimals <K>", b"[default: 6]", b"[STATION]", b"--all", b"--decimal-comma"]),
             (["differences", "--help"], [b"[TABLE]", b"--all", b"--two-c <LIMIT>", b"in mgon with 3", b"--decimal-comma", b"--json"]),
             (["report", "--help"], [b"[STATION]", b"--two-c <LIMIT>", b"degrees of freedom", b"in mgon with 3"]),
-            (["report", "--help"], [b"--table <TABLE>", b"--within <LIMIT>", b"--date <TEXT>", b"--note <KEY=TEXT>", b"--sha256", b"--signature", b"--csv", b"--decimal-comma"]),
+            (["report", "--help"], [b"--table <TABLE>", b"--within <LIMIT>", b"--date <TEXT>", b"--note <KEY=TEXT>", b"--sha256", b"--signature", b"--pages", b"--csv", b"--decimal-comma"]),
             *(([COMMANDS[command][0], "--help"], FACE_DIFFERENCES) for command in LIMITED),
             (["words", "--help"], [b"GSI-8, GSI-16 or both"]),
             (["help", "words"], [b"GSI-8, GSI-16 or both"]),
@@ -407,6 +407,37 @@ class CommandLineTest(ProgramTest):
                 stdout = answer_of([command, "--help"])[1]
                 self.assertIn(b"Exit status:\n  0  ", stdout)
                 self.assertIn(f"Example:\n  station_check {command} ".encode(), stdout)
+
+    def test_the_only_station_may_be_left_out(self):
+        """Of several the file's stations are told, and of a file with a fault that."""
+        two, bad = self.folder / "two.gsi", self.folder / "bad.gsi"
+        two.write_bytes(STATION + STATION.replace(b"42....+000000S1", b"42....+000000S2"))
+        bad.write_bytes(b"nonsense\n")
+        for name in ["compare", "differences", "means", "directions", "report", "report --csv"]:
+            words = COMMANDS[name]
+            place = words.index("S1")
+            left_out = [*words[:place], *words[place + 1 :]]
+            for file, answer in [
+                (EXAMPLE, (0, OF_EXAMPLE[name], b"")),
+                (two, (1, b"", refused("no station", "the file has S1, S2"))),
+                (bad, answer_of(["list", bad])),
+            ]:
+                with self.subTest(name, file=file):
+                    self.assert_answer(answer, [word.format(gsi=file) for word in left_out])
+        table = ["report", "--table", EXAMPLE_TABLE, EXAMPLE]
+        self.assertEqual(answer_of([*table, "S1"]), answer_of(table))
+        self.assert_answer((1, b"", refused("no station")), ["directions", "/dev/null"])
+
+    def test_columns_are_found_by_their_titles(self):
+        rows = EXAMPLE_TABLE.read_bytes().splitlines(keepends=True)
+        table = self.folder / "titled.csv"
+        table.write_bytes(b"n;Target;Hz\n" + b"".join(b"9;" + row.replace(b",", b";") for row in rows))
+        for words in [["compare", EXAMPLE], ["differences", EXAMPLE, "S1"]]:
+            self.assertEqual(
+                answer_of([*words, "--columns=2,3", table]), answer_of([*words, "--columns=Target,Hz", table])
+            )
+            for titles, reason in [("target,Hz", "NoTitle targets"), ("Target,V", "NoTitle directions")]:
+                self.assert_answer((1, b"", refused(f"table: {reason}")), [*words, f"--columns={titles}", table])
 
     def test_an_output_that_takes_nothing_is_a_refusal(self):
         commands = [shlex.join(of_file(command, EXAMPLE)) for command in COMMANDS]

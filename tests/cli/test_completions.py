@@ -33,7 +33,7 @@ TABLE_FORMS = ["--degrees", "--dmmss", "--columns"]
 OWN_OPTIONS = {
     "compare": ["--residual", "--within"],
     "directions": ["--residual", "--decimals"],
-    "report": ["--residual", "--table", *TABLE_FORMS, "--within", "--date", "--note"],
+    "report": ["--residual", "--table", *TABLE_FORMS, "--within", "--language", "--date", "--note"],
     "check": ["--residual"],
 }
 
@@ -41,7 +41,7 @@ OWN_OPTIONS = {
 FLAGS = {
     "compare": ["--sha256"],
     "directions": ["--decimal-comma"],
-    "report": ["--sha256", "--signature", "--csv", "--decimal-comma"],
+    "report": ["--sha256", "--signature", "--pages", "--csv", "--decimal-comma"],
     "check": ["--sha256"],
 }
 

@@ -4,3 +4,4 @@ pub mod LimitLaws
 pub mod MistakeLaws
 pub mod RowLaws
 pub mod TableLaws
+pub mod NoteLaws

@@ -24,16 +24,16 @@ use Rattle.command_line.specs.Stated.{IsStatedForm, StatesNoBeginnings, StatesNo
 use Rattle.command_line.specs.Stated.{StatesNoLimits, StatesNoNumber}
 use Rattle.command_line.specs.Stated.{StatesNoResidual, StatesNoWithin, StatesNumber}
 use Rattle.command_line.specs.Stated.{StatesResidual, StatesRowForm, StatesTableForm}
-use Rattle.command_line.specs.Stated.{StatesWithin}
+use Rattle.command_line.specs.Stated.{StatesUnit, StatesWithin}
 use Rattle.command_line.specs.Stated.{IsCommaAlone, IsCommaInJson}
 use Rattle.command_line.specs.StatedChanges.{StatesChanges, StatesNoChanges}
 use Rattle.command_line.specs.StatedNotes.{SpeaksOfNotes, StatesNoNotes, StatesNotes}
 use Rattle.command_line.specs.StatedNumbers.{StatesNoNumbers, StatesNumbers}
 use Rattle.command_line.specs.declared.request.AllTableText.{AllTableText}
 use Rattle.command_line.specs.declared.request.AllTableText.TheVariants as all_text
-use Rattle.command_line.specs.declared.request.Digests.TheVariants.{Omitted, Printed}
 use Rattle.command_line.specs.declared.request.FieldStation.{FieldStation}
 use Rattle.command_line.specs.declared.request.FieldStations.{FieldStations}
+use Rattle.command_line.specs.declared.request.FormStated.{FormStated}
 use Rattle.command_line.specs.declared.request.ListForm.TheVariants.{Lines, Rows}
 use Rattle.command_line.specs.declared.request.Request.{Request}
 use Rattle.command_line.specs.declared.request.Request.TheVariants as request
@@ -45,21 +45,37 @@ use Rattle.command_line.specs.declared.request.StationsText.{StationsText}
 use Rattle.command_line.specs.declared.request.StationsText.TheVariants as texts
 use Rattle.command_line.specs.declared.request.TableText.{TableText}
 use Rattle.command_line.specs.declared.request.TableText.TheVariants as table_text
-use Rattle.direction_table.specs.TableRows.{unstated}
-use Rattle.direction_table.specs.declared.form.TableForm.{TableForm}
 use Rattle.direction_table.specs.declared.unit.AngleUnit.TheVariants.{Gon}
 use Rattle.row_forms.specs.declared.form.RowForm.TheVariants.{Commas}
 
+-- The name of a station as it is stated: it may be left out.
+abbrev pub NameAsked : Type 0
+NameAsked = Option (Bor (List ℕ))
+
 -- What is asked for, with the paths of its files.
 abbrev pub Asked : Type 0
-Asked = Request (Bor (List ℕ)) (Bor (List ℕ))
+Asked = Request (Bor (List ℕ)) (Bor (List ℕ)) NameAsked FormStated
 
--- A station of a field file is asked for: the path of the file, the station's name, and the limits
--- of face differences.
-pub record AsksOfStation (found : Found) (gsi station : List ℕ) (limits : FaceLimits)
-    : Type 0 where
+-- The word after the field file is this name of a station; or it is left out, and the only station
+-- of the file is meant.
+abbrev pub NamesStation : Found → NameAsked → Type 0
+NamesStation found station =
+    first_value found (codes "STATION") ≡ option_map (λ name. name.now) station
+
+-- The words after the field file are this name of a station and the path of a table; or the path
+-- alone, and the only station of the file is meant.
+abbrev pub NamesTable : Found → NameAsked → List ℕ → Type 0
+NamesTable found (Some name) table =
+    IsGiven found (codes "STATION") name.now × IsGiven found (codes "TABLE") table
+NamesTable found None table =
+    IsGiven found (codes "STATION") table × IsMissing found (codes "TABLE")
+
+-- A station of a field file is asked for: the path of the file, the station's name where it has
+-- one, and the limits of face differences.
+pub record AsksOfStation (found : Found) (gsi : List ℕ) (station : NameAsked)
+    (limits : FaceLimits) : Type 0 where
   pub field_file : IsGiven found (codes "GSI") gsi
-  pub of_station : IsGiven found (codes "STATION") station
+  pub of_station : NamesStation found station
   pub of_limits : StatesLimits found limits
 
 -- A result is held to these limits: to those of face differences, and to that of residuals, which
@@ -68,11 +84,11 @@ pub record HoldsResult (found : Found) (limits : ResultLimits) : Type 0 where
   pub of_faces : StatesLimits found limits.faces
   pub of_residuals : HoldsResiduals found limits.residual
 
--- The adjustment of a station is asked for: the path of the field file, the station's name, and the
--- limits of the result.
-pub record AsksForResult (found : Found) (asked : FieldStation (Bor (List ℕ))) : Type 0 where
+-- The adjustment of a station is asked for: the path of the field file, and the limits of the
+-- result.
+pub record AsksForResult (found : Found) (asked : FieldStation (Bor (List ℕ)) NameAsked)
+    : Type 0 where
   pub field_file : IsGiven found (codes "GSI") asked.gsi.now
-  pub of_station : IsGiven found (codes "STATION") asked.name.now
   pub of_limits : HoldsResult found asked.limits
 
 -- The adjustments of all stations are asked for: the path of the field file, and the limits of the
@@ -85,7 +101,7 @@ pub record AsksForAll (found : Found) (asked : FieldStations (Bor (List ℕ))) :
 -- The adjustments of all stations and one table of them are asked for: the path of the field file,
 -- the path of the table in the place of a station's name, how it is read, and the limits of the
 -- results; and nothing stands beside that which is of one table of one station.
-pub record AsksForTableOfAll (found : Found) (asked : StationsBeside (Bor (List ℕ)))
+pub record AsksForTableOfAll (found : Found) (asked : StationsBeside (Bor (List ℕ)) FormStated)
     : Type 0 where
   pub field_file : IsGiven found (codes "GSI") asked.stations.gsi.now
   pub of_table : IsGiven found (codes "STATION") asked.file.now
@@ -98,11 +114,12 @@ pub record AsksForTableOfAll (found : Found) (asked : StationsBeside (Bor (List 
 pub record IsWithoutTable (found : Found) : Type 0 where
   pub no_table : IsMissing found (codes "table")
   pub no_within : StatesWithin found None
-  pub no_form : StatesTableForm found (unstated Gon)
+  pub in_gon : StatesUnit found Gon
+  pub no_columns : IsMissing found (codes "columns")
 
 -- Which text of a station is asked for, where all are not: by `directions` the table of its
 -- directions in a form, with so many decimals; by `report`, where no table is stated, the report,
--- with digests or without and with its notes, or its rows in a form, which have none.
+-- with its notes, or its rows in a form, which have none, each with digests or without.
 abbrev pub AsksForText : Text → Found → StationText → Type 0
 AsksForText name found (text.Directions decimals form) =
     (name ≡ codes "directions") × StatesNumber found (codes "decimals") decimals
@@ -110,11 +127,11 @@ AsksForText name found (text.Directions decimals form) =
 AsksForText name found (text.Report digests notes) =
     (name ≡ codes "report") × IsWithoutTable found × StatesDigests found digests
     × StatesForm found Lines × StatesNotes found notes
-AsksForText name found (text.ReportRows form) =
-    (name ≡ codes "report") × IsWithoutTable found × StatesDigests found Omitted
+AsksForText name found (text.ReportRows digests form) =
+    (name ≡ codes "report") × IsWithoutTable found × StatesDigests found digests
     × StatesForm found (Rows form) × ¬ SpeaksOfNotes found
 
--- Which text of all stations is asked for: the same, but that reports have no digests.
+-- Which text of all stations is asked for: the same, without digests.
 abbrev pub AsksForTexts : Text → Found → StationsText → Type 0
 AsksForTexts name found (texts.Directions decimals form) =
     (name ≡ codes "directions") × StatesNumber found (codes "decimals") decimals
@@ -124,23 +141,24 @@ AsksForTexts name found (texts.Reports notes) =
 AsksForTexts name found (texts.ReportRows form) =
     (name ≡ codes "report") × StatesForm found (Rows form) × ¬ SpeaksOfNotes found
 
--- Which text of a station and of the table of this path: by `compare` the comparison, with its
--- limit or none, and with digests or without; by `differences` the differences in a form, or as JSON
--- lines, which have points; by `report` the report with the table of its option and with its notes,
--- and all else as for `compare`.
-abbrev pub AsksForTableText : Text → Found → List ℕ → TableText → Type 0
-AsksForTableText name found table (table_text.Comparison within digests) =
-    (name ≡ codes "compare") × IsGiven found (codes "TABLE") table × StatesWithin found within
+-- Which text of a station, by this name where it has one, and of the table of this path: by
+-- `compare` the comparison, with its limit or none, and with digests or without; by `differences`
+-- the differences in a form, or as JSON lines, which have points; by `report` the report with the
+-- table of its option and with its notes, and all else as for `compare`.
+abbrev pub AsksForTableText : Text → Found → NameAsked → List ℕ → TableText → Type 0
+AsksForTableText name found station table (table_text.Comparison within digests) =
+    (name ≡ codes "compare") × NamesTable found station table × StatesWithin found within
     × StatesDigests found digests
-AsksForTableText name found table (table_text.Differences form) =
-    (name ≡ codes "differences") × IsGiven found (codes "TABLE") table
+AsksForTableText name found station table (table_text.Differences form) =
+    (name ≡ codes "differences") × NamesTable found station table
     × StatesRowForm found form × StatesFlag found (codes "json") false
-AsksForTableText name found table table_text.JsonLines =
-    (name ≡ codes "differences") × IsGiven found (codes "TABLE") table
+AsksForTableText name found station table table_text.JsonLines =
+    (name ≡ codes "differences") × NamesTable found station table
     × StatesRowForm found Commas × StatesFlag found (codes "json") true
-AsksForTableText name found table (table_text.Report within digests notes) =
-    (name ≡ codes "report") × IsGiven found (codes "table") table × StatesWithin found within
-    × StatesDigests found digests × StatesForm found Lines × StatesNotes found notes
+AsksForTableText name found station table (table_text.Report within digests notes) =
+    (name ≡ codes "report") × NamesStation found station × IsGiven found (codes "table") table
+    × StatesWithin found within × StatesDigests found digests × StatesForm found Lines
+    × StatesNotes found notes
 
 -- Which text of all stations and of one table of them: by `compare` the comparisons, with their
 -- limit or none; by `differences` the differences in a form.
@@ -185,14 +203,16 @@ pub record AsksToChange (found : Found) (gsi : List ℕ) (copy : Option (List �
 abbrev pub AsksFor : Text → Found → Asked → Type 0
 AsksFor name found (request.Check asked) = (name ≡ codes "check") × AsksToCheck found asked
 AsksFor name found (request.Means gsi station limits) =
-    (name ≡ codes "means") × AsksOfStation found gsi.now station.now limits
+    (name ≡ codes "means") × AsksOfStation found gsi.now station limits
 AsksFor name found (request.Station station text) =
-    AsksForResult found station × AsksForText name found text × StatesFlag found (codes "all") false
+    AsksForResult found station × NamesStation found station.name × AsksForText name found text
+    × StatesFlag found (codes "all") false
 AsksFor name found (request.Stations stations text) =
     AsksForAll found stations × AsksForTexts name found text × StatesFlag found (codes "all") true
 AsksFor name found (request.Table beside text) =
     AsksForResult found beside.station × StatesTableForm found beside.form
-    × AsksForTableText name found beside.file.now text × StatesFlag found (codes "all") false
+    × AsksForTableText name found beside.station.name beside.file.now text
+    × StatesFlag found (codes "all") false
 AsksFor name found (request.StationsTable beside text) =
     AsksForTableOfAll found beside × AsksForTextOfAll name found text
     × StatesFlag found (codes "all") true
@@ -209,21 +229,18 @@ AsksFor name found (request.Words gsi) =
     (name ≡ codes "words") × IsGiven found (codes "GSI") gsi.now
 AsksFor name found other = ⊥
 
--- No station can be asked for: the field file or the name is missing, or no limits are stated that
--- may be.
+-- No station can be asked for: the field file is missing, or no limits are stated that may be.
 abbrev pub LacksStation : Found → Type 0
-LacksStation found =
-    IsMissing found (codes "GSI") ⊎ IsMissing found (codes "STATION") ⊎ StatesNoLimits found
+LacksStation found = IsMissing found (codes "GSI") ⊎ StatesNoLimits found
 
 -- A result can be held to no limits: none of face differences, or of residuals, is stated that may
 -- be.
 abbrev pub LacksLimits : Found → Type 0
 LacksLimits found = StatesNoLimits found ⊎ StatesNoResidual found
 
--- No result of a station can be asked for: the field file or the name is missing, or its limits.
+-- No result of a station can be asked for: the field file is missing, or its limits.
 abbrev pub LacksResult : Found → Type 0
-LacksResult found =
-    IsMissing found (codes "GSI") ⊎ IsMissing found (codes "STATION") ⊎ LacksLimits found
+LacksResult found = IsMissing found (codes "GSI") ⊎ LacksLimits found
 
 -- The results of all stations can't be: the field file is missing, or their limits, or something
 -- that is of one station stands beside that.
@@ -237,11 +254,10 @@ LacksResults found =
     (StatesFlag found (codes "all") false × LacksResult found)
     ⊎ (StatesFlag found (codes "all") true × LacksAll found)
 
--- The table of a station is missing, where all are not asked for; or beside one table of all, where
--- they are, something stands that is of one station.
+-- No table can be: no word of its path is there; or beside one table of all stations something
+-- stands that is of one.
 abbrev pub LacksTable : Found → Type 0
-LacksTable found =
-    (StatesFlag found (codes "all") false × IsMissing found (codes "TABLE"))
+LacksTable found = IsMissing found (codes "STATION")
     ⊎ (StatesFlag found (codes "all") true × StandsBesideTable found)
 
 -- What `compare` needs isn't found, or what it has doesn't go together.
@@ -260,7 +276,7 @@ LacksForDirections found = LacksResults found ⊎ StatesNoNumber found (codes "d
 
 -- How a table is read is stated: in another unit than gon, or by columns.
 abbrev pub SpeaksOfForm : Found → Type 0
-SpeaksOfForm found = (form : TableForm) × StatesTableForm found form × IsStatedForm form
+SpeaksOfForm found = (form : FormStated) × StatesTableForm found form × IsStatedForm form
 
 -- A limit of a comparison is stated, or how a table is read, and no table.
 abbrev pub SpeaksOfNoTable : Found → Type 0
@@ -269,13 +285,13 @@ SpeaksOfNoTable found =
     × (((within : ℕ) × StatesWithin found (Some within)) ⊎ SpeaksOfForm found)
 
 -- A report is to be of rows, and something beside them is stated: a table, a limit of a comparison,
--- how one is read, that digests be printed, or what a report notes.
+-- how one is read, or what a report alone can have.
 abbrev pub HasMoreThanRows : Found → Type 0
 HasMoreThanRows found =
     StatesFlag found (codes "csv") true
     × (((table : List ℕ) × IsGiven found (codes "table") table)
     ⊎ ((within : ℕ) × StatesWithin found (Some within)) ⊎ SpeaksOfForm found
-    ⊎ StatesDigests found Printed ⊎ SpeaksOfNotes found)
+    ⊎ SpeaksOfNotes found)
 
 -- What `report` needs isn't found, or what it has doesn't go together.
 abbrev pub LacksToReport : Found → Type 0

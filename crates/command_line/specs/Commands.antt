@@ -115,6 +115,10 @@ json_rule = flag_rule (codes "json")
 abbrev pub signature_rule : Rule
 signature_rule = flag_rule (codes "signature")
 
+-- The flag `--pages`: a report is divided into pages.
+abbrev pub pages_rule : Rule
+pages_rule = flag_rule (codes "pages")
+
 -- The option `--station NAME`, which may be left out: the name of the file's one station.
 abbrev pub stated_name_rule : Rule
 stated_name_rule = text_rule (codes "station")
@@ -151,14 +155,14 @@ optional_path_rule id = record (optional_rule id) { parser = Some NonEmptyString
 abbrev pub copy_rule : Rule
 copy_rule = optional_path_rule (codes "COPY")
 
--- The name of the station; or, of `compare` and `differences` where all are asked for, the path of
--- the one table of all.
-abbrev pub station_rule : Rule
-station_rule = given_rule (codes "STATION")
+-- The name of the station; or, where no word follows or all stations are asked for, the path of the
+-- table.
+abbrev pub station_or_table_rule : Rule
+station_or_table_rule = given_rule (codes "STATION")
 
--- The name of the station, which is left out where all are asked for.
-abbrev pub optional_station_rule : Rule
-optional_station_rule = optional_rule (codes "STATION")
+-- The name of the station, which may be left out.
+abbrev pub station_rule : Rule
+station_rule = optional_rule (codes "STATION")
 
 -- The flag `--all`: all stations of the file are asked for.
 abbrev pub all_rule : Rule
@@ -168,7 +172,7 @@ all_rule = flag_rule (codes "all")
 abbrev pub sheet_rule : Rule
 sheet_rule = path_rule (codes "SHEET")
 
--- The path of the table, which is left out where all stations are asked for.
+-- The path of the table, where the name of the station stands before it.
 abbrev pub table_rule : Rule
 table_rule = optional_path_rule (codes "TABLE")
 
@@ -196,8 +200,7 @@ abbrev pub rule_for : Argument → Rule
 rule_for argument.FieldFile = field_file_rule
 rule_for argument.Copy = copy_rule
 rule_for argument.Station = station_rule
-rule_for argument.StationOrTable = station_rule
-rule_for argument.OptionalStation = optional_station_rule
+rule_for argument.StationOrTable = station_or_table_rule
 rule_for argument.All = all_rule
 rule_for argument.Sheet = sheet_rule
 rule_for argument.Table = table_rule
@@ -228,6 +231,7 @@ rule_for argument.Language = language_rule
 rule_for argument.Date = date_rule
 rule_for argument.Note = note_rule
 rule_for argument.Signature = signature_rule
+rule_for argument.Pages = pages_rule
 
 -- A command of this name, with these arguments and options.
 abbrev pub of_rules : Text → List Rule → Shape
@@ -237,33 +241,34 @@ of_rules name rules = record (new_shape name) { rules = rules }
 abbrev pub alone : Shape → App
 alone s = record { top = s; subs = [] }
 
--- `compare GSI STATION TABLE`, or `compare --all GSI TABLE`
+-- `compare GSI STATION TABLE`, `compare GSI TABLE`, or `compare --all GSI TABLE`
 abbrev pub compare_words : Shape
 compare_words = of_rules (codes "compare")
-    (field_file_rule ∷ station_rule ∷ table_rule ∷ all_rule
+    (field_file_rule ∷ station_or_table_rule ∷ table_rule ∷ all_rule
     ∷ degrees_rule ∷ dmmss_rule ∷ columns_rule ∷ two_c_rule ∷ two_i_rule ∷ residual_rule
     ∷ within_rule ∷ digests_rule ∷ [])
 
--- `differences GSI STATION TABLE`, or `differences --all GSI TABLE`
+-- `differences GSI STATION TABLE`, `differences GSI TABLE`, or `differences --all GSI TABLE`
 abbrev pub differences_words : Shape
 differences_words = of_rules (codes "differences")
-    (field_file_rule ∷ station_rule ∷ table_rule ∷ all_rule
+    (field_file_rule ∷ station_or_table_rule ∷ table_rule ∷ all_rule
     ∷ degrees_rule ∷ dmmss_rule ∷ columns_rule ∷ two_c_rule ∷ two_i_rule ∷ residual_rule
     ∷ decimal_comma_rule ∷ json_rule ∷ [])
 
--- `directions GSI STATION`, or `directions --all GSI`
+-- `directions GSI STATION`, `directions GSI`, or `directions --all GSI`
 abbrev pub directions_words : Shape
 directions_words = of_rules (codes "directions")
-    (field_file_rule ∷ optional_station_rule ∷ all_rule
+    (field_file_rule ∷ station_rule ∷ all_rule
     ∷ two_c_rule ∷ two_i_rule ∷ residual_rule ∷ decimals_rule ∷ decimal_comma_rule ∷ [])
 
--- `report GSI STATION`, or `report --all GSI`
+-- `report GSI STATION`, `report GSI`, or `report --all GSI`
 abbrev pub report_words : Shape
 report_words = of_rules (codes "report")
-    (field_file_rule ∷ optional_station_rule ∷ all_rule
+    (field_file_rule ∷ station_rule ∷ all_rule
     ∷ two_c_rule ∷ two_i_rule ∷ residual_rule
     ∷ stated_table_rule ∷ degrees_rule ∷ dmmss_rule ∷ columns_rule ∷ within_rule ∷ language_rule
-    ∷ date_rule ∷ note_rule ∷ digests_rule ∷ signature_rule ∷ csv_rule ∷ decimal_comma_rule ∷ [])
+    ∷ date_rule ∷ note_rule ∷ digests_rule ∷ signature_rule ∷ pages_rule ∷ csv_rule
+    ∷ decimal_comma_rule ∷ [])
 
 -- `check GSI SHEET`
 abbrev pub check_words : Shape
@@ -271,7 +276,7 @@ check_words = of_rules (codes "check")
     (field_file_rule ∷ sheet_rule
     ∷ two_c_rule ∷ two_i_rule ∷ residual_rule ∷ digests_rule ∷ [])
 
--- `means GSI STATION`
+-- `means GSI STATION`, or `means GSI`
 abbrev pub means_words : Shape
 means_words =
     of_rules (codes "means") (field_file_rule ∷ station_rule ∷ two_c_rule ∷ two_i_rule ∷ [])

@@ -2,6 +2,7 @@
 pub mod Commands
 pub mod StatedNumbers
 pub mod StatedChanges
+pub mod StatedColumns
 pub mod Stated
 pub mod StatedNotes
 pub mod CommandLine

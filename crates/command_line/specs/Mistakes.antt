@@ -1,5 +1,6 @@
 -- What is mistaken in words that the grammar takes, by what is found of them, and what is told.
-use Rattle.std.specs.Prelude.{◌≡◌, ◌≢◌, ◌++◌, ◌<◌, ◌≤◌, ◌⊎◌, ℕ, IsSome, List, true, ⊤, codes}
+use Rattle.std.specs.Prelude.{◌≡◌, ◌≢◌, ◌++◌, ◌<◌, ◌≤◌, ◌⊎◌, ℕ, IsSome, List, None, Some, true}
+use Rattle.std.specs.Prelude.{⊤, codes}
 use Rattle.clap.specs.Words.{matched_of}
 use Rattle.clap.specs.declared.parser.matches.Found.{Found}
 use Rattle.command_line.specs.CountOptions.{count_is_not_in, count_largest, count_may_be}
@@ -12,9 +13,10 @@ use Rattle.command_line.specs.Stated.{StatesNoCode, StatesNoColumns, StatesUnit}
 use Rattle.changed_lines.specs.Stated.{IsFirstUnsaid}
 use Rattle.changed_lines.specs.declared.stated.EditKind.{EditKind}
 use Rattle.command_line.specs.StatedChanges.{change_form, change_name, change_place, change_why}
-use Rattle.command_line.specs.StatedNotes.{SpeaksOfNotes, language_stated}
+use Rattle.command_line.specs.StatedNotes.{SpeaksOfNotes, language_named, language_stated}
 use Rattle.command_line.specs.StatedNumbers.{texts_of}
 use Rattle.report_notes.specs.Stated.{IsFirstUnnoted}
+use Rattle.report_phrases.specs.declared.language.Language.{Language}
 use Rattle.job_statements.specs.WrongTexts.{IsFirstWrong}
 use Rattle.command_line.specs.declared.count_option.CountOption.{CountOption}
 use Rattle.command_line.specs.declared.limit_option.LimitOption.{LimitOption}
@@ -46,19 +48,20 @@ HasOption found name = IsSome (matched_of found name)
 unfoldable pub HasForm : Found → Type 0
 HasForm found = ¬ (StatesUnit found Gon) ⊎ HasOption found (codes "columns")
 
--- What only the report of one station can have is stated: a table, a limit of a comparison, how a
--- table is read, or that digests be printed.
-abbrev pub IsOfOneReport : Found → Type 0
-IsOfOneReport found = HasOption found (codes "table") ⊎ HasOption found (codes "within")
-    ⊎ HasForm found ⊎ StatesDigests found Printed
+-- What is of a table beside a report is stated: the table, a limit of a comparison, or how a table
+-- is read.
+abbrev pub IsOfTable : Found → Type 0
+IsOfTable found = HasOption found (codes "table") ⊎ HasOption found (codes "within") ⊎ HasForm found
 
--- What may not stand beside rows is stated: that, or a language, or what a report notes.
+-- What may not stand beside rows is stated: that, or what a report alone can have.
 abbrev pub StandsBesideRows : Found → Type 0
-StandsBesideRows found = IsOfOneReport found ⊎ SpeaksOfNotes found
+StandsBesideRows found = IsOfTable found ⊎ SpeaksOfNotes found
 
--- What is of one station is stated: its name, or what only its report can have.
+-- What is of one station is stated: its name, what is of a table beside its report, or that digests
+-- be printed.
 abbrev pub StandsBesideAll : Found → Type 0
-StandsBesideAll found = HasOption found (codes "STATION") ⊎ IsOfOneReport found
+StandsBesideAll found = HasOption found (codes "STATION") ⊎ IsOfTable found
+    ⊎ StatesDigests found Printed
 
 -- What may not stand beside one table of all stations is stated: another one, JSON lines, or that
 -- digests be printed.
@@ -88,20 +91,25 @@ IsWrongCode found text = IsGiven found (codes "station-code") text × StatesNoCo
 abbrev pub IsWrongChange : Found → EditKind → List ℕ → Type 0
 IsWrongChange found kind text = IsFirstUnsaid kind (texts_of found (change_name kind)) text
 
--- This text of the option is the first that states no note.
-abbrev pub IsWrongNote : Found → List ℕ → Type 0
-IsWrongNote found text =
-    IsFirstUnnoted (language_stated found) (texts_of found (codes "note")) text
+-- This is stated as the language of a report, and is no code of one.
+abbrev pub IsWrongLanguage : Found → List ℕ → Type 0
+IsWrongLanguage found text =
+    IsGiven found (codes "language") text × (language_named text ≡ None)
 
--- This mistake is there: the text of an option is no limit; a text states no columns; JSON lines are
--- asked for, and decimal commas; rows are asked for, and something beside them; the limit of a
+-- This text of the option is the first that states no note in the stated language.
+abbrev pub IsWrongNote : Found → List ℕ → Type 0
+IsWrongNote found text = (language : Language) × (language_stated found ≡ Some language)
+    × IsFirstUnnoted language (texts_of found (codes "note")) text
+
+-- This mistake is there: the text of an option is no limit; a text states no columns; JSON lines
+-- are asked for, and decimal commas; rows are asked for, and something beside them; the limit of a
 -- comparison, or how a table is read, is stated without a table; a decimal comma is stated, and no
 -- rows; a text of an option that states numbers can't stand where it does; the code of the stations
--- is none that may be; a text of an option that states changes of lines says none; a text of `--note`
--- states no note; all stations are asked for, and something that is of one; a name is stated for a
--- station; one table of all stations is asked for, and something that is of one. That no station or
--- table is named, and not all are asked for, is told where no other mistake is there: no more is
--- said of it.
+-- is none that may be; a text of an option that states changes of lines says none; the text of the
+-- language is no code of one; a text of `--note` states no note; all stations are asked for, and
+-- something that is of one; a name is stated for a station; one table of all stations is asked for,
+-- and something that is of one. That an argument is missing is told where no other mistake is
+-- there: the grammar has refused it before.
 abbrev pub IsThere : Found → Mistake → Type 0
 IsThere found (mistake.Limit option text) = IsNoLimit found option text.now
 IsThere found (mistake.Columns text) = IsWrongColumns found text.now
@@ -114,19 +122,19 @@ IsThere found mistake.DecimalComma = IsCommaAlone found
 IsThere found (mistake.Count option text fault) = IsWrongCount found option text.now fault
 IsThere found (mistake.Code text) = IsWrongCode found text.now
 IsThere found (mistake.Change kind text) = IsWrongChange found kind text.now
+IsThere found (mistake.Language text) = IsWrongLanguage found text.now
 IsThere found (mistake.Note text) = IsWrongNote found text.now
 IsThere found mistake.All = StatesFlag found (codes "all") true × StandsBesideAll found
 IsThere found mistake.Name = HasOption found (codes "station")
-IsThere found mistake.NoStation = ⊤
+IsThere found mistake.Missing = ⊤
 IsThere found mistake.TableOfAll = StatesFlag found (codes "all") true × StandsBesideTable found
-IsThere found mistake.NoTable = ⊤
 
 -- The place of a mistake in the order in which mistakes are told: wrong limits by the places of
 -- their options, then columns, then JSON lines or rows, of which no command has both, then what is
--- stated without a table, a decimal comma, numbers, a code, changes of lines, notes, all stations
--- beside one, a name, and that none is named last. What other commands than `report` are told stands
--- before what is stated without a table: it alone has that option. The last two are of `compare` and
--- `differences`, which lack it.
+-- stated without a table, a decimal comma, numbers, a code, changes of lines, the language, notes,
+-- all stations beside one, a name, and that an argument is missing last. What other commands than
+-- `report` are told stands before what is stated without a table: it alone has that option. The
+-- very last is of `compare` and `differences`, which lack it.
 abbrev pub rank : Mistake → ℕ
 rank (mistake.Limit option text) = place option
 rank (mistake.Columns text) = 4
@@ -138,12 +146,12 @@ rank mistake.DecimalComma = 8
 rank (mistake.Count option text fault) = count_place option
 rank (mistake.Code text) = 11
 rank (mistake.Change kind text) = change_place kind
-rank (mistake.Note text) = 14
-rank mistake.All = 15
-rank mistake.Name = 16
-rank mistake.NoStation = 17
-rank mistake.TableOfAll = 18
-rank mistake.NoTable = 19
+rank (mistake.Language text) = 14
+rank (mistake.Note text) = 15
+rank mistake.All = 16
+rank mistake.Name = 17
+rank mistake.Missing = 18
+rank mistake.TableOfAll = 19
 
 -- No mistake that is told before this place is there.
 abbrev pub NoneIsBefore : ℕ → Found → Type 0
@@ -154,13 +162,13 @@ pub record IsMistakeAmong (found : Found) (mistake : Mistake) : Type 0 where
   pub there : IsThere found mistake
   pub first : NoneIsBefore (rank mistake) found
 
--- The mistake that is told of what is found after `compare` or `differences`: one that is told before
--- what is stated without the option of a table; or, where none of these is there, what may not stand
--- beside one table of all stations, or else that no table is named.
+-- The mistake that is told of what is found after `compare` or `differences`: one that is told
+-- before what is stated without the option of a table; or, where none of these is there, what may
+-- not stand beside one table of all stations, or else that an argument is missing.
 abbrev pub IsMistakeBesideTable : Found → Mistake → Type 0
 IsMistakeBesideTable found mistake.TableOfAll =
     NoneIsBefore 6 found × IsThere found mistake.TableOfAll
-IsMistakeBesideTable found mistake.NoTable =
+IsMistakeBesideTable found mistake.Missing =
     NoneIsBefore 6 found × ¬ (IsThere found mistake.TableOfAll)
 IsMistakeBesideTable found other = (rank other < 6) × IsMistakeAmong found other
 
@@ -198,7 +206,12 @@ code_why = codes "a code has 1 to 16 characters of ASCII, and is none of 10, 20 
 
 -- What is told of a text that states no columns of a table.
 abbrev pub columns_why : List ℕ
-columns_why = codes "two columns by their numbers from 1, with a comma between, as 2,6"
+columns_why = codes "two columns by their numbers from 1 or by their titles, with a comma between, "
+    ++ codes "as 2,6 or Target,Hz"
+
+-- What is told of a text that is no code of a language.
+abbrev pub language_why : List ℕ
+language_why = codes "state en for English, de for German or fr for French"
 
 -- What is told of a text that states no note.
 abbrev pub note_why : List ℕ
@@ -212,8 +225,8 @@ mistake_text (mistake.Limit option text) =
     codes "invalid value '" ++ text.now ++ codes "' for '--" ++ option_name option
     ++ codes " <LIMIT>': " ++ option_limits option
 mistake_text mistake.Rows =
-    codes "'--csv' prints rows alone: not with '--table', how it is read, '--within', '--sha256', "
-    ++ codes "'--language', or what a report notes"
+    codes "'--csv' prints rows alone: not with '--table', how it is read, '--within', "
+    ++ codes "'--language', '--pages', or what a report notes"
 mistake_text mistake.Within =
     codes "'--within <LIMIT>' limits how far a table may be off: name it with '--table <TABLE>'"
 mistake_text mistake.Form =
@@ -233,6 +246,8 @@ mistake_text (mistake.Code text) =
 mistake_text (mistake.Change kind text) =
     codes "invalid value '" ++ text.now ++ codes "' for '--" ++ change_form kind ++ codes "': "
     ++ change_why kind
+mistake_text (mistake.Language text) =
+    codes "invalid value '" ++ text.now ++ codes "' for '--language <CODE>': " ++ language_why
 mistake_text (mistake.Note text) =
     codes "invalid value '" ++ text.now ++ codes "' for '--note <KEY=TEXT>': " ++ note_why
 mistake_text mistake.All =
@@ -240,10 +255,7 @@ mistake_text mistake.All =
     ++ codes "'--sha256'"
 mistake_text mistake.Name =
     codes "the name of a station has 1 to 16 characters of ASCII, from the blank to '~'"
-mistake_text mistake.NoStation =
-    codes "no station is named: name a STATION, or ask for all of them with '--all'"
+mistake_text mistake.Missing = codes "an argument is missing"
 mistake_text mistake.TableOfAll =
     codes "'--all' takes one table of all stations in the place of STATION: not with another TABLE, "
     ++ codes "'--json' or '--sha256'"
-mistake_text mistake.NoTable =
-    codes "the following required arguments were not provided:\n  <TABLE>"

@@ -13,13 +13,13 @@ use Rattle.limit_texts.specs.Limits.{StatesLimit}
 use Rattle.limit_texts.specs.declared.limit.LimitUnit.{LimitUnit}
 use Rattle.limit_texts.specs.declared.limit.LimitUnit.TheVariants.{Hundredth, HalfUnit, Thousandth}
 use Rattle.station_book.specs.Limits.{AreLimits, FaceLimits}
-use Rattle.direction_table.specs.StatedColumns.{stated_columns}
-use Rattle.direction_table.specs.declared.form.ColumnPair.{ColumnPair}
-use Rattle.direction_table.specs.declared.form.TableForm.{TableForm}
 use Rattle.direction_table.specs.declared.unit.AngleUnit.{AngleUnit}
 use Rattle.direction_table.specs.declared.unit.AngleUnit.TheVariants.{Gon, Degrees, PackedDegrees}
+use Rattle.command_line.specs.StatedColumns.{StateColumns, StateNoColumns}
+use Rattle.command_line.specs.declared.request.ColumnsStated.{ColumnsStated}
 use Rattle.command_line.specs.declared.request.Digests.{Digests}
 use Rattle.command_line.specs.declared.request.Digests.TheVariants.{Printed, Omitted}
+use Rattle.command_line.specs.declared.request.FormStated.{FormStated}
 use Rattle.command_line.specs.declared.request.ListForm.{ListForm}
 use Rattle.command_line.specs.declared.request.ListForm.TheVariants.{Lines, Rows}
 use Rattle.row_forms.specs.declared.form.RowForm.{RowForm}
@@ -137,22 +137,22 @@ StatesUnit found Gon =
     StatesFlag found (codes "dmmss") false × StatesFlag found (codes "degrees") false
 
 -- These columns of a table are stated, or none.
-abbrev pub StatesColumns : Found → Option ColumnPair → Type 0
+abbrev pub StatesColumns : Found → Option ColumnsStated → Type 0
 StatesColumns found None = IsMissing found (codes "columns")
-StatesColumns found (Some pair) = (text : List ℕ) × IsGiven found (codes "columns") text
-    × (stated_columns text ≡ Some pair)
+StatesColumns found (Some columns) = (text : List ℕ) × IsGiven found (codes "columns") text
+    × StateColumns text columns
 
 -- A text of columns is stated, and states none.
 abbrev pub StatesNoColumns : Found → Type 0
 StatesNoColumns found = (text : List ℕ) × IsGiven found (codes "columns") text
-    × (stated_columns text ≡ None)
+    × StateNoColumns text
 
 -- A table is to be read so.
-abbrev pub StatesTableForm : Found → TableForm → Type 0
+abbrev pub StatesTableForm : Found → FormStated → Type 0
 StatesTableForm found form = StatesUnit found form.unit × StatesColumns found form.columns
 
 -- That isn't how a table is read of which nothing is stated: in gon, and by no stated columns.
-abbrev pub IsStatedForm : TableForm → Type 0
+abbrev pub IsStatedForm : FormStated → Type 0
 IsStatedForm form = (form.unit ≢ Gon) ⊎ IsSome form.columns
 
 -- This name of a station is stated, or none.

@@ -113,6 +113,9 @@ pub(crate) const NOTE: &str = "note";
 /// The flag that ends a report with lines for a signature.
 pub(crate) const SIGNATURE: &str = "signature";
 
+/// The flag that divides a report into pages.
+pub(crate) const PAGES: &str = "pages";
+
 /// The limit of a face difference that no option states.
 const USUAL_LIMIT: &str = "20mgon";
 
@@ -128,14 +131,12 @@ pub(crate) enum Argument {
     /// The path of the copy of a field file.
     Copy,
 
-    /// The name of the station.
+    /// The name of the station, which may be left out.
     Station,
 
-    /// The name of the station; or the path of the one table of all, where all are asked for.
+    /// The name of the station; or the path of the table, where no word follows or all stations are
+    /// asked for.
     StationOrTable,
-
-    /// The name of the station, where not all are asked for.
-    OptionalStation,
 
     /// That all stations are asked for.
     All,
@@ -226,6 +227,9 @@ pub(crate) enum Argument {
 
     /// That a report ends with lines for a signature.
     Signature,
+
+    /// That a report is divided into pages.
+    Pages,
 }
 
 impl Argument {
@@ -245,8 +249,8 @@ impl Argument {
         match self {
             Argument::FieldFile => path(alloc, GSI),
             Argument::Copy => optional_path(alloc, COPY),
-            Argument::Station | Argument::StationOrTable => given(alloc, STATION),
-            Argument::OptionalStation => optional(alloc, STATION),
+            Argument::Station => optional(alloc, STATION),
+            Argument::StationOrTable => given(alloc, STATION),
             Argument::All => flag(alloc, ALL),
             Argument::Sheet => path(alloc, SHEET),
             Argument::Table => optional_path(alloc, TABLE),
@@ -277,6 +281,7 @@ impl Argument {
             Argument::Date => text_option(alloc, DATE, "TEXT"),
             Argument::Note => many_texts(alloc, NOTE, "KEY=TEXT"),
             Argument::Signature => flag(alloc, SIGNATURE),
+            Argument::Pages => flag(alloc, PAGES),
         }
     }
 
@@ -285,10 +290,8 @@ impl Argument {
         match self {
             Argument::FieldFile => "The field file, in GSI-8, GSI-16 or both",
             Argument::Copy => "The file that the copy goes to, where none is yet",
-            Argument::Station | Argument::OptionalStation => "The name of the station",
-            Argument::StationOrTable => {
-                "The name of the station; with --all the path of one table of all stations"
-            }
+            Argument::Station => help::STATION_HELP,
+            Argument::StationOrTable => help::STATION_OR_TABLE_HELP,
             Argument::All => "Answer all stations, in the order of the file, in the place of one",
             Argument::Sheet => "The sheet, comma-separated text",
             Argument::Table => help::TABLE_HELP,
@@ -301,7 +304,9 @@ impl Argument {
             Argument::MinutesAfterPoint => {
                 "Read degrees with minutes and seconds after the point, as 59.040918"
             }
-            Argument::Columns => "Read these columns of the table, by number, as 2,6",
+            Argument::Columns => {
+                "Read these columns of the table, by number or title, as 2,6 or Target,Hz"
+            }
             Argument::Decimals => "How many decimals of a gon a direction is written with: 1 to 8",
             Argument::Digests => "Print the SHA-256 digests of what was read, after the answer",
             Argument::Rows => "Print rows for other programs, as CSV",
@@ -325,6 +330,7 @@ impl Argument {
             Argument::Date => "Print this date in the head of the report",
             Argument::Note => "Print a line KEY with TEXT in the head of the report: once a line",
             Argument::Signature => "End the report with lines for a place, a date and a signature",
+            Argument::Pages => "Divide the report into pages of 60 lines",
         }
     }
 
@@ -346,7 +352,7 @@ impl Argument {
             Argument::Json => help::JSON_LONG_HELP,
             Argument::StatedTable => help::STATED_TABLE_LONG_HELP,
             Argument::Copy => help::COPY_LONG_HELP,
-            Argument::StatedName => help::STATION_LONG_HELP,
+            Argument::StatedName => help::STATED_NAME_LONG_HELP,
             Argument::SameSetUp => help::SAME_SET_UP_LONG_HELP,
             Argument::Again => help::AGAIN_LONG_HELP,
             Argument::StationCode => help::STATION_CODE_LONG_HELP,
@@ -358,10 +364,10 @@ impl Argument {
             Argument::Language => help::LANGUAGE_LONG_HELP,
             Argument::Date => help::DATE_LONG_HELP,
             Argument::Note => help::NOTE_LONG_HELP,
+            Argument::Pages => help::PAGES_LONG_HELP,
+            Argument::StationOrTable => help::STATION_OR_TABLE_LONG_HELP,
             Argument::FieldFile
             | Argument::Station
-            | Argument::StationOrTable
-            | Argument::OptionalStation
             | Argument::Sheet
             | Argument::Table
             | Argument::Fault

@@ -10,7 +10,7 @@ ghost use Rattle.command_line.specs.Commands.{the_program};
 use crate::arguments::FAULT;
 use crate::commands::program;
 use crate::mistakes::{mistake_in, no_such_fault};
-use crate::request::Request;
+use crate::request::{Asked, Request};
 use crate::subcommands::request_after;
 use clap::error::ErrorKind;
 use clap::{ArgMatches, Error};
@@ -31,7 +31,7 @@ pub fn asked_for<'a>(
     version: &'a str,
     table: &[&'static [Explanation]],
     words: &'a [String],
-) -> Result<Request<'a, &'a str, &'a str>, Error>
+) -> Result<Asked<'a>, Error>
     ensures asked { IfOk result (IsAskedForBy (map string_bytes words.now) table.now) }
     ensures mistake { IfErr result (IsMistakeIn (map string_bytes words.now) table.now) }
 {
@@ -71,7 +71,7 @@ fn request_named<'a>(
     table: &[&'static [Explanation]],
     called: &str,
     matches: &ArgMatches<'a>,
-) -> Result<Request<'a, &'a str, &'a str>, Error>
+) -> Result<Asked<'a>, Error>
     ensures asked { IfOk result (IsAskedFor (subcommand_rows_of matches.now) table.now) }
     ensures mistake { IfErr result (λ error. (kind_of error ≡ ErrorKind.OutOfMemory)
         ⊎ NamesMistake (subcommand_rows_of matches.now) table.now error) }
@@ -93,7 +93,7 @@ fn explanation_asked_for<'a>(
     table: &[&'static [Explanation]],
     called: &str,
     found: &ArgMatches<'a>,
-) -> Result<Request<'a, &'a str, &'a str>, Error>
+) -> Result<Asked<'a>, Error>
     ensures asked { IfOk result (AsksToExplain (found_of found.now) table.now) }
     ensures mistake { IfErr result (IsMistakenName (found_of found.now) table.now) }
 {

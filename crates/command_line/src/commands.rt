@@ -191,7 +191,7 @@ const DIFFERENCES: [Argument; 12] = [
 /// The arguments and options of `directions`.
 const DIRECTIONS: [Argument; 8] = [
     Argument::FieldFile,
-    Argument::OptionalStation,
+    Argument::Station,
     Argument::All,
     Argument::TwoC,
     Argument::TwoI,
@@ -201,9 +201,9 @@ const DIRECTIONS: [Argument; 8] = [
 ];
 
 /// The arguments and options of `report`.
-const REPORT: [Argument; 18] = [
+const REPORT: [Argument; 19] = [
     Argument::FieldFile,
-    Argument::OptionalStation,
+    Argument::Station,
     Argument::All,
     Argument::TwoC,
     Argument::TwoI,
@@ -218,6 +218,7 @@ const REPORT: [Argument; 18] = [
     Argument::Note,
     Argument::Digests,
     Argument::Signature,
+    Argument::Pages,
     Argument::Rows,
     Argument::DecimalComma,
 ];

@@ -20,12 +20,11 @@ use crate::arguments::{
     STATED_NAME, STATION_CODE, TWO_C, TWO_I, WITHIN,
 };
 use crate::count_option::CountOption;
-use crate::request::{Digests, ListForm};
+use crate::request::{ColumnsStated, Digests, FormStated, ListForm};
+use crate::stated_columns::columns_in;
 use adjust_kernel::{Name, ResidualLimit};
 use clap::ArgMatches;
-use direction_table::{
-    AngleUnit, ColumnPair, Decimals, LARGEST_WITHIN, MOST_WRITTEN, TableForm, stated_columns,
-};
+use direction_table::{AngleUnit, Decimals, LARGEST_WITHIN, MOST_WRITTEN};
 use job_statements::{Beginnings, StatedNumber, Unstated, numbers_of, station_code};
 use limit_texts::{LimitUnit, limit_stated};
 use row_forms::RowForm;
@@ -171,22 +170,22 @@ pub(crate) fn unit_of(found: &ArgMatches<'_>) -> AngleUnit
 }
 
 /// The columns of a table that are stated, or that none are, unless the text states none.
-pub(crate) fn columns_of(found: &ArgMatches<'_>) -> Option<Option<ColumnPair>>
+pub(crate) fn columns_of<'a>(found: &ArgMatches<'a>) -> Option<Option<ColumnsStated<'a>>>
     ensures stated { IfSome result (StatesColumns (found_of found.now)) }
     ensures none { IfNone result (StatesNoColumns (found_of found.now)) }
 {
     let Some(text) = found.get_str(COLUMNS) else {
         return Some(None);
     };
-    Some(Some(stated_columns(text.as_bytes())?))
+    Some(Some(columns_in(text)?))
 }
 
 /// How a table is to be read, unless the text of its columns states none.
-pub(crate) fn table_form_of(found: &ArgMatches<'_>) -> Option<TableForm>
+pub(crate) fn table_form_of<'a>(found: &ArgMatches<'a>) -> Option<FormStated<'a>>
     ensures stated { IfSome result (StatesTableForm (found_of found.now)) }
     ensures none { IfNone result (StatesNoColumns (found_of found.now)) }
 {
-    Some(TableForm {
+    Some(FormStated {
         unit: unit_of(found),
         columns: columns_of(found)?,
     })

@@ -70,7 +70,8 @@ With --all the second word is the path of one table of all stations, as 'directi
 it: each row begins with the name of its station.
 
 STATION is a name of the field file, byte for byte, without the zeros on its left. Write '--' before
-a name that begins with '-'.";
+a name that begins with '-'. Of a file with one station it may be left out; not of a pipe, which
+can't be read twice.";
 
 pub const COMPARE_EXAMPLE: &str = "\
 Exit status:
@@ -104,7 +105,8 @@ Rounded values are rounded once, from the exact fraction, and halves go up.
 
 TABLE is read as 'compare' reads it, also with --all, where each row begins with the name of its
 station. STATION is a name of the field file, byte for byte, without the zeros on its left. Write
-'--' before a name that begins with '-'.";
+'--' before a name that begins with '-'. Of a file with one station it may be left out; not of a
+pipe, which can't be read twice.";
 
 pub const DIFFERENCES_EXAMPLE: &str = "\
 Exit status:
@@ -132,7 +134,8 @@ up. 'compare' reads such a table.
 With --all each row is STATION,NAME,DIRECTION, after a row of titles, station after station.
 
 STATION is a name of the field file, byte for byte, without the zeros on its left. Write '--' before
-a name that begins with '-'.";
+a name that begins with '-'. Of a file with one station it may be left out; not of a pipe, which
+can't be read twice.";
 
 pub const DIRECTIONS_EXAMPLE: &str = "\
 Exit status:
@@ -180,7 +183,8 @@ target. No line is wider than 78 bytes, but for those of paths, notes and what i
 stands as sha256sum prints it, a line feed as '\\n', but other control bytes as '\\x1b'.
 
 STATION is a name of the field file, byte for byte, without the zeros on its left. Write '--' before
-a name that begins with '-'.";
+a name that begins with '-'. Of a file with one station it may be left out; not of a pipe, which
+can't be read twice.";
 
 pub const REPORT_EXAMPLE: &str = "\
 Exit status:
@@ -228,7 +232,8 @@ means. The sheet is one that 'check' accepts for the same field file and limits,
 limit is stated.
 
 STATION is a name of the field file, byte for byte, without the zeros on its left. Write '--' before
-a name that begins with '-'.";
+a name that begins with '-'. Of a file with one station it may be left out; not of a pipe, which
+can't be read twice.";
 
 pub const MEANS_EXAMPLE: &str = "\
 Exit status:
@@ -285,11 +290,20 @@ Answer all stations of the file, in its order, in the place of one: of each what
 command prints. Nothing is printed unless each has an answer; the refusal is that of the
 first that has none, and 'note: station NAME' names it";
 
+pub const STATION_HELP: &str = "The name of the station [default: the only one of the file]";
+
+pub const STATION_OR_TABLE_HELP: &str = "\
+The name of the station, where it is not the only one of the file; else the path of the table";
+
+pub const STATION_OR_TABLE_LONG_HELP: &str = "\
+The name of the station. Where no word follows it is the path of the table, and the station
+is the only one of the file; with --all it is the path of one table of all stations";
+
 pub const COPY_LONG_HELP: &str = "\
 The file that the copy goes to, in the place of standard output. It is made only where
 nothing has its name yet, and only where there is a copy: after a refusal there is none";
 
-pub const STATION_LONG_HELP: &str = "\
+pub const STATED_NAME_LONG_HELP: &str = "\
 The name of the station, of a file without set-up lines: 1 to 16 characters of
 ASCII, from the blank to '~'. Zeros on the left are no part of it";
 
@@ -383,14 +397,21 @@ typed. It may be stated several times, and the lines stand in this order:
 --note 'Project=Dam, epoch 7' --note Observer=Huber. KEY is what stands before the first
 =, with blanks one at a time and none at an end, and no label that the head has of its own";
 
+pub const PAGES_LONG_HELP: &str = "\
+Divide the report into pages of 60 lines. Each begins with a form feed, and says again of
+what it is";
+
+/// What may be stated as the language of a report.
+pub const LANGUAGES: &str = "state en for English, de for German or fr for French";
+
 /// What may be stated as a note.
 pub const NOTES: &str = "\
 state KEY=TEXT, where KEY is not empty, has blanks one at a time and none at an end, and is no \
 label that the head has of its own, as 'Station'";
 
 pub const ROWS_ALONE: &str = "\
-'--csv' prints rows alone: not with '--table', how it is read, '--within', '--sha256', \
-'--language', or what a report notes";
+'--csv' prints rows alone: not with '--table', how it is read, '--within', '--language', \
+'--pages', or what a report notes";
 
 pub const COMMA_ALONE: &str = "\
 '--decimal-comma' says how rows are written: print rows with '--csv'";
@@ -405,7 +426,8 @@ pub const FORM_ALONE: &str = "\
 '--degrees', '--dmmss' and '--columns' say how a table is read: name it with '--table <TABLE>'";
 
 /// What may be stated as the columns of a table.
-pub const NO_COLUMNS: &str = "two columns by their numbers from 1, with a comma between, as 2,6";
+pub const NO_COLUMNS: &str = "\
+two columns by their numbers from 1 or by their titles, with a comma between, as 2,6 or Target,Hz";
 
 /// What is said of a text that is no number of sets.
 pub const SETS_NUMBERS: &str = "state a whole number from 1 to 40, or NAME=N for one station";
@@ -433,16 +455,12 @@ pub const ALL_ALONE: &str = "\
 '--all' is of all stations: not with a STATION, '--table', how it is read, '--within' or \
 '--sha256'";
 
-pub const NO_STATION: &str = "\
-no station is named: name a STATION, or ask for all of them with '--all'";
+/// What is said where the grammar has taken words that lack an argument.
+pub const MISSING: &str = "an argument is missing";
 
 pub const TABLE_OF_ALL_ALONE: &str = "\
 '--all' takes one table of all stations in the place of STATION: not with another TABLE, '--json' \
 or '--sha256'";
-
-pub const NO_TABLE: &str = "\
-the following required arguments were not provided:
-  <TABLE>";
 
 pub const NO_NAME: &str = "\
 the name of a station has 1 to 16 characters of ASCII, from the blank to '~'";
@@ -553,9 +571,10 @@ Read the directions of the table in degrees with two digits of minutes and two o
 after the point: 59.040918 is 59-04-09.18";
 
 pub const COLUMNS_LONG_HELP: &str = "\
-Read these columns of the table, by their numbers from 1: that of the targets and that of
-their directions, as 2,6. Where none are stated, a table of more columns is read by the
-one pair of them that fits, and a note tells which";
+Read these columns of the table: that of the targets and that of their directions, by their
+numbers from 1, as 2,6, or by their titles in its first row, as Target,Hz. A title that is a
+whole number can't be stated. Where no columns are stated, a table of more than two is read
+by the one pair of them that fits, and a note tells which";
 
 /// What may be stated as a limit of face differences.
 pub const FACE_LIMITS: &str = "\

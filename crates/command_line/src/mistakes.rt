@@ -5,7 +5,7 @@ ghost use Rattle.std.specs.Prelude.{string_bytes};
 ghost use Rattle.clap.specs.Words.{found_of, kind_of};
 ghost use Rattle.command_line.specs.Mistakes.{AreRightLimits, HasRightCounts, IsMistakeAmong};
 ghost use Rattle.command_line.specs.Mistakes.{IsMistakeFrom, IsNoLimit, IsRightLimit, IsWrongCode};
-ghost use Rattle.command_line.specs.Mistakes.{HasForm, IsOfOneReport, IsWrongColumns, IsWrongCount};
+ghost use Rattle.command_line.specs.Mistakes.{HasForm, IsOfTable, IsWrongColumns, IsWrongCount};
 ghost use Rattle.command_line.specs.Mistakes.{IsThere, NoneIsBefore, NoneIsBetween};
 ghost use Rattle.command_line.specs.Mistakes.{IsMistakeAfter, IsMistakeBesideTable, rank};
 ghost use Rattle.command_line.specs.Mistakes.{StandsBesideAll, StandsBesideRows};
@@ -26,7 +26,7 @@ use crate::help;
 use crate::limit_option::{LIMIT_OPTIONS, LimitOption};
 use crate::request::Digests;
 use crate::stated_changes::{form_of_changes, stated_as_changes, wrong_change};
-use crate::stated_notes::{has_notes, wrong_note};
+use crate::stated_notes::{has_notes, wrong_language, wrong_note};
 use changed_lines::EditKind;
 use clap::error::ErrorKind;
 use clap::{ArgMatches, Error};
@@ -85,6 +85,9 @@ pub(crate) enum Mistake<'a> {
     /// This text of an option that states changes of lines says none.
     Change(EditKind, &'a str),
 
+    /// The text of the language of a report is no code of one.
+    Language(&'a str),
+
     /// This text of the option that states notes says none.
     Note(&'a str),
 
@@ -94,14 +97,11 @@ pub(crate) enum Mistake<'a> {
     /// No station can have the name.
     Name,
 
-    /// No station is named, and not all are asked for.
-    NoStation,
+    /// An argument is missing. The grammar has refused such words before.
+    Missing,
 
     /// One table of all stations is asked for, and something that is of one station.
     TableOfAll,
-
-    /// No table is named, and not all stations are asked for.
-    NoTable,
 }
 
 /// The mistake of words that lack what their subcommand needs.
@@ -154,15 +154,18 @@ fn message_of(alloc: Global, mistake: Mistake<'_>) -> Result<String, AllocError>
             form_of_changes(kind),
             stated_as_changes(kind)
         ),
+        Mistake::Language(text) => format!(in alloc;
+            "invalid value '{text}' for '--language <CODE>': {}",
+            help::LANGUAGES
+        ),
         Mistake::Note(text) => format!(in alloc;
             "invalid value '{text}' for '--note <KEY=TEXT>': {}",
             help::NOTES
         ),
         Mistake::All => help::ALL_ALONE.to_string(alloc),
         Mistake::Name => help::NO_NAME.to_string(alloc),
-        Mistake::NoStation => help::NO_STATION.to_string(alloc),
+        Mistake::Missing => help::MISSING.to_string(alloc),
         Mistake::TableOfAll => help::TABLE_OF_ALL_ALONE.to_string(alloc),
-        Mistake::NoTable => help::NO_TABLE.to_string(alloc),
     }
 }
 
@@ -196,7 +199,7 @@ fn mistake_after<'a>(
 }
 
 /// The mistake that is told of what is found after the name of a command that reads a table. That
-/// no table is named is what is left, since all else has been tested.
+/// an argument is missing is what is left, since all else has been tested.
 fn mistake_beside_table<'a>(found: &ArgMatches<'a>) -> Mistake<'a>
     ensures { IsMistakeBesideTable (found_of found.now) result }
 {
@@ -205,7 +208,7 @@ fn mistake_beside_table<'a>(found: &ArgMatches<'a>) -> Mistake<'a>
     }
     match has_flag(found, ALL) && has_more_than_table(found) {
         true => Mistake::TableOfAll,
-        false => Mistake::NoTable,
+        false => Mistake::Missing,
     }
 }
 
@@ -347,7 +350,7 @@ fn mistake_in_marking<'a>(
     }
 }
 
-/// The mistake in the changes that `change` alone is told, in the notes of `report`, or in what is
+/// The mistake in the changes that `change` alone is told, in what `report` notes, or in what is
 /// said of stations: the first that is there.
 fn mistake_in_changing<'a>(alloc: Global, found: &ArgMatches<'a>) -> Result<Mistake<'a>, AllocError>
     ensures { IfOk result (IsMistakeFrom 12 (found_of found.now)) }
@@ -358,16 +361,19 @@ fn mistake_in_changing<'a>(alloc: Global, found: &ArgMatches<'a>) -> Result<Mist
     if let Some(text) = wrong_change(alloc, found, EditKind::Rename)? {
         return Ok(Mistake::Change(EditKind::Rename, text));
     }
+    if let Some(text) = wrong_language(found) {
+        return Ok(Mistake::Language(text));
+    }
     match wrong_note(alloc, found)? {
         Some(text) => Ok(Mistake::Note(text)),
         None => Ok(mistake_of_stations(found)),
     }
 }
 
-/// The mistake in what is said of stations: the first that is there. That none is named is what is
-/// left, since all else has been tested.
+/// The mistake in what is said of stations: the first that is there. That an argument is missing is
+/// what is left, since all else has been tested.
 fn mistake_of_stations<'a>(found: &ArgMatches<'a>) -> Mistake<'a>
-    ensures { IsMistakeFrom 15 (found_of found.now) result }
+    ensures { IsMistakeFrom 16 (found_of found.now) result }
 {
     if has_flag(found, ALL) && has_more_than_all(found) {
         return Mistake::All;
@@ -375,14 +381,16 @@ fn mistake_of_stations<'a>(found: &ArgMatches<'a>) -> Mistake<'a>
     if found.contains_id(STATED_NAME) {
         return Mistake::Name;
     }
-    Mistake::NoStation
+    Mistake::Missing
 }
 
 /// Whether something is stated that is of one station.
 pub(crate) fn has_more_than_all(found: &ArgMatches<'_>) -> bool
     ensures { IsTrue result ↔ StandsBesideAll (found_of found.now) }
 {
-    found.contains_id(STATION) || is_of_one_report(found)
+    found.contains_id(STATION)
+        || is_of_table(found)
+        || matches!(digests_of(found), Digests::Printed)
 }
 
 /// The first text of an option that can't stand where it does, and why.
@@ -446,17 +454,14 @@ fn text_of_no_limit<'a>(found: &ArgMatches<'a>, option: LimitOption) -> Option<&
 fn has_more_than_rows(found: &ArgMatches<'_>) -> bool
     ensures { IsTrue result ↔ StandsBesideRows (found_of found.now) }
 {
-    is_of_one_report(found) || has_notes(found)
+    is_of_table(found) || has_notes(found)
 }
 
-/// Whether something is stated that only the report of one station can have.
-fn is_of_one_report(found: &ArgMatches<'_>) -> bool
-    ensures { IsTrue result ↔ IsOfOneReport (found_of found.now) }
+/// Whether something is stated that is of a table beside a report.
+fn is_of_table(found: &ArgMatches<'_>) -> bool
+    ensures { IsTrue result ↔ IsOfTable (found_of found.now) }
 {
-    found.contains_id(STATED_TABLE)
-        || found.contains_id(WITHIN)
-        || has_form(found)
-        || matches!(digests_of(found), Digests::Printed)
+    found.contains_id(STATED_TABLE) || found.contains_id(WITHIN) || has_form(found)
 }
 
 /// The mistake of a line with a name that no fault of the table has: names near it are in its text.

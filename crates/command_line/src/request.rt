@@ -2,7 +2,7 @@
 
 use adjust_kernel::ResidualLimit;
 use changed_lines::Change;
-use direction_table::{Decimals, TableForm};
+use direction_table::{AngleUnit, ColumnPair, Decimals};
 use job_statements::{Beginnings, Stated};
 use report_notes::Notes;
 use row_forms::RowForm;
@@ -49,14 +49,37 @@ pub struct SheetCheck<F> {
     pub digests: Digests,
 }
 
-/// A station that is adjusted.
+/// The columns of a table, as they are stated.
+#[derive(Clone, Copy)]
+pub enum ColumnsStated<'a> {
+    /// By their numbers.
+    Numbers(ColumnPair),
+
+    /// By their titles: the first row of the table has each once.
+    Titles {
+        targets: &'a str,
+        directions: &'a str,
+    },
+}
+
+/// How a table is to be read, as it is stated.
+#[derive(Clone, Copy)]
+pub struct FormStated<'a> {
+    /// The unit of its directions.
+    pub unit: AngleUnit,
+
+    /// Its columns, where they are stated.
+    pub columns: Option<ColumnsStated<'a>>,
+}
+
+/// A station that is adjusted, whose name is of type `S`.
 #[derive(Drop)]
-pub struct FieldStation<'a, F> {
+pub struct FieldStation<F, S> {
     /// The field file that has it.
     pub gsi: F,
 
     /// Its name.
-    pub name: &'a str,
+    pub name: S,
 
     /// The limits that it is held to.
     pub limits: ResultLimits,
@@ -74,20 +97,20 @@ pub struct FieldStations<F> {
 
 /// A table of directions, and the station beside which it stands.
 #[derive(Drop)]
-pub struct TableBeside<'a, F> {
+pub struct TableBeside<F, S, T> {
     /// The station.
-    pub station: FieldStation<'a, F>,
+    pub station: FieldStation<F, S>,
 
     /// The table's file.
     pub file: F,
 
     /// How it is read: the unit of its directions, and its columns.
-    pub form: TableForm,
+    pub form: T,
 }
 
 /// All stations of a field file, and one table of the directions of all.
 #[derive(Drop)]
-pub struct StationsBeside<F> {
+pub struct StationsBeside<F, T> {
     /// The stations.
     pub stations: FieldStations<F>,
 
@@ -95,7 +118,7 @@ pub struct StationsBeside<F> {
     pub file: F,
 
     /// How it is read: the unit of its directions, and its columns.
-    pub form: TableForm,
+    pub form: T,
 }
 
 /// What is printed of a station.
@@ -108,7 +131,7 @@ pub enum StationText<'a> {
     Report { digests: Digests, notes: Notes<'a> },
 
     /// The report as rows for other programs.
-    ReportRows { form: RowForm },
+    ReportRows { digests: Digests, form: RowForm },
 }
 
 /// What is printed of all stations: of each what is printed of it alone.
@@ -162,24 +185,30 @@ pub enum AllTableText {
     Differences { form: RowForm },
 }
 
+/// A request as the words of a command line state it: its files are paths, the name of a station
+/// may be left out, which is then the only one of its file, and columns may be stated by titles.
+pub type Asked<'a> = Request<'a, &'a str, &'a str, Option<&'a str>, FormStated<'a>>;
+
 /// What the program is asked to do with files of type `F`, which are read, and of type `N`, which
-/// are new: their paths, or the files once they are open. A variant is a shape: the files, and what
-/// is stated of them. What is printed of one shape is a text of its own.
+/// are new: their paths, or the files once they are open. The name of a station is of type `S`, and
+/// how a table is read of type `T`: as they are stated, or as they are found in the files. A
+/// variant is a shape: the files, and what is stated of them. What is printed of one shape is a
+/// text of its own.
 #[derive(Drop)]
-pub enum Request<'a, F, N> {
+pub enum Request<'a, F, N, S, T> {
     /// Checks a sheet against a field file.
     Check(SheetCheck<F>),
 
     /// Prints the sheet of means of a station of a field file.
     Means {
         gsi: F,
-        station: &'a str,
+        station: S,
         limits: Limits,
     },
 
     /// Prints a text of a station of a field file.
     Station {
-        station: FieldStation<'a, F>,
+        station: FieldStation<F, S>,
         text: StationText<'a>,
     },
 
@@ -191,13 +220,13 @@ pub enum Request<'a, F, N> {
 
     /// Prints a text of a station of a field file and of a table.
     Table {
-        beside: TableBeside<'a, F>,
+        beside: TableBeside<F, S, T>,
         text: TableText<'a>,
     },
 
     /// Prints a text of all stations of a field file and of one table of them.
     StationsTable {
-        beside: StationsBeside<F>,
+        beside: StationsBeside<F, T>,
         text: AllTableText,
     },
 

@@ -4,12 +4,11 @@ ghost use Rattle.std.specs.Prelude.{◌≡◌, ◌↔◌, ◌⊎◌, IfOk, IfSom
 ghost use Rattle.clap.specs.Words.{found_of};
 ghost use Rattle.command_line.specs.CommandLine.{AsksFor, AsksForAll, AsksForResult};
 ghost use Rattle.command_line.specs.CommandLine.{AsksOfStation, Lacks, LacksAll, LacksLimits};
-ghost use Rattle.command_line.specs.CommandLine.{AsksForTableOfAll, HoldsResult};
-ghost use Rattle.command_line.specs.CommandLine.{LacksForDifferences, LacksResult};
+ghost use Rattle.command_line.specs.CommandLine.{AsksForTableOfAll, HoldsResult, NamesTable};
+ghost use Rattle.command_line.specs.CommandLine.{LacksForDifferences, LacksResult, LacksTable};
 ghost use Rattle.command_line.specs.CommandLine.{LacksForDirections, LacksForList, LacksStation};
 ghost use Rattle.command_line.specs.CommandLine.{LacksToCheck, LacksToCompare, LacksToMark};
 ghost use Rattle.command_line.specs.CommandLine.{LacksToChange, LacksToReport};
-ghost use Rattle.command_line.specs.Mistakes.{StandsBesideTable};
 ghost use Rattle.command_line.specs.Stated.{IsGiven, IsMissing, IsStatedForm, StatesFlag};
 ghost use Rattle.command_line.specs.Stated.{StatesNoColumns, StatesTableForm};
 ghost use Rattle.command_line.specs.StatedNotes.{StatesNotes};
@@ -23,13 +22,13 @@ use crate::found::{
 };
 use crate::mistakes::{has_more_than_all, has_more_than_table};
 use crate::request::{
-    AllTableText, Digests, FieldStation, FieldStations, ListForm, Request, SheetCheck, StationText,
-    StationsBeside, StationsText, TableBeside, TableText,
+    AllTableText, Asked, FieldStation, FieldStations, FormStated, ListForm, Request, SheetCheck,
+    StationText, StationsBeside, StationsText, TableBeside, TableText,
 };
 use crate::stated_changes::changes_stated;
 use crate::stated_notes::{has_notes, notes_stated};
 use clap::ArgMatches;
-use direction_table::{AngleUnit, TableForm};
+use direction_table::AngleUnit;
 use job_statements::{Stated, StatedNumber};
 use report_notes::Notes;
 use row_forms::RowForm;
@@ -43,7 +42,7 @@ pub(crate) fn request_after<'a>(
     alloc: Global,
     name: &str,
     found: &ArgMatches<'a>,
-) -> Result<Option<Request<'a, &'a str, &'a str>>, AllocError>
+) -> Result<Option<Asked<'a>>, AllocError>
     ensures asked { IfOk result (λ request. IfSome request
         (AsksFor name.now (found_of found.now))) }
     ensures none { IfOk result (λ request. IfNone request (Lacks name.now (found_of found.now))) }
@@ -63,16 +62,15 @@ pub(crate) fn request_after<'a>(
     }
 }
 
-/// The station that is asked for: the path of its field file, its name, and the limits of face
-/// differences.
-fn station_of<'a>(found: &ArgMatches<'a>) -> Option<(&'a str, &'a str, Limits)>
+/// The station that is asked for: the path of its field file, its name where it is stated, and the
+/// limits of face differences.
+fn station_of<'a>(found: &ArgMatches<'a>) -> Option<(&'a str, Option<&'a str>, Limits)>
     ensures asked { IfSome result (λ asked.
-        AsksOfStation (found_of found.now) asked.0.now asked.1.now asked.2) }
+        AsksOfStation (found_of found.now) asked.0.now asked.1 asked.2) }
     ensures none { IfNone result (LacksStation (found_of found.now)) }
 {
     let gsi = found.get_str(GSI)?;
-    let station = found.get_str(STATION)?;
-    Some((gsi, station, limits_of(found)?))
+    Some((gsi, found.get_str(STATION), limits_of(found)?))
 }
 
 /// The limits of a result. That of residuals is the largest where none is stated.
@@ -87,14 +85,18 @@ fn result_limits_of(found: &ArgMatches<'_>) -> Option<ResultLimits>
     }
 }
 
-/// The station whose adjustment is asked for.
-fn result_of<'a>(found: &ArgMatches<'a>) -> Option<FieldStation<'a, &'a str>>
+/// The station of this name, whose adjustment is asked for.
+fn result_of<'a>(
+    found: &ArgMatches<'a>,
+    name: Option<&'a str>,
+) -> Option<FieldStation<&'a str, Option<&'a str>>>
     ensures asked { IfSome result (AsksForResult (found_of found.now)) }
+    ensures named { IfSome result (λ asked. asked.name ≡ name.entry) }
     ensures none { IfNone result (LacksResult (found_of found.now)) }
 {
     Some(FieldStation {
         gsi: found.get_str(GSI)?,
-        name: found.get_str(STATION)?,
+        name,
         limits: result_limits_of(found)?,
     })
 }
@@ -114,10 +116,11 @@ fn all_of<'a>(found: &ArgMatches<'a>) -> Option<FieldStations<&'a str>>
 }
 
 /// All stations and the one table of them that are asked for.
-fn table_of_all<'a>(found: &ArgMatches<'a>) -> Option<StationsBeside<&'a str>>
+fn table_of_all<'a>(found: &ArgMatches<'a>) -> Option<StationsBeside<&'a str, FormStated<'a>>>
+    requires { StatesFlag (found_of found.now) (codes "all") true }
     ensures asked { IfSome result (AsksForTableOfAll (found_of found.now)) }
     ensures none { IfNone result (LacksResult (found_of found.now)
-        ⊎ StandsBesideTable (found_of found.now) ⊎ StatesNoColumns (found_of found.now)) }
+        ⊎ LacksTable (found_of found.now) ⊎ StatesNoColumns (found_of found.now)) }
 {
     if has_more_than_table(found) {
         return None;
@@ -132,27 +135,42 @@ fn table_of_all<'a>(found: &ArgMatches<'a>) -> Option<StationsBeside<&'a str>>
     })
 }
 
+/// The words after the field file, as the name of a station where two are there, and the path of
+/// its table.
+fn table_named<'a>(found: &ArgMatches<'a>) -> Option<(Option<&'a str>, &'a str)>
+    ensures named { IfSome result (λ words. NamesTable (found_of found.now) words.0 words.1.now) }
+    ensures none { IfNone result (IsMissing (found_of found.now) (codes "STATION")) }
+{
+    let first = found.get_str(STATION)?;
+    match found.get_str(TABLE) {
+        Some(second) => Some((Some(first), second)),
+        None => Some((None, first)),
+    }
+}
+
 /// The station and its table that are asked for.
-fn table_of_one<'a>(found: &ArgMatches<'a>) -> Option<TableBeside<'a, &'a str>>
+fn table_of_one<'a>(
+    found: &ArgMatches<'a>,
+) -> Option<TableBeside<&'a str, Option<&'a str>, FormStated<'a>>>
     ensures station { IfSome result (λ beside. AsksForResult (found_of found.now) beside.station) }
     ensures table { IfSome result (λ beside.
-        IsGiven (found_of found.now) (codes "TABLE") beside.file.now) }
+        NamesTable (found_of found.now) beside.station.name beside.file.now) }
     ensures form { IfSome result (λ beside. StatesTableForm (found_of found.now) beside.form) }
     ensures none { IfNone result (LacksResult (found_of found.now)
-        ⊎ IsMissing (found_of found.now) (codes "TABLE")
-        ⊎ StatesNoColumns (found_of found.now)) }
+        ⊎ LacksTable (found_of found.now) ⊎ StatesNoColumns (found_of found.now)) }
 {
-    let Some(station) = result_of(found) else {
+    let (name, file) = table_named(found)?;
+    let Some(station) = result_of(found, name) else {
         return None;
     };
     Some(TableBeside {
         station,
-        file: found.get_str(TABLE)?,
+        file,
         form: table_form_of(found)?,
     })
 }
 
-fn compare_request<'a>(found: &ArgMatches<'a>) -> Option<Request<'a, &'a str, &'a str>>
+fn compare_request<'a>(found: &ArgMatches<'a>) -> Option<Asked<'a>>
     ensures asked { IfSome result (AsksFor (codes "compare") (found_of found.now)) }
     ensures none { IfNone result (LacksToCompare (found_of found.now)) }
 {
@@ -172,7 +190,7 @@ fn compare_request<'a>(found: &ArgMatches<'a>) -> Option<Request<'a, &'a str, &'
     Some(Request::Table { beside, text })
 }
 
-fn differences_request<'a>(found: &ArgMatches<'a>) -> Option<Request<'a, &'a str, &'a str>>
+fn differences_request<'a>(found: &ArgMatches<'a>) -> Option<Asked<'a>>
     ensures asked { IfSome result (AsksFor (codes "differences") (found_of found.now)) }
     ensures none { IfNone result (LacksForDifferences (found_of found.now)) }
 {
@@ -201,7 +219,7 @@ fn differences_request<'a>(found: &ArgMatches<'a>) -> Option<Request<'a, &'a str
     }
 }
 
-fn directions_request<'a>(found: &ArgMatches<'a>) -> Option<Request<'a, &'a str, &'a str>>
+fn directions_request<'a>(found: &ArgMatches<'a>) -> Option<Asked<'a>>
     ensures asked { IfSome result (AsksFor (codes "directions") (found_of found.now)) }
     ensures none { IfNone result (LacksForDirections (found_of found.now)) }
 {
@@ -214,7 +232,7 @@ fn directions_request<'a>(found: &ArgMatches<'a>) -> Option<Request<'a, &'a str,
         let text = StationsText::Directions { decimals, form };
         return Some(Request::Stations { stations, text });
     }
-    let Some(station) = result_of(found) else {
+    let Some(station) = result_of(found, found.get_str(STATION)) else {
         return None;
     };
     let text = StationText::Directions { decimals, form };
@@ -222,10 +240,7 @@ fn directions_request<'a>(found: &ArgMatches<'a>) -> Option<Request<'a, &'a str,
 }
 
 /// What `report` asks for where it is of all stations and these notes are stated.
-fn report_of_all<'a>(
-    found: &ArgMatches<'a>,
-    notes: Notes<'a>,
-) -> Option<Request<'a, &'a str, &'a str>>
+fn report_of_all<'a>(found: &ArgMatches<'a>, notes: Notes<'a>) -> Option<Asked<'a>>
     requires all { StatesFlag (found_of found.now) (codes "all") true }
     requires noted { StatesNotes (found_of found.now) notes }
     ensures asked { IfSome result (AsksFor (codes "report") (found_of found.now)) }
@@ -247,7 +262,7 @@ fn report_of_all<'a>(
 fn report_request<'a>(
     alloc: Global,
     found: &ArgMatches<'a>,
-) -> Result<Option<Request<'a, &'a str, &'a str>>, AllocError>
+) -> Result<Option<Asked<'a>>, AllocError>
     ensures asked { IfOk result (λ request. IfSome request
         (AsksFor (codes "report") (found_of found.now))) }
     ensures none { IfOk result (λ request. IfNone request (LacksToReport (found_of found.now))) }
@@ -259,10 +274,7 @@ fn report_request<'a>(
 }
 
 /// What `report` asks for where these notes are stated.
-fn reporting_request<'a>(
-    found: &ArgMatches<'a>,
-    notes: Notes<'a>,
-) -> Option<Request<'a, &'a str, &'a str>>
+fn reporting_request<'a>(found: &ArgMatches<'a>, notes: Notes<'a>) -> Option<Asked<'a>>
     requires { StatesNotes (found_of found.now) notes }
     ensures asked { IfSome result (AsksFor (codes "report") (found_of found.now)) }
     ensures none { IfNone result (LacksToReport (found_of found.now)) }
@@ -270,7 +282,7 @@ fn reporting_request<'a>(
     if has_flag(found, ALL) {
         return report_of_all(found, notes);
     }
-    let Some(station) = result_of(found) else {
+    let Some(station) = result_of(found, found.get_str(STATION)) else {
         return None;
     };
     let within = within_of(found)?;
@@ -297,12 +309,10 @@ fn reporting_request<'a>(
             station,
             text: StationText::Report { digests, notes },
         }),
-        (ListForm::Rows(form), None, None, false, Digests::Omitted, false) => {
-            Some(Request::Station {
-                station,
-                text: StationText::ReportRows { form },
-            })
-        }
+        (ListForm::Rows(form), None, None, false, digests, false) => Some(Request::Station {
+            station,
+            text: StationText::ReportRows { digests, form },
+        }),
         // A limit of no table, or how it is read.
         (ListForm::Lines, None, Some(_), _, _, _) => None,
         (ListForm::Lines, None, None, true, _, _) => None,
@@ -310,19 +320,18 @@ fn reporting_request<'a>(
         (ListForm::Rows(_), Some(_), _, _, _, _) => None,
         (ListForm::Rows(_), None, Some(_), _, _, _) => None,
         (ListForm::Rows(_), None, None, true, _, _) => None,
-        (ListForm::Rows(_), None, None, false, Digests::Printed, _) => None,
-        (ListForm::Rows(_), None, None, false, Digests::Omitted, true) => None,
+        (ListForm::Rows(_), None, None, false, _, true) => None,
     }
 }
 
 /// Whether it is not how a table is read of which nothing is stated.
-fn is_stated(form: TableForm) -> bool
-    ensures { IsTrue result ↔ IsStatedForm form }
+fn is_stated(form: FormStated<'_>) -> bool
+    ensures { IsTrue result ↔ IsStatedForm form.entry }
 {
     form.unit != AngleUnit::Gon || form.columns.is_some()
 }
 
-fn check_request<'a>(found: &ArgMatches<'a>) -> Option<Request<'a, &'a str, &'a str>>
+fn check_request<'a>(found: &ArgMatches<'a>) -> Option<Asked<'a>>
     ensures asked { IfSome result (AsksFor (codes "check") (found_of found.now)) }
     ensures none { IfNone result (LacksToCheck (found_of found.now)) }
 {
@@ -335,7 +344,7 @@ fn check_request<'a>(found: &ArgMatches<'a>) -> Option<Request<'a, &'a str, &'a 
     }))
 }
 
-fn means_request<'a>(found: &ArgMatches<'a>) -> Option<Request<'a, &'a str, &'a str>>
+fn means_request<'a>(found: &ArgMatches<'a>) -> Option<Asked<'a>>
     ensures asked { IfSome result (AsksFor (codes "means") (found_of found.now)) }
     ensures none { IfNone result (LacksStation (found_of found.now)) }
 {
@@ -349,10 +358,7 @@ fn means_request<'a>(found: &ArgMatches<'a>) -> Option<Request<'a, &'a str, &'a 
     })
 }
 
-fn mark_request<'a>(
-    alloc: Global,
-    found: &ArgMatches<'a>,
-) -> Result<Option<Request<'a, &'a str, &'a str>>, AllocError>
+fn mark_request<'a>(alloc: Global, found: &ArgMatches<'a>) -> Result<Option<Asked<'a>>, AllocError>
     ensures asked { IfOk result (λ request. IfSome request
         (AsksFor (codes "mark") (found_of found.now))) }
     ensures none { IfOk result (λ request. IfNone request (LacksToMark (found_of found.now))) }
@@ -371,7 +377,7 @@ fn marking_request<'a>(
     found: &ArgMatches<'a>,
     sets: StatedNumber,
     targets: StatedNumber,
-) -> Option<Request<'a, &'a str, &'a str>>
+) -> Option<Asked<'a>>
     requires sets { StatesNumbers (found_of found.now) (codes "sets") 40 sets }
     requires targets { StatesNumbers (found_of found.now) (codes "targets") 100 targets }
     ensures asked { IfSome result (AsksFor (codes "mark") (found_of found.now)) }
@@ -393,7 +399,7 @@ fn marking_request<'a>(
 fn change_request<'a>(
     alloc: Global,
     found: &ArgMatches<'a>,
-) -> Result<Option<Request<'a, &'a str, &'a str>>, AllocError>
+) -> Result<Option<Asked<'a>>, AllocError>
     ensures asked { IfOk result (λ request. IfSome request
         (AsksFor (codes "change") (found_of found.now))) }
     ensures none { IfOk result (λ request. IfNone request (LacksToChange (found_of found.now))) }
@@ -408,7 +414,7 @@ fn change_request<'a>(
     Ok(Some(Request::Change { gsi, copy, changes }))
 }
 
-fn list_request<'a>(found: &ArgMatches<'a>) -> Option<Request<'a, &'a str, &'a str>>
+fn list_request<'a>(found: &ArgMatches<'a>) -> Option<Asked<'a>>
     ensures asked { IfSome result (AsksFor (codes "list") (found_of found.now)) }
     ensures none { IfNone result (LacksForList (found_of found.now)) }
 {
@@ -419,7 +425,7 @@ fn list_request<'a>(found: &ArgMatches<'a>) -> Option<Request<'a, &'a str, &'a s
     })
 }
 
-fn words_request<'a>(found: &ArgMatches<'a>) -> Option<Request<'a, &'a str, &'a str>>
+fn words_request<'a>(found: &ArgMatches<'a>) -> Option<Asked<'a>>
     ensures asked { IfSome result (AsksFor (codes "words") (found_of found.now)) }
     ensures none { IfNone result (IsMissing (found_of found.now) (codes "GSI")) }
 {

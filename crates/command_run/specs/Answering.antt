@@ -1,5 +1,6 @@
 -- How a request is answered: its files are opened, and its own run is made over them.
-use Rattle.std.specs.Prelude.{◌≡◌, ◌⊎◌, ℕ, true, List, Option, Some, None, option_map, ⊤}
+use Rattle.std.specs.Prelude.{◌≡◌, ◌⊎◌, ℕ, Bool, true, List, Option, Some, None, option_map, ⊤}
+use Rattle.std.specs.Prelude.{Result, Ok, Err}
 use Rattle.std.specs.Borrow.{Bor}
 use Rattle.book_answers.specs.Refusals.{named_refusal_text}
 use Rattle.book_answers.specs.Runs.{IsRunOfAll}
@@ -12,16 +13,21 @@ use Rattle.changed_lines.specs.declared.change.Change.{Change}
 use Rattle.byte_ends.specs.Sink.{WriterChange}
 use Rattle.byte_ends.specs.Writers.{writer_change}
 use Rattle.byte_ends.specs.declared.sink.Sink.{Ghosts}
+use Rattle.byte_ends.specs.Came.{BytesCame}
+use Rattle.byte_ends.specs.Input.{input_within}
 use Rattle.byte_ends.specs.Source.{Told}
 use Rattle.clap.specs.Words.{Text}
 use Rattle.clap.specs.declared.error.Error.{Error}
-use Rattle.command_line.specs.CommandLine.{Asked, IsAskedForBy, IsMistakeIn}
+use Rattle.command_line.specs.CommandLine.{Asked, IsAskedForBy, IsMistakeIn, NameAsked}
 use Rattle.command_line.specs.declared.request.AllTableText.{AllTableText}
 use Rattle.command_line.specs.declared.request.AllTableText.TheVariants as all_text
+use Rattle.command_line.specs.declared.request.ColumnsStated.{ColumnsStated}
+use Rattle.command_line.specs.declared.request.ColumnsStated.TheVariants as stated_by
 use Rattle.command_line.specs.declared.request.Digests.{Digests}
 use Rattle.command_line.specs.declared.request.Digests.TheVariants as digests
 use Rattle.command_line.specs.declared.request.FieldStation.{FieldStation}
 use Rattle.command_line.specs.declared.request.FieldStations.{FieldStations}
+use Rattle.command_line.specs.declared.request.FormStated.{FormStated}
 use Rattle.command_line.specs.declared.request.ListForm.TheVariants as form
 use Rattle.command_line.specs.declared.request.Request.{Request}
 use Rattle.command_line.specs.declared.request.Request.TheVariants as request
@@ -34,19 +40,25 @@ use Rattle.command_line.specs.declared.request.StationsText.TheVariants as texts
 use Rattle.command_line.specs.declared.request.TableBeside.{TableBeside}
 use Rattle.command_line.specs.declared.request.TableText.{TableText}
 use Rattle.command_line.specs.declared.request.TableText.TheVariants as table_text
+use Rattle.direction_table.specs.declared.form.ColumnPair.{ColumnPair}
+use Rattle.direction_table.specs.declared.form.TableForm.{TableForm}
+use Rattle.direction_table.specs.declared.reading.TheConstants.{LONGEST_TABLE}
 use Rattle.instrument_reports.specs.Runs.{IsReportRun, IsReportsRun, IsTableReportRun}
 use Rattle.list_rows.specs.Runs.{IsRowsRun}
+use Rattle.only_station.specs.Only.{FindsOnly}
 use Rattle.report_notes.specs.Notes.{notes_value}
 use Rattle.report_notes.specs.declared.notes.Notes.{Notes}
 use Rattle.report_rows.specs.Stating.{AreReportRows}
 use Rattle.station_answers.specs.Runs.{IsAnswerRun}
 use Rattle.station_answers.specs.Saying.{SaysDirections}
+use Rattle.station_book.specs.Limits.{FaceLimits}
 use Rattle.station_check.specs.ListNotes.{unchecked_note}
 use Rattle.station_check.specs.RunEndings.{Run, RunWithNotes, WritesOrFails}
 use Rattle.station_check.specs.Runs.{IsCheckRun, IsMeansRun, IsNotedListRun, IsWordsRun}
 use Rattle.station_check.specs.VerdictLines.{refusal_line}
 use Rattle.station_check.specs.declared.fault.Fault.TheVariants.{Memory}
 use Rattle.station_compare.specs.Refusals.{refusal_text}
+use Rattle.station_compare.specs.declared.refusal.Refusal.{Refusal}
 use Rattle.station_explain.specs.Table.{Explanation}
 use Rattle.station_change.specs.FaultTexts.{refusal_line as change_refusal_line}
 use Rattle.station_change.specs.Notes.{notes_of}
@@ -60,12 +72,16 @@ use Rattle.command_run.specs.Unopened.{there_line, unopened_line}
 use Rattle.command_run.specs.declared.host.NoWords.{NoWords}
 use Rattle.command_run.specs.declared.host.NoWords.TheVariants as no_words
 use Rattle.command_run.specs.declared.status.TheConstants.{NOT_TEXT}
-use Rattle.command_run.specs.declared.unopened.PathFault.{PathFault}
-use Rattle.command_run.specs.declared.unopened.PathFault.TheVariants as fault
+use Rattle.command_run.specs.StationNames.{name_bytes}
+use Rattle.command_run.specs.TitlesTexts.{titles_line}
+use Rattle.command_run.specs.declared.hindrance.Hindrance.{Hindrance}
+use Rattle.command_run.specs.declared.hindrance.Hindrance.TheVariants as hindrance
+use Rattle.command_run.specs.declared.station_name.StationName.{StationName}
 use Rattle.job_statements.specs.declared.beginnings.Beginnings.{Beginnings}
 use Rattle.job_statements.specs.Numbers.{Said, said_in}
 use Rattle.station_record.specs.Recorded.{IsRecordedCheck, IsRecordedCompare, IsRecordedReport}
 use Rattle.station_record.specs.Recorded.{IsRecordedTableReport}
+use Rattle.station_record.specs.Rows.{AreRecordedRows}
 use Rattle.station_report.specs.NoteTexts.{ReportHead}
 use Rattle.station_record.specs.declared.named.NamedReader.{NamedReader}
 use Rattle.table_answers.specs.Comparisons.{IsCompareRun}
@@ -74,6 +90,8 @@ use Rattle.table_answers.specs.Runs.{IsTableRun}
 use Rattle.table_answers.specs.Saying.{SaysDifferences, SaysJsonLines}
 use Rattle.table_answers.specs.Telling.{RunTold}
 use Rattle.table_report.specs.Stating.{ReportAsked}
+use Rattle.table_titles.specs.TitledInput.{ComesOfInput}
+use Rattle.table_titles.specs.declared.fault.TitlesFault.{TitlesFault}
 
 -- A sheet was checked against a field file with this exit status, and this is what the run made of
 -- the two sinks. It is recorded, under the names of the files, exactly where digests are asked for.
@@ -94,20 +112,25 @@ head_with name notes = record { path = name; notes = notes_value notes }
 
 -- A text of a station of a field file was printed with this exit status; all else as at a check.
 abbrev pub PrintsStation : {F : Type 0} → Readers F → WriterChange → WriterChange
-    → FieldStation (NamedReader F) → StationText → ℕ → Type 0
+    → FieldStation (NamedReader F) StationName → StationText → ℕ → Type 0
 PrintsStation files out err its (text.Directions decimals form) status =
     IsTakenIn files its.gsi.reader (λ gsi. Run {A = ⊤} refusal_text
-    (IsAnswerRun (SaysDirections form decimals) its.limits gsi its.name.now) status out err)
+    (IsAnswerRun (SaysDirections form decimals) its.limits gsi (name_bytes its.name))
+    status out err)
 PrintsStation files out err its (text.Report digests.Omitted notes) status =
     IsTakenIn files its.gsi.reader (λ gsi. Run {A = ⊤} refusal_text
-    (IsReportRun (head_with its.gsi.name.now notes) its.limits gsi its.name.now) status out err)
+    (IsReportRun (head_with its.gsi.name.now notes) its.limits gsi (name_bytes its.name))
+    status out err)
 PrintsStation files out err its (text.Report digests.Printed notes) status =
     IsTakenIn files its.gsi.reader (λ gsi. Run {A = ⊤} refusal_text
-    (IsRecordedReport (head_with its.gsi.name.now notes) its.limits gsi its.name.now)
+    (IsRecordedReport (head_with its.gsi.name.now notes) its.limits gsi (name_bytes its.name))
     status out err)
-PrintsStation files out err its (text.ReportRows rows) status =
+PrintsStation files out err its (text.ReportRows digests.Omitted rows) status =
     IsTakenIn files its.gsi.reader (λ gsi. Run {A = ⊤} refusal_text
-    (IsAnswerRun (AreReportRows rows) its.limits gsi its.name.now) status out err)
+    (IsAnswerRun (AreReportRows rows) its.limits gsi (name_bytes its.name)) status out err)
+PrintsStation files out err its (text.ReportRows digests.Printed rows) status =
+    IsTakenIn files its.gsi.reader (λ gsi. Run {A = ⊤} refusal_text
+    (AreRecordedRows rows its.gsi.name.now its.limits gsi (name_bytes its.name)) status out err)
 
 -- A text of all stations of a field file was printed with this exit status, as one text of those
 -- that each alone has.
@@ -125,8 +148,8 @@ PrintsStations files out err all (texts.ReportRows rows) status =
     (IsRunOfAll (AreReportRows rows) all.limits arrangement.Rows gsi) status out err)
 
 -- what is asked of a report with a table: its files by the names that they have, and its notes
-abbrev pub asked_of : {F : Type 0} → TableBeside (NamedReader F) → Option ℕ → Notes
-    → ReportAsked
+abbrev pub asked_of : {F : Type 0} → TableBeside (NamedReader F) StationName TableForm → Option ℕ
+    → Notes → ReportAsked
 asked_of its within notes = record {
   head = head_with its.station.gsi.name.now notes;
   table_path = its.file.name.now;
@@ -136,45 +159,45 @@ asked_of its within notes = record {
 
 -- The same of a text of a station and of a table.
 abbrev pub PrintsBeside : {F : Type 0} → Readers F → WriterChange → WriterChange
-    → TableBeside (NamedReader F) → TableText → ℕ → Type 0
+    → TableBeside (NamedReader F) StationName TableForm → TableText → ℕ → Type 0
 PrintsBeside {F} files out err its (table_text.Comparison within digests.Omitted) status =
     (table' : F) × IsTakenIn files its.station.gsi.reader (λ gsi. RunTold {A = ⊤}
     (IsCompareRun its.form its.station.limits within gsi (change_of files its.file.reader table')
-    its.station.name.now) status out err)
+    (name_bytes its.station.name)) status out err)
 PrintsBeside files out err its (table_text.Comparison within digests.Printed) status =
     IsTakenIn files its.station.gsi.reader (λ gsi. IsTakenIn files its.file.reader (λ table.
     RunTold {A = ⊤}
-    (IsRecordedCompare its.form its.station.limits within its.station.name.now
+    (IsRecordedCompare its.form its.station.limits within (name_bytes its.station.name)
     gsi its.station.gsi.name.now table its.file.name.now) status out err))
 PrintsBeside {F} files out err its (table_text.Differences rows) status =
     (table' : F) × IsTakenIn files its.station.gsi.reader (λ gsi. RunTold {A = ⊤}
     (IsTableRun (SaysDifferences its.form rows) PrintsText its.form its.station.limits gsi
-    (change_of files its.file.reader table') its.station.name.now) status out err)
+    (change_of files its.file.reader table') (name_bytes its.station.name)) status out err)
 PrintsBeside {F} files out err its table_text.JsonLines status =
     (table' : F) × IsTakenIn files its.station.gsi.reader (λ gsi. RunTold {A = ⊤}
     (IsTableRun (SaysJsonLines its.form) PrintsText its.form its.station.limits gsi
-    (change_of files its.file.reader table') its.station.name.now) status out err)
+    (change_of files its.file.reader table') (name_bytes its.station.name)) status out err)
 PrintsBeside {F} files out err its (table_text.Report within digests.Omitted notes) status =
     (table' : F) × IsTakenIn files its.station.gsi.reader (λ gsi. RunTold {A = ⊤}
     (IsTableReportRun (asked_of its within notes) its.station.limits gsi
-    (change_of files its.file.reader table') its.station.name.now) status out err)
+    (change_of files its.file.reader table') (name_bytes its.station.name)) status out err)
 PrintsBeside files out err its (table_text.Report within digests.Printed notes) status =
     IsTakenIn files its.station.gsi.reader (λ gsi. IsTakenIn files its.file.reader (λ table.
     RunTold {A = ⊤} (IsRecordedTableReport (asked_of its within notes)
-    its.station.limits gsi table its.station.name.now) status out err))
+    its.station.limits gsi table (name_bytes its.station.name)) status out err))
 
 -- What is asked of each station and of its part of one table of all.
 abbrev pub part_text : AllTableText → PartText
 part_text (all_text.Comparison within) = part.Comparison within
 part_text (all_text.Differences rows) = part.Differences rows
 
-abbrev pub part_asked : {F : Type 0} → StationsBeside F → AllTableText → PartAsked
+abbrev pub part_asked : {F : Type 0} → StationsBeside F TableForm → AllTableText → PartAsked
 part_asked its text = record { form = its.form; text = part_text text }
 
 -- A text of all stations of a field file and of one table of them was printed with this exit
 -- status.
 abbrev pub PrintsTableOfAll : {F : Type 0} → Readers F → WriterChange → WriterChange
-    → StationsBeside (NamedReader F) → AllTableText → ℕ → Type 0
+    → StationsBeside (NamedReader F) TableForm → AllTableText → ℕ → Type 0
 PrintsTableOfAll {F} files out err its text status =
     (table' : F) × IsTakenIn files its.stations.gsi.reader (λ gsi. Run {A = ⊤} named_refusal_text
     (IsRunOfTable (part_asked its text) its.stations.limits gsi
@@ -208,13 +231,13 @@ ChangesFile {F} {N} files new_files out err gsi (Some copy) changes status =
 -- its own files, or over standard input where it names none, with all that it states; and this is
 -- what the run made of the two sinks.
 abbrev pub IsRun : {F N I : Type 0} → Readers F → Ghosts N → Readers I → I
-    → List (Bor (List Explanation)) → WriterChange → WriterChange → Request (NamedReader F) N → ℕ
-    → Type 0
+    → List (Bor (List Explanation)) → WriterChange → WriterChange
+    → Request (NamedReader F) N StationName TableForm → ℕ → Type 0
 IsRun files new_files inputs input faults out err (request.Check asked) status =
     ChecksSheet files out err asked asked.digests status
 IsRun files new_files inputs input faults out err (request.Means gsi station limits) status =
     IsTakenIn files gsi.reader (λ gsi. Run {A = ⊤} refusal_line
-    (IsMeansRun limits gsi station.now) status out err)
+    (IsMeansRun limits gsi (name_bytes station)) status out err)
 IsRun files new_files inputs input faults out err (request.Station station text) status =
     PrintsStation files out err station text status
 IsRun files new_files inputs input faults out err (request.Stations stations text) status =
@@ -257,43 +280,91 @@ IsOpenedCheck files known asked opened =
     × (opened.limits ≡ asked.limits) × (opened.residual ≡ asked.residual)
     × (opened.digests ≡ asked.digests)
 
--- The field file of a station was opened, and all else of it is as it was asked for.
+-- The only station of the field file of a path was looked for by these limits, and this is what was
+-- answered.
+abbrev pub LooksForOnly : {F : Type 0} → Readers F → (List ℕ → Option Told) → FaceLimits → List ℕ
+    → Result (List ℕ) Refusal → Type 0
+LooksForOnly {F} files known limits path r = (file : NamedReader F)
+    × IsUnread files known path file
+    × IsTakenIn files file.reader (λ gsi. FindsOnly limits gsi r)
+
+-- A station of the field file of a path has the name that is stated; where none is stated, that of
+-- the only station of the file.
+abbrev pub IsNamed : {F : Type 0} → Readers F → (List ℕ → Option Told) → FaceLimits → List ℕ
+    → NameAsked → StationName → Type 0
+IsNamed files known limits path (Some stated) name = name_bytes name ≡ stated.now
+IsNamed files known limits path None name =
+    LooksForOnly files known limits path (Ok (name_bytes name))
+
+-- The columns of the table of a path were looked for by these titles, and this is what was
+-- answered.
+abbrev pub LooksForTitles : {F : Type 0} → Readers F → (List ℕ → Option Told) → List ℕ → List ℕ
+    → List ℕ → Result ColumnPair TitlesFault → Type 0
+LooksForTitles {F} files known path targets directions r = (file : NamedReader F) × (read : F)
+    × IsUnread files known path file
+    × BytesCame (change_of files file.reader read)
+    (λ gives. ComesOfInput targets directions (input_within LONGEST_TABLE gives) r)
+
+-- The columns of the table of a path are those that are stated by numbers, or none; where they are
+-- stated by titles, those that have them.
+abbrev pub AreColumns : {F : Type 0} → Readers F → (List ℕ → Option Told) → List ℕ
+    → Option ColumnsStated → Option ColumnPair → Type 0
+AreColumns files known path None columns = columns ≡ None
+AreColumns files known path (Some (stated_by.Numbers pair)) columns = columns ≡ Some pair
+AreColumns files known path (Some (stated_by.Titles targets directions)) columns =
+    (pair : ColumnPair) × (columns ≡ Some pair)
+    × LooksForTitles files known path targets.now directions.now (Ok pair)
+
+-- The table of a path is read as it is stated.
+abbrev pub IsFormOf : {F : Type 0} → Readers F → (List ℕ → Option Told) → List ℕ → FormStated
+    → TableForm → Type 0
+IsFormOf files known path stated form =
+    (form.unit ≡ stated.unit) × AreColumns files known path stated.columns form.columns
+
+-- The field file of a station was opened, the station has its name, and its limits are those that
+-- were asked for.
 abbrev pub IsOpenedStation : {F : Type 0} → Readers F → (List ℕ → Option Told)
-    → FieldStation (Bor (List ℕ)) → FieldStation (NamedReader F) → Type 0
+    → FieldStation (Bor (List ℕ)) NameAsked → FieldStation (NamedReader F) StationName → Type 0
 IsOpenedStation files known asked opened =
-    IsUnread files known asked.gsi.now opened.gsi × (opened.name.now ≡ asked.name.now)
+    IsUnread files known asked.gsi.now opened.gsi
+    × IsNamed files known asked.limits.faces asked.gsi.now asked.name opened.name
     × (opened.limits ≡ asked.limits)
 
--- The same of all stations.
+-- The field file of all stations was opened, and their limits are those that were asked for.
 abbrev pub IsOpenedStations : {F : Type 0} → Readers F → (List ℕ → Option Told)
     → FieldStations (Bor (List ℕ)) → FieldStations (NamedReader F) → Type 0
 IsOpenedStations files known asked opened =
     IsUnread files known asked.gsi.now opened.gsi × (opened.limits ≡ asked.limits)
 
--- The same of a table and its station.
+-- Both files of a table and its station were opened, the station has its name, and the table is
+-- read as it is stated.
 abbrev pub IsOpenedBeside : {F : Type 0} → Readers F → (List ℕ → Option Told)
-    → TableBeside (Bor (List ℕ)) → TableBeside (NamedReader F) → Type 0
+    → TableBeside (Bor (List ℕ)) NameAsked FormStated
+    → TableBeside (NamedReader F) StationName TableForm → Type 0
 IsOpenedBeside files known asked opened =
     IsOpenedStation files known asked.station opened.station
-    × IsUnread files known asked.file.now opened.file × (opened.form ≡ asked.form)
+    × IsUnread files known asked.file.now opened.file
+    × IsFormOf files known asked.file.now asked.form opened.form
 
 -- The same of all stations and one table of them.
 abbrev pub IsOpenedTableOfAll : {F : Type 0} → Readers F → (List ℕ → Option Told)
-    → StationsBeside (Bor (List ℕ)) → StationsBeside (NamedReader F) → Type 0
+    → StationsBeside (Bor (List ℕ)) FormStated → StationsBeside (NamedReader F) TableForm → Type 0
 IsOpenedTableOfAll files known asked opened =
     IsOpenedStations files known asked.stations opened.stations
-    × IsUnread files known asked.file.now opened.file × (opened.form ≡ asked.form)
+    × IsUnread files known asked.file.now opened.file
+    × IsFormOf files known asked.file.now asked.form opened.form
 
--- The files of a request were opened, each the one of its path, which is its name, and all else of
--- it is as it was asked for.
+-- The files of a request were opened, each the one of its path, which is its name; the name of its
+-- station and the columns of its table were found, where they were to be; and all else of it is as
+-- it was asked for.
 abbrev pub IsOpened : {F N : Type 0} → Readers F → (List ℕ → Option Told) → Ghosts N
-    → (List ℕ → Option (List ℕ)) → Asked → Request (NamedReader F) N → Type 0
+    → (List ℕ → Option (List ℕ)) → Asked → Request (NamedReader F) N StationName TableForm → Type 0
 IsOpened files known new_files new (request.Check asked) (request.Check opened) =
     IsOpenedCheck files known asked opened
 IsOpened files known new_files new (request.Means gsi station limits)
     (request.Means field_file station' limits') =
     IsUnread files known gsi.now field_file
-    × (station'.now ≡ station.now) × (limits' ≡ limits)
+    × IsNamed files known limits gsi.now station station' × (limits' ≡ limits)
 IsOpened files known new_files new (request.Station station text) (request.Station station' text') =
     IsOpenedStation files known station station' × (text' ≡ text)
 IsOpened files known new_files new (request.Stations stations text)
@@ -325,30 +396,98 @@ IsOpened files known new_files new asked other = ⊥
 abbrev pub WasOpened : {F : Type 0} → Readers F → (List ℕ → Option Told) → List ℕ → Type 0
 WasOpened {F} files known path = (file : NamedReader F) × IsUnread files known path file
 
--- Of two files that are opened, the first of these paths first, this is the path of the first that
--- isn't: the first path, or the second where the file of the first was opened.
-abbrev pub IsFirstOfTwo : {F : Type 0} → Readers F → (List ℕ → Option Told) → List ℕ → List ℕ
-    → List ℕ → Type 0
-IsFirstOfTwo files known first second path =
-    (path ≡ first) ⊎ ((path ≡ second) × WasOpened files known first)
+-- The file of this path may be one that can't be opened, and hinders.
+abbrev pub IsUnopened : (List ℕ → Bool) → List ℕ → Hindrance → Type 0
+IsUnopened may_not path (hindrance.Unopened unopened) =
+    (unopened.path.now ≡ path) × (may_not path ≡ true)
+IsUnopened may_not path other = ⊥
 
--- A request names a file by this path, and each file that it names before this one was opened.
-abbrev pub NamesFirst : {F : Type 0} → Readers F → (List ℕ → Option Told) → Asked → List ℕ → Type 0
-NamesFirst files known (request.Check asked) path =
-    IsFirstOfTwo files known asked.gsi.now asked.sheet.now path
-NamesFirst files known (request.Means gsi station limits) path = path ≡ gsi.now
-NamesFirst files known (request.Station station text) path = path ≡ station.gsi.now
-NamesFirst files known (request.Stations stations text) path = path ≡ stations.gsi.now
-NamesFirst files known (request.Table beside text) path =
-    IsFirstOfTwo files known beside.station.gsi.now beside.file.now path
-NamesFirst files known (request.StationsTable beside text) path =
-    IsFirstOfTwo files known beside.stations.gsi.now beside.file.now path
-NamesFirst files known (request.Mark gsi copy beginnings stated) path = path ≡ gsi.now
-NamesFirst files known (request.Change gsi copy changes) path = path ≡ gsi.now
-NamesFirst files known (request.List gsi limits form) path = path ≡ gsi.now
-NamesFirst files known (request.Words gsi) path = path ≡ gsi.now
-NamesFirst files known request.WordsOfInput path = ⊥
-NamesFirst files known (request.Explain fault) path = ⊥
+-- One of two files hinders so: the first; or the second, and the first was opened.
+abbrev pub IsUnopenedOfTwo : {F : Type 0} → Readers F → (List ℕ → Option Told) → (List ℕ → Bool)
+    → List ℕ → List ℕ → Hindrance → Type 0
+IsUnopenedOfTwo files known may_not first second why =
+    IsUnopened may_not first why
+    ⊎ (WasOpened files known first × IsUnopened may_not second why)
+
+-- The name of a station is left out, and the field file of this path is refused where its only
+-- station was looked for.
+abbrev pub LacksName : {F : Type 0} → Readers F → (List ℕ → Option Told) → FaceLimits → List ℕ
+    → NameAsked → Hindrance → Type 0
+LacksName files known limits path name (hindrance.Station refusal) =
+    (name ≡ None) × LooksForOnly files known limits path (Err refusal)
+LacksName files known limits path name other = ⊥
+
+-- What hinders a run of a station of the field file of this path: that it can't be opened, or that.
+abbrev pub HindersStation : {F : Type 0} → Readers F → (List ℕ → Option Told) → (List ℕ → Bool)
+    → FaceLimits → List ℕ → NameAsked → Hindrance → Type 0
+HindersStation files known may_not limits path name why =
+    IsUnopened may_not path why ⊎ LacksName files known limits path name why
+
+-- The table of this path is refused where its columns were looked for by these titles.
+abbrev pub LacksTitles : {F : Type 0} → Readers F → (List ℕ → Option Told) → List ℕ → List ℕ
+    → List ℕ → Hindrance → Type 0
+LacksTitles files known path targets directions (hindrance.Columns fault) =
+    LooksForTitles files known path targets directions (Err fault)
+LacksTitles files known path targets directions other = ⊥
+
+-- What hinders there: that the table can't be opened, or that.
+abbrev pub HindersTitles : {F : Type 0} → Readers F → (List ℕ → Option Told) → (List ℕ → Bool)
+    → List ℕ → List ℕ → List ℕ → Hindrance → Type 0
+HindersTitles files known may_not path targets directions why =
+    IsUnopened may_not path why ⊎ LacksTitles files known path targets directions why
+
+-- What hinders a run of the table of this path, of which these columns are stated: that it can't be
+-- opened; or they are stated by titles, and that hinders.
+abbrev pub HindersTable : {F : Type 0} → Readers F → (List ℕ → Option Told) → (List ℕ → Bool)
+    → List ℕ → Option ColumnsStated → Hindrance → Type 0
+HindersTable files known may_not path stated why =
+    IsUnopened may_not path why
+    ⊎ ((targets directions : Bor (List ℕ))
+    × (stated ≡ Some (stated_by.Titles targets directions))
+    × LacksTitles files known path targets.now directions.now why)
+
+-- What hinders a run of a table beside its station: what hinders one of the station; or one of the
+-- table, and the field file was opened.
+abbrev pub HindersBeside : {F : Type 0} → Readers F → (List ℕ → Option Told) → (List ℕ → Bool)
+    → TableBeside (Bor (List ℕ)) NameAsked FormStated → Hindrance → Type 0
+HindersBeside files known may_not asked why =
+    HindersStation files known may_not asked.station.limits.faces asked.station.gsi.now
+    asked.station.name why
+    ⊎ (WasOpened files known asked.station.gsi.now
+    × HindersTable files known may_not asked.file.now asked.form.columns why)
+
+-- The same of all stations and one table of them.
+abbrev pub HindersTableOfAll : {F : Type 0} → Readers F → (List ℕ → Option Told) → (List ℕ → Bool)
+    → StationsBeside (Bor (List ℕ)) FormStated → Hindrance → Type 0
+HindersTableOfAll files known may_not asked why =
+    IsUnopened may_not asked.stations.gsi.now why
+    ⊎ (WasOpened files known asked.stations.gsi.now
+    × HindersTable files known may_not asked.file.now asked.form.columns why)
+
+-- What hinders a run of a request before its files are open.
+abbrev pub HindersOpening : {F : Type 0} → Readers F → (List ℕ → Option Told) → (List ℕ → Bool)
+    → Asked → Hindrance → Type 0
+HindersOpening files known may_not (request.Check asked) why =
+    IsUnopenedOfTwo files known may_not asked.gsi.now asked.sheet.now why
+HindersOpening files known may_not (request.Means gsi station limits) why =
+    HindersStation files known may_not limits gsi.now station why
+HindersOpening files known may_not (request.Station station text) why =
+    HindersStation files known may_not station.limits.faces station.gsi.now station.name why
+HindersOpening files known may_not (request.Stations stations text) why =
+    IsUnopened may_not stations.gsi.now why
+HindersOpening files known may_not (request.Table beside text) why =
+    HindersBeside files known may_not beside why
+HindersOpening files known may_not (request.StationsTable beside text) why =
+    HindersTableOfAll files known may_not beside why
+HindersOpening files known may_not (request.Mark gsi copy beginnings stated) why =
+    IsUnopened may_not gsi.now why
+HindersOpening files known may_not (request.Change gsi copy changes) why =
+    IsUnopened may_not gsi.now why
+HindersOpening files known may_not (request.List gsi limits form) why =
+    IsUnopened may_not gsi.now why
+HindersOpening files known may_not (request.Words gsi) why = IsUnopened may_not gsi.now why
+HindersOpening files known may_not request.WordsOfInput why = ⊥
+HindersOpening files known may_not (request.Explain fault) why = ⊥
 
 -- The path of the new file that a request asks for.
 abbrev pub new_path : Asked → Option (List ℕ)
@@ -356,22 +495,23 @@ new_path (request.Mark gsi copy beginnings stated) = option_map (λ path. path.n
 new_path (request.Change gsi copy changes) = option_map (λ path. path.now) copy
 new_path asked = None
 
--- Why a request is refused for a path that it names: the file of the path can't be opened, and each
--- file before it was opened; or a new file is to have the path, and the file of it was opened, so it
--- is there already.
-abbrev pub IsPathFault : {F N I : Type 0} → Known F N I → Asked → PathFault → Type 0
-IsPathFault host asked (fault.Unopened unopened) =
-    NamesFirst host.files host.file asked unopened.path.now
-    × (host.may_not_open unopened.path.now ≡ true)
-IsPathFault host asked (fault.IsThere path) =
+-- A new file is to have this path, and the file of it was opened, so it is there already.
+abbrev pub IsThereAlready : {F N I : Type 0} → Known F N I → Asked → Hindrance → Type 0
+IsThereAlready host asked (hindrance.IsThere path) =
     (new_path asked ≡ Some path.now) × WasOpened host.files host.file path.now
+IsThereAlready host asked other = ⊥
+
+-- What hinders a run of a request: that, or what comes before its files are open.
+abbrev pub Hinders : {F N I : Type 0} → Known F N I → Asked → Hindrance → Type 0
+Hinders host asked why = IsThereAlready host asked why
+    ⊎ HindersOpening host.files host.file host.may_not_open asked why
 
 -- A request was answered with this exit status: its files were opened, each the one of its path,
 -- and its run was made over them, or over standard input.
 pub record IsAnswered {F N I : Type 0} (host : Known F N I)
     (faults : List (Bor (List Explanation))) (out err : WriterChange) (asked : Asked)
     (status : ℕ) : Type 0 where
-  pub opened : Request (NamedReader F) N
+  pub opened : Request (NamedReader F) N StationName TableForm
   pub of_files : IsOpened host.files host.file host.new_files host.new_file asked opened
   pub run : IsRun host.files host.new_files host.inputs host.input faults out err opened status
 
@@ -384,42 +524,40 @@ abbrev pub NamesUnopened : List ℕ → ℕ → WriterChange → Type 0
 NamesUnopened path status err =
     ((status ≡ 2) × WritesOrFails (unopened_line path) err) ⊎ IsOutOfMemory status err
 
--- One of the paths that a request names can't be opened, and the file of the path before it was
--- opened, where there is one. It is named on `err`, and nothing is asked of `out`.
-pub record IsUnopened {F N I : Type 0} (host : Known F N I) (out err : WriterChange)
-    (asked : Asked) (status : ℕ) : Type 0 where
-  pub path : List ℕ
-  pub names : NamesFirst host.files host.file asked path
-  pub fails : host.may_not_open path ≡ true
-  pub named : NamesUnopened path status err
-  pub unwritten : out.is_unasked
-
 -- The exit status is 2, and the line that a file of this path is there already went to `err`; or
 -- memory ran out for the line.
 abbrev pub NamesThere : List ℕ → ℕ → WriterChange → Type 0
 NamesThere path status err =
     ((status ≡ 2) × WritesOrFails (there_line path) err) ⊎ IsOutOfMemory status err
 
--- A new file is asked for at a path whose file was opened: so it is there already. It is named on
--- `err`, and nothing is asked of `out`.
-pub record IsThereAlready {F N I : Type 0} (host : Known F N I) (out err : WriterChange)
+-- What is told of a hindrance, with this exit status: the path of a file that can't be opened, or
+-- is there already; or, with status 1, the refusal of the field file or of the table.
+abbrev pub TellsHindrance : Hindrance → ℕ → WriterChange → Type 0
+TellsHindrance (hindrance.Unopened unopened) status err =
+    NamesUnopened unopened.path.now status err
+TellsHindrance (hindrance.IsThere path) status err = NamesThere path.now status err
+TellsHindrance (hindrance.Station refusal) status err =
+    (status ≡ 1) × WritesOrFails (refusal_text refusal) err
+TellsHindrance (hindrance.Columns fault) status err =
+    (status ≡ 1) × WritesOrFails (titles_line fault) err
+
+-- A request is hindered: what hinders it is told on `err`, and nothing is asked of `out`.
+pub record IsHindered {F N I : Type 0} (host : Known F N I) (out err : WriterChange)
     (asked : Asked) (status : ℕ) : Type 0 where
-  pub path : List ℕ
-  pub names : new_path asked ≡ Some path
-  pub there : WasOpened host.files host.file path
-  pub named : NamesThere path status err
+  pub hindrance : Hindrance
+  pub why : Hinders host asked hindrance
+  pub told : TellsHindrance hindrance status err
   pub unwritten : out.is_unasked
 
--- The words of a command line ask for a request, which was answered with this exit status; or a
--- file of it can't be opened, or a new one is there already.
+-- The words of a command line ask for a request, which was answered with this exit status, or is
+-- hindered.
 pub record IsStatusOfWords {F N I : Type 0} (host : Known F N I)
     (faults : List (Bor (List Explanation))) (out err : WriterChange)
     (words : List Text) (status : ℕ) : Type 0 where
   pub asked : Asked
   pub of_words : IsAskedForBy words faults asked
   pub answered : IsAnswered host faults out err asked status
-      ⊎ IsUnopened host out err asked status
-      ⊎ IsThereAlready host out err asked status
+      ⊎ IsHindered host out err asked status
 
 -- The words of the command line are lacking for this reason: with status 1 memory ran out, and with
 -- status 2 an argument is no text.

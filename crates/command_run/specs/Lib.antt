@@ -2,6 +2,8 @@
 -- needs them.
 pub mod Hosts
 pub mod Unopened
+pub mod TitlesTexts
+pub mod StationNames
 pub mod NewFiles
 pub mod Explaining
 pub mod Answering

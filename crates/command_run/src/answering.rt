@@ -1,57 +1,70 @@
 //! How a request is answered: its files are opened, and its run is made over them.
 
-ghost use Rattle.std.specs.Prelude.{◌≡◌, ◌≤◌, IfOk, IfErr, OnErr, option_map, true};
+ghost use Rattle.std.specs.Prelude.{◌≡◌, ◌≤◌, IfOk, IfErr, None, Ok, OnErr, option_map};
+ghost use Rattle.std.specs.Prelude.{true};
 ghost use Rattle.byte_ends.specs.Writers.{writer_change};
-ghost use Rattle.command_run.specs.Answering.{IsAnswered, IsFirstOfTwo, IsOpened, IsOpenedCheck};
+ghost use Rattle.command_run.specs.Answering.{Hinders, HindersBeside, HindersOpening};
+ghost use Rattle.command_run.specs.Answering.{HindersStation, HindersTable, HindersTableOfAll};
+ghost use Rattle.command_run.specs.Answering.{AreColumns, HindersTitles, IsFormOf, IsNamed};
+ghost use Rattle.command_run.specs.Answering.{LooksForTitles};
+ghost use Rattle.command_run.specs.Answering.{IsAnswered, IsOpened, IsOpenedCheck, IsUnopened};
+ghost use Rattle.command_run.specs.Answering.{IsUnopenedOfTwo};
 ghost use Rattle.command_run.specs.Answering.{IsOpenedBeside, IsOpenedStation, IsOpenedStations};
 ghost use Rattle.command_run.specs.Answering.{IsOpenedTableOfAll, IsRun, PrintsTableOfAll};
 ghost use Rattle.command_line.specs.declared.request.Request.TheVariants as request;
-ghost use Rattle.command_run.specs.Answering.{ChangesFile, ChecksSheet, IsNewFile, IsPathFault};
-ghost use Rattle.command_run.specs.Answering.{NamesFirst};
+ghost use Rattle.command_run.specs.Answering.{ChangesFile, ChecksSheet, IsNewFile};
 ghost use Rattle.command_run.specs.Answering.{PrintsBeside, PrintsStation, PrintsStations};
 ghost use Rattle.command_run.specs.Answering as spec;
 ghost use Rattle.command_run.specs.Hosts.{IsUnread, known_of, readers};
 ghost use Rattle.station_report.specs.NoteTexts.{head_of};
 
 use crate::explaining::run_explain;
+use crate::hindrance::Hindrance;
 use crate::host::Host;
 use crate::new_file::NewFile;
-use crate::unopened::{PathFault, Unopened};
+use crate::station_name::StationName;
+use crate::unopened::Unopened;
 use book_answers::{Arrangement, PartAsked, PartText, run_answer_of_all, run_table_answer_of_all};
 use byte_ends::{Failed, Sink, Source};
 use changed_lines::Change;
 use command_line::{
-    AllTableText, Digests, FieldStation, FieldStations, ListForm, Request, SheetCheck, StationText,
-    StationsBeside, StationsText, TableBeside, TableText,
+    AllTableText, Asked, ColumnsStated, Digests, FieldStation, FieldStations, FormStated, ListForm,
+    Request, SheetCheck, StationText, StationsBeside, StationsText, TableBeside, TableText,
 };
+use direction_table::{ColumnPair, TableForm};
 use instrument_reports::{run_report, run_reports, run_table_report};
 use list_rows::run_list_rows;
+use only_station::only_station;
 use report_notes::Notes;
 use station_answers::{Directions, ReportRows, run_answer};
+use station_book::Limits;
 use station_change::run_change;
 use station_check::{run_check, run_list, run_means, run_words};
 use station_explain::Explanation;
 use station_mark::run_mark;
 use station_record::{
     HeadedReader, NamedReader, run_check_recorded, run_compare_recorded, run_report_recorded,
-    run_table_report_recorded,
+    run_rows_recorded, run_table_report_recorded,
 };
 use station_report::Head;
 use std::alloc::Global;
 use table_answers::{Differences, JsonLines, run_compare, run_table_answer};
-use table_report::Asked;
+use table_report::Asked as ReportAsked;
+use table_titles::{Titles, TitlesFault, titled_columns};
 
-/// The exit status of a request. All its files are opened before any is read, the field file first.
-/// A new file is made at the first byte that is written to it, where none is there.
+/// The exit status of a request. All its files are opened before its run reads any, the field file
+/// first. Where the name of its station is left out, or columns are stated by titles, a file is
+/// opened a first time and read for them: so a pipe does for no such file. A new file is made at
+/// the first byte that is written to it, where none is there.
 pub(crate) fn answer<'a, H: Host, W: Sink, E: Sink>(
     alloc: Global,
     host: &'a H,
     input: H::Input,
     faults: &[&'static [Explanation]],
-    request: Request<'a, &'a str, &'a str>,
+    request: Asked<'a>,
     out: &mut W,
     err: &mut E,
-) -> Result<u8, PathFault<'a>>
+) -> Result<u8, Hindrance<'a>>
     ensures status { IfOk result (λ status. status ≤ 1) }
     ensures run { IfOk result (IsAnswered
         (known_of (H.known_words host.now) (H.may_lack host.now)
@@ -61,7 +74,7 @@ pub(crate) fn answer<'a, H: Host, W: Sink, E: Sink>(
         (readers H.Input.told H.Input.failed H.Input.gave) input) faults.now
         (writer_change W.Sink out.old out.new)
         (writer_change E.Sink err.old err.new) request.entry) }
-    ensures refused { IfErr result (IsPathFault
+    ensures hindered { IfErr result (Hinders
         (known_of (H.known_words host.now) (H.may_lack host.now)
         (readers H.File.told H.File.failed H.File.gave)
         (H.known_file host.now) (H.may_not_open host.now)
@@ -71,17 +84,15 @@ pub(crate) fn answer<'a, H: Host, W: Sink, E: Sink>(
 {
     if let Some(path) = new_path(&request) {
         if let Ok(_there) = open(host, path) {
-            return Err(PathFault::IsThere(path));
+            return Err(Hindrance::IsThere(path));
         }
     }
-    match open_files(host, request) {
-        Ok(opened) => Ok(run_request(alloc, input, faults, opened, out, err)),
-        Err(unopened) => Err(PathFault::Unopened(unopened)),
-    }
+    let opened = open_files(alloc, host, request)?;
+    Ok(run_request(alloc, input, faults, opened, out, err))
 }
 
 /// The path of the new file that a request asks for.
-fn new_path<'a>(request: &Request<'a, &'a str, &'a str>) -> Option<&'a str>
+fn new_path<'a>(request: &Asked<'a>) -> Option<&'a str>
     ensures { option_map (λ path. path.now) result ≡ spec.new_path request.now }
 {
     match *request {
@@ -91,18 +102,21 @@ fn new_path<'a>(request: &Request<'a, &'a str, &'a str>) -> Option<&'a str>
     }
 }
 
-/// The request with its files open.
+/// The request with its files open, and all of whose names and columns are known.
 fn open_files<'a, H: Host>(
+    alloc: Global,
     host: &'a H,
-    request: Request<'a, &'a str, &'a str>,
-) -> Result<Request<'a, NamedReader<'a, H::File>, NewFile<'a, H, H::New>>, Unopened<'a>>
+    request: Asked<'a>,
+) -> Result<
+    Request<'a, NamedReader<'a, H::File>, NewFile<'a, H, H::New>, StationName<'a>, TableForm>,
+    Hindrance<'a>,
+>
     ensures opened { IfOk result
         (IsOpened (readers H.File.told H.File.failed H.File.gave) (H.known_file host.now)
         ⟦<NewFile<'a, H, H::New> as Sink>⟧ (H.known_new host.now) request.entry) }
-    ensures unopened { IfErr result (λ unopened.
-        NamesFirst (readers H.File.told H.File.failed H.File.gave) (H.known_file host.now)
-        request.entry unopened.path.now) }
-    ensures fails { IfErr result (λ unopened. H.may_not_open host.now unopened.path.now ≡ true) }
+    ensures hindered { IfErr result (HindersOpening
+        (readers H.File.told H.File.failed H.File.gave) (H.known_file host.now)
+        (H.may_not_open host.now) request.entry) }
 {
     Ok(match request {
         Request::Check(asked) => Request::Check(open_check(host, &asked)?),
@@ -110,13 +124,16 @@ fn open_files<'a, H: Host>(
             gsi,
             station,
             limits,
-        } => Request::Means {
-            gsi: open(host, gsi)?,
-            station,
-            limits,
-        },
+        } => {
+            let (gsi, station) = open_named(alloc, host, gsi, station, limits)?;
+            Request::Means {
+                gsi,
+                station,
+                limits,
+            }
+        }
         Request::Station { station, text } => Request::Station {
-            station: open_station(host, &station)?,
+            station: open_station(alloc, host, &station)?,
             text,
         },
         Request::Stations { stations, text } => Request::Stations {
@@ -124,11 +141,11 @@ fn open_files<'a, H: Host>(
             text,
         },
         Request::Table { beside, text } => Request::Table {
-            beside: open_beside(host, &beside)?,
+            beside: open_beside(alloc, host, &beside)?,
             text,
         },
         Request::StationsTable { beside, text } => Request::StationsTable {
-            beside: open_table_of_all(host, &beside)?,
+            beside: open_table_of_all(alloc, host, &beside)?,
             text,
         },
         Request::Mark {
@@ -163,13 +180,12 @@ fn open_files<'a, H: Host>(
 fn open_check<'a, H: Host>(
     host: &H,
     asked: &SheetCheck<&'a str>,
-) -> Result<SheetCheck<NamedReader<'a, H::File>>, Unopened<'a>>
+) -> Result<SheetCheck<NamedReader<'a, H::File>>, Hindrance<'a>>
     ensures opened { IfOk result (IsOpenedCheck (readers H.File.told H.File.failed H.File.gave)
         (H.known_file host.now) asked.now) }
-    ensures unopened { IfErr result (λ unopened.
-        IsFirstOfTwo (readers H.File.told H.File.failed H.File.gave) (H.known_file host.now)
-        asked.now.gsi.now asked.now.sheet.now unopened.path.now) }
-    ensures fails { IfErr result (λ unopened. H.may_not_open host.now unopened.path.now ≡ true) }
+    ensures hindered { IfErr result (IsUnopenedOfTwo
+        (readers H.File.told H.File.failed H.File.gave) (H.known_file host.now)
+        (H.may_not_open host.now) asked.now.gsi.now asked.now.sheet.now) }
 {
     let (gsi, sheet) = open_two(host, asked.gsi, asked.sheet)?;
     Ok(SheetCheck {
@@ -181,32 +197,79 @@ fn open_check<'a, H: Host>(
     })
 }
 
+/// The field file of a path with it open, and the name of a station of it: the one that is stated,
+/// or that of its only station.
+fn open_named<'a, H: Host>(
+    alloc: Global,
+    host: &H,
+    gsi: &'a str,
+    stated: Option<&'a str>,
+    limits: Limits,
+) -> Result<(NamedReader<'a, H::File>, StationName<'a>), Hindrance<'a>>
+    ensures opened { IfOk result (λ its. IsUnread
+        (readers H.File.told H.File.failed H.File.gave) (H.known_file host.now)
+        gsi.now its.0) }
+    ensures named { IfOk result (λ its. IsNamed
+        (readers H.File.told H.File.failed H.File.gave) (H.known_file host.now)
+        limits gsi.now stated.entry its.1) }
+    ensures hindered { IfErr result (HindersStation
+        (readers H.File.told H.File.failed H.File.gave) (H.known_file host.now)
+        (H.may_not_open host.now) limits gsi.now stated.entry) }
+{
+    let name = match stated {
+        Some(name) => StationName::Stated(name),
+        None => only_name(alloc, host, gsi, limits)?,
+    };
+    let file = open(host, gsi)?;
+    Ok((file, name))
+}
+
+/// The name of the only station of the field file of a path, which is opened and read for it.
+fn only_name<'a, H: Host>(
+    alloc: Global,
+    host: &H,
+    gsi: &'a str,
+    limits: Limits,
+) -> Result<StationName<'a>, Hindrance<'a>>
+    ensures named { IfOk result (IsNamed
+        (readers H.File.told H.File.failed H.File.gave) (H.known_file host.now)
+        limits gsi.now None) }
+    ensures hindered { IfErr result (HindersStation
+        (readers H.File.told H.File.failed H.File.gave) (H.known_file host.now)
+        (H.may_not_open host.now) limits gsi.now None) }
+{
+    let file = open(host, gsi)?;
+    match only_station(alloc, file.reader, limits) {
+        Ok(name) => Ok(StationName::Only(name)),
+        Err(refusal) => Err(Hindrance::Station(refusal)),
+    }
+}
+
 /// A station with its field file open.
 fn open_station<'a, H: Host>(
+    alloc: Global,
     host: &H,
-    asked: &FieldStation<'a, &'a str>,
-) -> Result<FieldStation<'a, NamedReader<'a, H::File>>, Unopened<'a>>
+    asked: &FieldStation<&'a str, Option<&'a str>>,
+) -> Result<FieldStation<NamedReader<'a, H::File>, StationName<'a>>, Hindrance<'a>>
     ensures opened { IfOk result (IsOpenedStation (readers H.File.told H.File.failed H.File.gave)
         (H.known_file host.now) asked.now) }
-    ensures unopened { IfErr result (λ unopened. unopened.path.now ≡ asked.now.gsi.now) }
-    ensures fails { OnErr result (H.may_not_open host.now asked.now.gsi.now ≡ true) }
+    ensures hindered { IfErr result (HindersStation
+        (readers H.File.told H.File.failed H.File.gave) (H.known_file host.now)
+        (H.may_not_open host.now) asked.now.limits.faces asked.now.gsi.now asked.now.name) }
 {
-    Ok(FieldStation {
-        gsi: open(host, asked.gsi)?,
-        name: asked.name,
-        limits: asked.limits,
-    })
+    let limits = asked.limits;
+    let (gsi, name) = open_named(alloc, host, asked.gsi, asked.name, limits.faces)?;
+    Ok(FieldStation { gsi, name, limits })
 }
 
 /// All stations with their field file open.
 fn open_stations<'a, H: Host>(
     host: &H,
     asked: &FieldStations<&'a str>,
-) -> Result<FieldStations<NamedReader<'a, H::File>>, Unopened<'a>>
+) -> Result<FieldStations<NamedReader<'a, H::File>>, Hindrance<'a>>
     ensures opened { IfOk result (IsOpenedStations (readers H.File.told H.File.failed H.File.gave)
         (H.known_file host.now) asked.now) }
-    ensures unopened { IfErr result (λ unopened. unopened.path.now ≡ asked.now.gsi.now) }
-    ensures fails { OnErr result (H.may_not_open host.now asked.now.gsi.now ≡ true) }
+    ensures hindered { IfErr result (IsUnopened (H.may_not_open host.now) asked.now.gsi.now) }
 {
     Ok(FieldStations {
         gsi: open(host, asked.gsi)?,
@@ -214,50 +277,124 @@ fn open_stations<'a, H: Host>(
     })
 }
 
+/// The table of a path with its file open, and how it is read.
+fn open_table<'a, H: Host>(
+    alloc: Global,
+    host: &H,
+    path: &'a str,
+    stated: FormStated<'a>,
+) -> Result<(NamedReader<'a, H::File>, TableForm), Hindrance<'a>>
+    ensures opened { IfOk result (λ table. IsUnread
+        (readers H.File.told H.File.failed H.File.gave) (H.known_file host.now)
+        path.now table.0) }
+    ensures form { IfOk result (λ table. IsFormOf
+        (readers H.File.told H.File.failed H.File.gave) (H.known_file host.now)
+        path.now stated.entry table.1) }
+    ensures hindered { IfErr result (HindersTable
+        (readers H.File.told H.File.failed H.File.gave) (H.known_file host.now)
+        (H.may_not_open host.now) path.now stated.entry.columns) }
+{
+    let unit = stated.unit;
+    let columns = columns_of(alloc, host, path, stated.columns)?;
+    let file = open(host, path)?;
+    Ok((file, TableForm { unit, columns }))
+}
+
+/// The columns of the table of a path: those that are stated by numbers, or none; or those that
+/// have the stated titles.
+fn columns_of<'a, H: Host>(
+    alloc: Global,
+    host: &H,
+    path: &'a str,
+    stated: Option<ColumnsStated<'a>>,
+) -> Result<Option<ColumnPair>, Hindrance<'a>>
+    ensures columns { IfOk result (AreColumns
+        (readers H.File.told H.File.failed H.File.gave) (H.known_file host.now)
+        path.now stated.entry) }
+    ensures hindered { IfErr result (HindersTable
+        (readers H.File.told H.File.failed H.File.gave) (H.known_file host.now)
+        (H.may_not_open host.now) path.now stated.entry) }
+{
+    match stated {
+        None => Ok(None),
+        Some(ColumnsStated::Numbers(pair)) => Ok(Some(pair)),
+        Some(
+            ColumnsStated::Titles {
+                targets,
+                directions,
+            },
+        ) => {
+            let pair = columns_titled(alloc, host, path, targets, directions)?;
+            Ok(Some(pair))
+        }
+    }
+}
+
+/// The columns of the table of a path that have these titles. Its file is opened and read for them.
+fn columns_titled<'a, H: Host>(
+    alloc: Global,
+    host: &H,
+    path: &'a str,
+    targets: &str,
+    directions: &str,
+) -> Result<ColumnPair, Hindrance<'a>>
+    ensures titled { IfOk result (λ pair. LooksForTitles
+        (readers H.File.told H.File.failed H.File.gave) (H.known_file host.now)
+        path.now targets.now directions.now (Ok pair)) }
+    ensures hindered { IfErr result (HindersTitles
+        (readers H.File.told H.File.failed H.File.gave) (H.known_file host.now)
+        (H.may_not_open host.now) path.now targets.now directions.now) }
+{
+    let mut file = open(host, path)?;
+    let titles = Titles {
+        targets: targets.as_bytes(),
+        directions: directions.as_bytes(),
+    };
+    match titled_columns(alloc, &mut file.reader, titles) {
+        Ok(pair) => Ok(pair),
+        Err(fault) => Err(Hindrance::Columns(fault)),
+    }
+}
+
 /// A table and its station with their files open, the field file first.
 fn open_beside<'a, H: Host>(
+    alloc: Global,
     host: &H,
-    asked: &TableBeside<'a, &'a str>,
-) -> Result<TableBeside<'a, NamedReader<'a, H::File>>, Unopened<'a>>
+    asked: &TableBeside<&'a str, Option<&'a str>, FormStated<'a>>,
+) -> Result<TableBeside<NamedReader<'a, H::File>, StationName<'a>, TableForm>, Hindrance<'a>>
     ensures opened { IfOk result (IsOpenedBeside (readers H.File.told H.File.failed H.File.gave)
         (H.known_file host.now) asked.now) }
-    ensures unopened { IfErr result (λ unopened.
-        IsFirstOfTwo (readers H.File.told H.File.failed H.File.gave) (H.known_file host.now)
-        asked.now.station.gsi.now asked.now.file.now unopened.path.now) }
-    ensures fails { IfErr result (λ unopened. H.may_not_open host.now unopened.path.now ≡ true) }
+    ensures hindered { IfErr result (HindersBeside
+        (readers H.File.told H.File.failed H.File.gave) (H.known_file host.now)
+        (H.may_not_open host.now) asked.now) }
 {
-    let (gsi, file) = open_two(host, asked.station.gsi, asked.file)?;
+    let station = open_station(alloc, host, &asked.station)?;
+    let (file, form) = open_table(alloc, host, asked.file, asked.form)?;
     Ok(TableBeside {
-        station: FieldStation {
-            gsi,
-            name: asked.station.name,
-            limits: asked.station.limits,
-        },
+        station,
         file,
-        form: asked.form,
+        form,
     })
 }
 
 /// One table of all stations and the stations with their files open, the field file first.
 fn open_table_of_all<'a, H: Host>(
+    alloc: Global,
     host: &H,
-    asked: &StationsBeside<&'a str>,
-) -> Result<StationsBeside<NamedReader<'a, H::File>>, Unopened<'a>>
+    asked: &StationsBeside<&'a str, FormStated<'a>>,
+) -> Result<StationsBeside<NamedReader<'a, H::File>, TableForm>, Hindrance<'a>>
     ensures opened { IfOk result (IsOpenedTableOfAll
         (readers H.File.told H.File.failed H.File.gave) (H.known_file host.now) asked.now) }
-    ensures unopened { IfErr result (λ unopened.
-        IsFirstOfTwo (readers H.File.told H.File.failed H.File.gave) (H.known_file host.now)
-        asked.now.stations.gsi.now asked.now.file.now unopened.path.now) }
-    ensures fails { IfErr result (λ unopened. H.may_not_open host.now unopened.path.now ≡ true) }
+    ensures hindered { IfErr result (HindersTableOfAll
+        (readers H.File.told H.File.failed H.File.gave) (H.known_file host.now)
+        (H.may_not_open host.now) asked.now) }
 {
-    let (gsi, file) = open_two(host, asked.stations.gsi, asked.file)?;
+    let stations = open_stations(host, &asked.stations)?;
+    let (file, form) = open_table(alloc, host, asked.file, asked.form)?;
     Ok(StationsBeside {
-        stations: FieldStations {
-            gsi,
-            limits: asked.stations.limits,
-        },
+        stations,
         file,
-        form: asked.form,
+        form,
     })
 }
 
@@ -267,13 +404,15 @@ fn open_change<'a, H: Host>(
     gsi: &'a str,
     copy: Option<&'a str>,
     changes: Vec<Change>,
-) -> Result<Request<'a, NamedReader<'a, H::File>, NewFile<'a, H, H::New>>, Unopened<'a>>
+) -> Result<
+    Request<'a, NamedReader<'a, H::File>, NewFile<'a, H, H::New>, StationName<'a>, TableForm>,
+    Hindrance<'a>,
+>
     ensures opened { IfOk result
         (IsOpened (readers H.File.told H.File.failed H.File.gave) (H.known_file host.now)
         ⟦<NewFile<'a, H, H::New> as Sink>⟧ (H.known_new host.now)
         (request.Change gsi.entry copy.entry changes)) }
-    ensures unopened { IfErr result (λ unopened. unopened.path.now ≡ gsi.now) }
-    ensures fails { OnErr result (H.may_not_open host.now gsi.now ≡ true) }
+    ensures hindered { IfErr result (IsUnopened (H.may_not_open host.now) gsi.now) }
 {
     Ok(Request::Change {
         gsi: open(host, gsi)?,
@@ -294,35 +433,33 @@ fn open_two<'a, H: Host>(
     host: &H,
     first: &'a str,
     second: &'a str,
-) -> Result<(NamedReader<'a, H::File>, NamedReader<'a, H::File>), Unopened<'a>>
+) -> Result<(NamedReader<'a, H::File>, NamedReader<'a, H::File>), Hindrance<'a>>
     ensures first { IfOk result (λ files. IsUnread
         (readers H.File.told H.File.failed H.File.gave) (H.known_file host.now)
         first.now files.0) }
     ensures second { IfOk result (λ files. IsUnread
         (readers H.File.told H.File.failed H.File.gave) (H.known_file host.now)
         second.now files.1) }
-    ensures unopened { IfErr result (λ unopened.
-        IsFirstOfTwo (readers H.File.told H.File.failed H.File.gave) (H.known_file host.now)
-        first.now second.now unopened.path.now) }
-    ensures fails { IfErr result (λ unopened. H.may_not_open host.now unopened.path.now ≡ true) }
+    ensures hindered { IfErr result (IsUnopenedOfTwo
+        (readers H.File.told H.File.failed H.File.gave) (H.known_file host.now)
+        (H.may_not_open host.now) first.now second.now) }
 {
     let first = open(host, first)?;
     Ok((first, open(host, second)?))
 }
 
 /// The file of a path, which has the path for its name.
-fn open<'a, H: Host>(host: &H, path: &'a str) -> Result<NamedReader<'a, H::File>, Unopened<'a>>
+fn open<'a, H: Host>(host: &H, path: &'a str) -> Result<NamedReader<'a, H::File>, Hindrance<'a>>
     ensures opened { IfOk result (IsUnread (readers H.File.told H.File.failed H.File.gave)
         (H.known_file host.now) path.now) }
-    ensures unopened { IfErr result (λ unopened. unopened.path.now ≡ path.now) }
-    ensures fails { OnErr result (H.may_not_open host.now path.now ≡ true) }
+    ensures hindered { IfErr result (IsUnopened (H.may_not_open host.now) path.now) }
 {
     match host.open(path) {
         Ok(reader) => Ok(NamedReader {
             name: path.as_bytes(),
             reader,
         }),
-        Err(Failed) => Err(Unopened { path }),
+        Err(Failed) => Err(Hindrance::Unopened(Unopened { path })),
     }
 }
 
@@ -332,7 +469,13 @@ fn run_request<'a, H: Host, W: Sink, E: Sink>(
     alloc: Global,
     input: H::Input,
     faults: &[&'static [Explanation]],
-    request: Request<'a, NamedReader<'a, H::File>, NewFile<'a, H, H::New>>,
+    request: Request<
+        'a,
+        NamedReader<'a, H::File>,
+        NewFile<'a, H, H::New>,
+        StationName<'a>,
+        TableForm,
+    >,
     out: &mut W,
     err: &mut E,
 ) -> u8
@@ -445,7 +588,7 @@ fn head_with<'a, 'n>(path: &'a [u8], notes: &'a Notes<'n>) -> Head<'a, 'n>
 /// where digests are asked for.
 fn print_station<F: Source, W: Sink, E: Sink>(
     alloc: Global,
-    station: FieldStation<'_, NamedReader<'_, F>>,
+    station: FieldStation<NamedReader<'_, F>, StationName<'_>>,
     text: StationText<'_>,
     out: &mut W,
     err: &mut E,
@@ -475,10 +618,13 @@ fn print_station<F: Source, W: Sink, E: Sink>(
                 }
             }
         }
-        StationText::ReportRows { form } => {
-            let asked = ReportRows { form };
-            run_answer(alloc, gsi.reader, name, limits, &asked, out, err)
-        }
+        StationText::ReportRows { digests, form } => match digests {
+            Digests::Omitted => {
+                let asked = ReportRows { form };
+                run_answer(alloc, gsi.reader, name, limits, &asked, out, err)
+            }
+            Digests::Printed => run_rows_recorded(alloc, gsi, name, limits, form, out, err),
+        },
     }
 }
 
@@ -528,7 +674,7 @@ fn part_text(text: AllTableText) -> PartText
 /// status.
 fn print_table_of_all<F: Source, W: Sink, E: Sink>(
     alloc: Global,
-    beside: StationsBeside<NamedReader<'_, F>>,
+    beside: StationsBeside<NamedReader<'_, F>, TableForm>,
     text: AllTableText,
     out: &mut W,
     err: &mut E,
@@ -561,7 +707,7 @@ fn print_table_of_all<F: Source, W: Sink, E: Sink>(
 /// is recorded where digests are asked for.
 fn print_beside<F: Source, W: Sink, E: Sink>(
     alloc: Global,
-    beside: TableBeside<'_, NamedReader<'_, F>>,
+    beside: TableBeside<NamedReader<'_, F>, StationName<'_>, TableForm>,
     text: TableText<'_>,
     out: &mut W,
     err: &mut E,
@@ -626,7 +772,7 @@ fn print_beside<F: Source, W: Sink, E: Sink>(
             notes,
         } => {
             let head = head_with(gsi.name, &notes);
-            let asked = Asked {
+            let asked = ReportAsked {
                 head,
                 table_path: table.name,
                 form,

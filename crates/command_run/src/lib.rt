@@ -5,6 +5,8 @@
 //! |---|---|
 //! | `status` | `run`: the exit status of the run that the words of a host ask for |
 //! | `host` | what gives the words and the files of paths, and the runtime as such a host |
+//! | `station_name` | the name of a station, as it is stated or found |
+//! | `hindrance` | why no run is made of a request |
 //! | `new_file` | a file that is made at its first write |
 //! | `answering` | a request with its files open, and the call that answers it |
 //! | `explaining` | the run that explains a fault |
@@ -13,8 +15,10 @@
 
 mod answering;
 mod explaining;
+mod hindrance;
 mod host;
 mod new_file;
+mod station_name;
 mod status;
 mod unopened;
 

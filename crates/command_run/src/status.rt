@@ -5,17 +5,19 @@ ghost use Rattle.byte_ends.specs.Writers.{writer_change};
 ghost use Rattle.command_line.specs.CommandLine.{IsMistakeIn};
 ghost use Rattle.station_check.specs.RunEndings.{WritesOrFails};
 ghost use Rattle.command_run.specs.Answering.{IsStatusOfWords, IsStatusOfRun, IsMistakenRun};
-ghost use Rattle.command_run.specs.Answering.{NamesThere, NamesUnopened, LacksWords};
+ghost use Rattle.command_run.specs.Answering.{LacksWords, NamesThere, NamesUnopened};
+ghost use Rattle.command_run.specs.Answering.{TellsHindrance};
 ghost use Rattle.command_run.specs.Hosts.{known_of, readers};
 
 use crate::answering::answer;
+use crate::hindrance::{Hindrance, titles_line};
 use crate::host::{Host, NoWords};
 use crate::new_file::NewFile;
-use crate::unopened::{PathFault, Unopened, there_line, unopened_line};
+use crate::unopened::{Unopened, there_line, unopened_line};
 use byte_ends::Sink;
 use clap::Error;
 use command_line::asked_for;
-use station_check::{Fault, VERSION, refuse};
+use station_check::{Fault, VERSION, refuse, refuse_by};
 use station_explain::Explanation;
 use std::alloc::Global;
 
@@ -94,8 +96,20 @@ fn status_of_words<'a, H: Host, W: Sink, E: Sink>(
     let request = asked_for(alloc, VERSION, faults, words)?;
     match answer(alloc, host, input, faults, request, out, err) {
         Ok(status) => Ok(status),
-        Err(PathFault::Unopened(unopened)) => Ok(report_unopened(alloc, &unopened, err)),
-        Err(PathFault::IsThere(path)) => Ok(report_there(alloc, path, err)),
+        Err(hindrance) => Ok(report_hindrance(alloc, &hindrance, err)),
+    }
+}
+
+/// Tells what hinders a run on `err`, and answers the exit status.
+fn report_hindrance<E: Sink>(alloc: Global, hindrance: &Hindrance<'_>, err: &mut E) -> u8
+    ensures bound { result ≤ 2 }
+    ensures told { TellsHindrance hindrance.now result (writer_change E.Sink err.old err.new) }
+{
+    match hindrance {
+        Hindrance::Unopened(unopened) => report_unopened(alloc, unopened, err),
+        Hindrance::IsThere(path) => report_there(alloc, *path, err),
+        Hindrance::Station(refusal) => station_compare::refuse(refusal, err),
+        Hindrance::Columns(fault) => refuse_by(titles_line(*fault).as_bytes(), err),
     }
 }
 

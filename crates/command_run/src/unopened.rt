@@ -11,16 +11,6 @@ pub(crate) struct Unopened<'a> {
     pub path: &'a str,
 }
 
-/// Why a path that a request names is refused.
-#[derive(Debug, Drop)]
-pub(crate) enum PathFault<'a> {
-    /// Its file can't be opened.
-    Unopened(Unopened<'a>),
-
-    /// A new file is to have it, and one is there already.
-    IsThere(&'a str),
-}
-
 /// The line that names the path of a file that can't be opened.
 pub(crate) fn unopened_line(alloc: Global, path: &str) -> Result<String, AllocError>
     ensures { IfOk result (λ line. string_bytes line ≡ spec.unopened_line path.now) }

@@ -13,9 +13,11 @@ mod lines;
 mod named;
 mod report;
 mod report_with_table;
+mod rows;
 
 pub use check::run_check_recorded;
 pub use compare::run_compare_recorded;
 pub use named::{HeadedReader, NamedReader};
 pub use report::run_report_recorded;
 pub use report_with_table::run_table_report_recorded;
+pub use rows::run_rows_recorded;

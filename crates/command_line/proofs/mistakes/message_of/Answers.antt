@@ -1,6 +1,6 @@
 use Rattle.std.proofs.Common.{◌≡◌, ◌∙◌, ◌++◌, List, ℕ, append_assoc, codes, sym}
 use Rattle.std.proofs.lemmas.Result.{IfOk-weaker}
-use Rattle.command_line.specs.Mistakes.{code_why, columns_why, note_why}
+use Rattle.command_line.specs.Mistakes.{code_why, columns_why, language_why, note_why}
 use Rattle.command_line.proofs.mistakes.message_of.Goals as goal
 
 -- Six pieces are one text, however they are grouped.
@@ -63,3 +63,11 @@ returns-in-Note c =
     rw c.in-Note.is
     (IfOk-weaker c.format-in-Note.result _ _ (λ said is. is ∙ sym same)
     c.format-in-Note.ensures.ok)
+
+pub returns-in-Language : goal.returns-in-Language
+returns-in-Language c =
+    let same = regroup_four (codes "invalid value '") c.in-Language.text.now
+    (codes "' for '--language <CODE>': ") language_why in
+    rw c.in-Language.is
+    (IfOk-weaker c.format-in-Language.result _ _ (λ said is. is ∙ sym same)
+    c.format-in-Language.ensures.ok)

@@ -2,7 +2,12 @@ use Rattle.std.proofs.Common.{inl, inr, refl, rules}
 use Rattle.command_line.proofs.subcommands.directions_request.Goals as goal
 
 pub returns-clause-asked : goal.returns-clause-asked
-returns-clause-asked c = (search rules, (refl, search rules, c.row_form_of-form.ensures), search rules)
+returns-clause-asked c = (
+  search rules,
+  search rules,
+  (refl, search rules, c.row_form_of-form.ensures),
+  search rules,
+)
 
 pub returns-then-has_flag-clause-asked : goal.returns-then-has_flag-clause-asked
 returns-then-has_flag-clause-asked c =

@@ -13,4 +13,4 @@ returns-in_err-listed-clause-none c =
 pub returns-in-Rows-true-clause-none : goal.returns-in-Rows-true-clause-none
 returns-in-Rows-true-clause-none c =
     let rows = rows-stated (found_of c.args.found.now) _ _ c.in-Rows-true.is-0 c.in_ok-listed.ensures.stated in
-    inr (inr (inr (inr (inl (rows, inr (inr (inr (inr (search rules)))))))))
+    inr (inr (inr (inr (inl (rows, inr (inr (inr (search rules))))))))

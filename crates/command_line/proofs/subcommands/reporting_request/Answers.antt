@@ -8,7 +8,7 @@ pub returns-in-Lines-Some-default-default-default-default-clause-asked :
 returns-in-Lines-Some-default-default-default-default-clause-asked c = (
   search rules,
   (search rules, search rules),
-  (refl, search rules, search rules, search rules, search rules, search rules),
+  (refl, search rules, search rules, search rules, search rules, search rules, search rules),
   search rules,
 )
 
@@ -16,12 +16,14 @@ pub returns-in-Lines-None-None-false-default-default-clause-asked :
     goal.returns-in-Lines-None-None-false-default-default-clause-asked
 returns-in-Lines-None-None-false-default-default-clause-asked c = (
   search rules,
+  search rules,
   (
     refl,
     record {
       no_table = search rules;
       no_within = search rules;
-      no_form = (search rules, search rules);
+      in_gon = search rules;
+      no_columns = search rules;
     },
     search rules,
     search rules,
@@ -30,16 +32,18 @@ returns-in-Lines-None-None-false-default-default-clause-asked c = (
   search rules,
 )
 
-pub returns-in-Rows-None-None-false-Omitted-false-clause-asked :
-    goal.returns-in-Rows-None-None-false-Omitted-false-clause-asked
-returns-in-Rows-None-None-false-Omitted-false-clause-asked c = (
+pub returns-in-Rows-None-None-false-default-false-clause-asked :
+    goal.returns-in-Rows-None-None-false-default-false-clause-asked
+returns-in-Rows-None-None-false-default-false-clause-asked c = (
+  search rules,
   search rules,
   (
     refl,
     record {
       no_table = search rules;
       no_within = search rules;
-      no_form = (search rules, search rules);
+      in_gon = search rules;
+      no_columns = search rules;
     },
     search rules,
     search rules,
@@ -58,12 +62,6 @@ pub returns-in-Rows-None-None-true-default-default-clause-none :
 returns-in-Rows-None-None-true-default-default-clause-none c =
     let rows = rows-stated (found_of c.args.found.now) _ _ c.in-Rows-None-None-true-default-default.is-0 c.in_ok-listed.ensures.stated in
     inr (inr (inr (inr (inl (rows, inr (inr (inl (search rules))))))))
-
-pub returns-in-Rows-None-None-false-Printed-default-clause-none :
-    goal.returns-in-Rows-None-None-false-Printed-default-clause-none
-returns-in-Rows-None-None-false-Printed-default-clause-none c =
-    let rows = rows-stated (found_of c.args.found.now) _ _ c.in-Rows-None-None-false-Printed-default.is-0 c.in_ok-listed.ensures.stated in
-    inr (inr (inr (inr (inl (rows, inr (inr (inr (inl (search rules)))))))))
 
 pub returns-in_default-clause-none : goal.returns-in_default-clause-none
 returns-in_default-clause-none c = inl (inl (search rules, c.in_default.ensures.none))

@@ -4,10 +4,6 @@ use Rattle.command_line.proofs.subcommands.station_of.Goals as goal
 pub returns-in_err-gsi-clause-none : goal.returns-in_err-gsi-clause-none
 returns-in_err-gsi-clause-none c = rw c.from_residual.ensures (inl (search rules))
 
-pub returns-in_err-station-clause-none : goal.returns-in_err-station-clause-none
-returns-in_err-station-clause-none c =
-    rw c.from_residual-in_err-station.ensures (inr (inl (search rules)))
-
 pub returns-in_err-limits_of-clause-none : goal.returns-in_err-limits_of-clause-none
 returns-in_err-limits_of-clause-none c =
-    rw c.from_residual-in_err-limits_of.ensures (inr (inr c.in_err-limits_of.ensures.none))
+    rw c.from_residual-in_err-limits_of.ensures (inr c.in_err-limits_of.ensures.none)

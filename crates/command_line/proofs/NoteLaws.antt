@@ -1,0 +1,43 @@
+-- What is known of the stated language and of the notes in it.
+use Rattle.std.proofs.Common.{◌≡◌, ◌∙◌, ℕ, List, None, Some, codes, subst, sym}
+use Rattle.clap.specs.declared.parser.matches.Found.{Found}
+use Rattle.command_line.specs.Mistakes.{IsWrongLanguage, IsWrongNote}
+use Rattle.command_line.specs.Stated.{IsGiven}
+use Rattle.command_line.specs.StatedNotes.{StatesLines, language_named, language_stated}
+use Rattle.command_line.specs.StatedNumbers.{texts_of}
+use Rattle.report_notes.proofs.Stating.{no_notes}
+use Rattle.report_notes.specs.Stated.{IsFirstUnnoted}
+use Rattle.report_notes.specs.declared.notes.Note.{Note}
+use Rattle.report_phrases.specs.declared.language.Language.{Language}
+
+-- One language is stated at most.
+one_language : (found : Found) (a b : Language) → language_stated found ≡ Some a
+    → language_stated found ≡ Some b → a ≡ b
+one_language found a b is that = let both : Some a ≡ Some b = sym is ∙ that in cc
+
+-- Where notes are stated in the stated language, no text of one is wrong.
+pub right_notes : (found : Found) (language : Language) (lines : List Note)
+    → language_stated found ≡ Some language → StatesLines found language lines
+    → (text : List ℕ) → ¬ (IsWrongNote found text)
+right_notes found language lines is noted text wrong =
+    let first : IsFirstUnnoted language (texts_of found (codes "note")) text =
+    subst (λ (l : Language). IsFirstUnnoted l (texts_of found (codes "note")) text)
+    (one_language found wrong.0 language wrong.1 is) wrong.2 in
+    no_notes language (texts_of found (codes "note")) text first lines noted
+
+-- Where no language is stated that may be, no text of a note is judged.
+pub no_language : (found : Found) → language_stated found ≡ None
+    → (text : List ℕ) → ¬ (IsWrongNote found text)
+no_language found none text wrong =
+    let both : None ≡ Some wrong.0 = sym none ∙ wrong.1 in absurd (cc)
+
+-- The text of a language is no wrong one.
+pub right_language : (found : Found) (code : List ℕ) (language : Language)
+    → IsGiven found (codes "language") code → language_named code ≡ Some language
+    → (text : List ℕ) → ¬ (IsWrongLanguage found text)
+right_language found code language given named text wrong =
+    let same : Some code ≡ Some text = sym given ∙ wrong.0 in
+    let its : code ≡ text = cc in
+    let both : None ≡ Some language =
+    sym (subst (λ (t : List ℕ). language_named t ≡ None) (sym its) wrong.1) ∙ named in
+    absurd (cc)

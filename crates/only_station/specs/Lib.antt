@@ -1,0 +1,2 @@
+-- The public definitions, which the public contract cites.
+pub mod Only
