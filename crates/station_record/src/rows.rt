@@ -1,10 +1,13 @@
 //! The rows of the report, with the digest of what was read.
 
-ghost use Rattle.std.specs.Prelude.{◌≡◌, ◌++◌, ⊤, IfOk};
+ghost use Rattle.std.specs.Prelude.{◌≡◌, ◌++◌, ⊤, IfOk, OnOk};
 ghost use Rattle.byte_ends.specs.Source.{UntilDropped};
 ghost use Rattle.byte_ends.specs.Writers.{writer_change};
 ghost use Rattle.csv.specs.Writing.{row_text};
+ghost use Rattle.hex.specs.Hex.{encode_lower};
 ghost use Rattle.row_forms.specs.Forms.{writer_of};
+ghost use Rattle.row_forms.specs.Writing.{Writes};
+ghost use Rattle.row_forms.specs.declared.form.RowForm.{RowForm as Form};
 ghost use Rattle.station_check.specs.RunEndings.{PrintsAnswer, Run};
 ghost use Rattle.station_compare.specs.Refusals.{refusal_text, unhinted};
 ghost use Rattle.station_compare.specs.declared.fault.CompareFault.TheVariants.{Write};
@@ -16,12 +19,14 @@ use crate::compare::report;
 use crate::named::NamedReader;
 use byte_digests::Digesting;
 use byte_ends::{Sink, Source};
+use csv::Writer;
 use row_forms::{RowForm, rows_in, write_row};
 use station_answers::{ReportRows, answer_of};
 use station_book::ResultLimits;
 use station_check::write_whole;
 use station_compare::{CompareFault, Refusal};
 use std::alloc::{AllocError, Global};
+use std::io::Write;
 
 /// Writes the rows of the report of the station of this name as `run_answer` does of
 /// [`ReportRows`], and answers the exit status. After them it writes the row of the field file: the
@@ -78,14 +83,24 @@ fn push_file_row(
     path: &[u8],
     digest: &[u8; 32],
 ) -> Result<(), AllocError>
-    ensures { IfOk result (λ _. rows.new.items
+    ensures { OnOk result (rows.new.items
         ≡ rows.old.items ++ row_text (writer_of form) (spec.file_row path.now digest.now)) }
 {
     let row = file_row(alloc, form, path, digest)?;
-    rows.extend_from_slice(&row)
+    rows.extend_from_slice(&row)?;
+    Ok(())
 }
 
-/// The row of a field file, as text: as wide as the others, with no byte in its further cells.
+/// The digits of a digest.
+fn digits_of(digest: &[u8; 32]) -> [u8; 64]
+    ensures { result ≡ encode_lower digest.now }
+{
+    let mut digits = [0; 64];
+    hex::encode_to_slice(digest, &mut digits).unwrap();
+    digits
+}
+
+/// The row of a field file, as text.
 fn file_row(
     alloc: Global,
     form: RowForm,
@@ -95,27 +110,40 @@ fn file_row(
     ensures { IfOk result (λ row. row.items
         ≡ row_text (writer_of form) (spec.file_row path.now digest.now)) }
 {
-    let mut digits = [0; 64];
-    hex::encode_to_slice(digest, &mut digits).unwrap();
-    let none = b"".as_slice();
-    let cells = [
-        b"file".as_slice(),
-        path,
-        &digits,
-        none,
-        none,
-        none,
-        none,
-        none,
-        none,
-        none,
-        none,
-        none,
-        none,
-    ];
     let mut writer = rows_in(form, Vec::new(alloc));
-    write_row(&mut writer, &cells)?;
+    write_file_row(&mut writer, path, digest)?;
     writer.into_inner().map_err(|_| AllocError)
+}
+
+/// Writes the row of a field file: as wide as the others, with no byte in its further cells.
+fn write_file_row<W: Write + Drop>(
+    writer: &mut Writer<W>,
+    path: &[u8],
+    digest: &[u8; 32],
+) -> Result<(), AllocError>
+    ensures { (form : Form) → OnOk result (Writes form W.contents writer.old writer.new
+        (row_text (writer_of form) (spec.file_row path.now digest.now))) }
+{
+    let digits = digits_of(digest);
+    let none = b"".as_slice();
+    write_row(
+        writer,
+        &[
+            b"file".as_slice(),
+            path,
+            digits.as_slice(),
+            none,
+            none,
+            none,
+            none,
+            none,
+            none,
+            none,
+            none,
+            none,
+            none,
+        ],
+    )
 }
 
 /// Prints rows, and passes on a refusal.
