@@ -5,7 +5,7 @@ ghost use Rattle.std.specs.Prelude.{nat_eq};
 ghost use Rattle.std.specs.List.{concat, position, starts_with};
 ghost use Rattle.report_pages.specs.Pages as spec;
 
-use crate::lines::LINE_FEED;
+use crate::lines::{LINE_FEED, line_at};
 use std::alloc::AllocError;
 
 /// The most lines of a report down to that of its station: that of the program, an empty one, that
@@ -23,7 +23,8 @@ fn first_with(lines: &[&[u8]], label: &[u8]) -> Option<usize>
 
 /// The lines of a head.
 pub(crate) fn head_of<'l, 't>(lines: &'l [&'t [u8]], label: &[u8]) -> &'l [&'t [u8]]
-    ensures { map (λ line. line.now) result.now
+    ensures few { length result.now ≤ LINES_OF_HEAD }
+    ensures head { map (λ line. line.now) result.now
         ≡ spec.head label.now (map (λ line. line.now) lines.now) }
 {
     let most = lines.len().min(LINES_OF_HEAD);
@@ -47,7 +48,7 @@ fn push_lines(text: &mut Vec<u8>, lines: &[&[u8]]) -> Result<(), AllocError>
         (text.new.items ≡ text.old.items ++ concat (map (λ line. line.now) lines.now)) }
 {
     'lines: for place in 0..lines.len() {
-        text.extend_from_slice(lines[place])?;
+        text.extend_from_slice(line_at(lines, place))?;
     }
     Ok(())
 }

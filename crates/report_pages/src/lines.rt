@@ -1,6 +1,6 @@
 //! The lines of a text.
 
-ghost use Rattle.std.specs.Prelude.{◌≡◌, ◌==◌, IfOk, map};
+ghost use Rattle.std.specs.Prelude.{◌≡◌, ◌<◌, ◌==◌, IfOk, length, map, slice_index_or};
 ghost use Rattle.report_pages.specs.Lines as spec;
 
 use std::alloc::{AllocError, Global};
@@ -19,6 +19,14 @@ pub(crate) fn lines_of(alloc: Global, text: &[u8]) -> Result<Vec<&[u8]>, AllocEr
 {
     text.split_inclusive(|byte| *byte == LINE_FEED)
         .collect(alloc)
+}
+
+/// The line at a place.
+pub(crate) fn line_at<'t>(lines: &[&'t [u8]], place: usize) -> &'t [u8]
+    requires { place < length lines.now }
+    ensures { slice_index_or lines.now place result ≡ result }
+{
+    lines[place]
 }
 
 /// The first byte of a line.

@@ -1,12 +1,12 @@
 //! Reports, divided into pages.
 
-ghost use Rattle.std.specs.Prelude.{◌≡◌, ◌++◌, ◌∷◌, ◌<◌, [], IfOk, OnOk, length, map, false};
-ghost use Rattle.std.specs.Prelude.{slice_index_or, if◌then◌else◌, ◌==◌};
+ghost use Rattle.std.specs.Prelude.{◌≡◌, ◌++◌, ◌∷◌, [], IfOk, OnOk, length, map, false};
+ghost use Rattle.std.specs.Prelude.{if◌then◌else◌, ◌==◌};
 ghost use Rattle.std.specs.List.{concat, slice_split};
 ghost use Rattle.report_pages.specs.Pages as spec;
 
 use crate::head::{head_of, push_repeated, repeated_lines};
-use crate::lines::{begins_with_blank, is_empty, lines_of};
+use crate::lines::{begins_with_blank, is_empty, line_at, lines_of};
 use std::alloc::{AllocError, Global};
 
 /// What a page begins with, but for the first.
@@ -52,14 +52,6 @@ fn push_line(pages: &mut Vec<u8>, line: &[u8], start: &[u8], begins: bool) -> Re
     }
     pages.extend_from_slice(line)?;
     Ok(())
-}
-
-/// The line at a place.
-fn line_at<'t>(lines: &[&'t [u8]], place: usize) -> &'t [u8]
-    requires { place < length lines.now }
-    ensures { slice_index_or lines.now place result ≡ result }
-{
-    lines[place]
 }
 
 /// Adds lines, page by page: each further page begins with this start, and has room for so many
