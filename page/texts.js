@@ -163,7 +163,7 @@ export const TEXTS = {
   limitWithin: {
     en: 'A table may differ by, in mgon',
     de: 'Zulässige Abweichung einer Tabelle, in mgon',
-    fr: 'Une table peut différer de, en mgon',
+    fr: 'Écarts d’une table au plus, en mgon',
   },
   usual: { en: 'usual', de: 'üblich', fr: 'usuelle' },
   limitDecimals: {
@@ -249,7 +249,7 @@ export const TEXTS = {
   agrees: {
     en: 'Agrees. {n} target within {apart} mgon of the least-squares directions; the limit is {limit} mgon.|Agrees. {n} targets within {apart} mgon of the least-squares directions; the limit is {limit} mgon.',
     de: 'Stimmt überein. {n} Ziel weicht höchstens {apart} mgon von den ausgeglichenen Richtungen ab; der Grenzwert ist {limit} mgon.|Stimmt überein. {n} Ziele weichen höchstens {apart} mgon von den ausgeglichenen Richtungen ab; der Grenzwert ist {limit} mgon.',
-    fr: 'Conforme. {n} point visé à {apart} mgon près des directions des moindres carrés ; la limite est {limit} mgon.|Conforme. {n} points visés à {apart} mgon près des directions des moindres carrés ; la limite est {limit} mgon.',
+    fr: 'Conforme. {n} point visé à {apart} mgon près des directions compensées ; la limite est {limit} mgon.|Conforme. {n} points visés à {apart} mgon près des directions compensées ; la limite est {limit} mgon.',
   },
   residualKept: {
     en: 'Greatest residual {size} mgon, set {set}, {target}: within the limit of {limit} mgon.',
@@ -275,7 +275,7 @@ export const TEXTS = {
   furthest: {
     en: 'Furthest from the least-squares directions: {targets}.',
     de: 'Am weitesten von den ausgeglichenen Richtungen entfernt: {targets}.',
-    fr: 'Les plus éloignées des directions des moindres carrés : {targets}.',
+    fr: 'Les plus éloignées des directions compensées : {targets}.',
   },
   readWell: {
     en: 'Read without a fault: {sets}, {targets}, {directions}.',
@@ -607,7 +607,7 @@ export const TEXTS = {
     de: 'Beobachtung {nth} der Station {station}',
     fr: 'Observation {nth} de la station {station}',
   },
-  setAndTarget: { en: 'set {set}, target {target}', de: 'Satz {set}, Ziel {target}', fr: 'série {set}, point {target}' },
+  setAndTarget: { en: 'set {set}, target {target}', de: 'Satz {set}, Ziel {target}', fr: 'série {set}, point visé {target}' },
   waiting: {
     en: 'Not checked until the field file has no fault: {names}.',
     de: 'Nicht geprüft, solange die Messdatei einen Fehler hat: {names}.',
@@ -674,7 +674,7 @@ export const TEXTS = {
   directionsCaption: {
     en: 'Least-squares directions, the first target as zero, in gon',
     de: 'Ausgeglichene Richtungen, auf das erste Ziel reduziert, in gon',
-    fr: 'Directions des moindres carrés, premier point visé à zéro, en gon',
+    fr: 'Directions compensées, premier point visé à zéro, en gon',
   },
   differences: { en: 'Differences of {name}', de: 'Abweichungen von {name}', fr: 'Écarts de {name}' },
   differencesCaption: {

@@ -130,7 +130,7 @@ def command_line():
 # Of each command, which of its operands are files.
 FILES = {"check": [0, 1], "compare": [0, 2], "differences": [0, 2]}
 
-def answer_of_all(asked, data, limits, fails, held, formed):
+def answer_of_all(asked, data, limits, fails, held, formed, notes):
     """What the model answers of all stations of a file, which nothing that is of one may stand
     beside."""
     of_one = [asked.table, asked.within, asked.columns, asked.sha256, asked.unit != "gon"]
@@ -141,7 +141,8 @@ def answer_of_all(asked, data, limits, fails, held, formed):
     elif asked.csv:
         joined, one = model.titled_once, partial(model.reported_rows, **formed)
     else:
-        joined, one = model.paged, partial(model.reported, path=asked.operands[0].encode())
+        path = asked.operands[0].encode()
+        joined, one = model.paged, partial(model.reported, path=path, notes=notes)
 
     def of_name(name):
         return one(data, name=name, limits=limits, **held)
@@ -224,7 +225,7 @@ def model_answer(case):
     if asked.all and reads_table:
         return answer_of_table(asked, files, limits, fails, held, formed)
     if asked.all:
-        return answer_of_all(asked, files[0], limits, fails[0], held, formed)
+        return answer_of_all(asked, files[0], limits, fails[0], held, formed, notes)
     if len(asked.operands) < 2:
         return (2, b"", b"")
     station = asked.operands[1].encode()

@@ -19,6 +19,7 @@ use Rattle.instrument_words.specs.Below.{TellsInstrument}
 use Rattle.instrument_words.specs.Instrument.{AreBlocksOf}
 use Rattle.instrument_words.specs.Rereading.{HasKept, histories, kept_by, reader_of}
 use Rattle.instrument_words.specs.declared.rereading.Rereading.{Rereading}
+use Rattle.report_phrases.specs.declared.language.Language.{Language}
 use Rattle.station_answers.specs.Answers.{HasNone, StatesOf}
 use Rattle.station_report.specs.NoteTexts.{ReportHead}
 use Rattle.station_book.specs.Stations.{SurveyedStation}
@@ -56,13 +57,13 @@ kept told failed gave old new bytes none p = (
 )
 
 -- Of bytes that were kept whole, a text with what they recorded tells it of their file.
-pub tells : (IsOwn : List ℕ → Type 0) (own whole given : List ℕ) (bytes : Option (List ℕ))
-    (left : Told) (blocks : List GsiBlock) → IsOwn own → IfSome bytes (λ b. given ≡ b)
-    → IsWith bytes own whole → left ≡ ended
+pub tells : (language : Language) (IsOwn : List ℕ → Type 0) (own whole given : List ℕ)
+    (bytes : Option (List ℕ)) (left : Told) (blocks : List GsiBlock) → IsOwn own
+    → IfSome bytes (λ b. given ≡ b) → IsWith language bytes own whole → left ≡ ended
     → AreBlocksOf (file_answers (given_then given left)) blocks
-    → TellsInstrument (file_answers (given_then given left)) IsOwn whole
-tells IsOwn own whole given None left blocks is_own same with over are = absurd with
-tells IsOwn own whole given (Some bytes) left blocks is_own same with over are = record {
+    → TellsInstrument language (file_answers (given_then given left)) IsOwn whole
+tells language IsOwn own whole given None left blocks is_own same with over are = absurd with
+tells language IsOwn own whole given (Some bytes) left blocks is_own same with over are = record {
   own = own;
   is_own = is_own;
   blocks = blocks;
@@ -95,10 +96,11 @@ field_file_of told failed gave d d' r So none a = record {
   }) a.left;
 }
 
-module _ (Says : SurveyedStation → List ℕ → Type 0) (limits : ResultLimits) (name : List ℕ) where
+module _ (language : Language) (Says : SurveyedStation → List ℕ → Type 0) (limits : ResultLimits)
+    (name : List ℕ) where
   -- What is said of a file by an answer with what it recorded.
   abbrev With : FileAnswers → SurveyedStation → List ℕ → Type 0
-  With file = λ its text. TellsInstrument file (Says its) text
+  With file = λ its text. TellsInstrument language file (Says its) text
 
   -- What was answered, and then told with what the bytes recorded, where those that came were kept.
   pub answered : {T : Type 0} (items : T → List ℕ) (gsi : ReaderChange) (answer r : Result T Refusal)
@@ -107,7 +109,7 @@ module _ (Says : SurveyedStation → List ℕ → Type 0) (limits : ResultLimits
       (λ text. StatesOf Says limits file name (items text)) (HasNone limits file name)
       × IsHinted limits file name answer))
       → IfSome bytes (λ b. a.came.given ≡ b)
-      → IsAnswerWith items (unhinted Memory) bytes answer r
+      → IsAnswerWith language items (unhinted Memory) bytes answer r
       → ReadsFieldFile gsi (by_fault r) (λ file. MatchResult (by_fault r)
       (λ text. StatesOf (With file) limits file name (items text)) (HasNone limits file name)
       × IsHinted limits file name r)
@@ -122,7 +124,7 @@ module _ (Says : SurveyedStation → List ℕ → Type 0) (limits : ResultLimits
               its = st.its;
               station = st.station;
               held = st.held;
-              said = tells (Says st.its) (items own) (items whole) a.came.given bytes left
+              said = tells language (Says st.its) (items own) (items whole) a.came.given bytes left
                   (reverse st.station.blocks) st.said same with over
                   (record { ended = st.station.ended; lines = st.station.lines });
             },
@@ -155,10 +157,10 @@ pub all_answered : {T : Type 0} (items : T → List ℕ) (head : ReportHead) (li
     (λ text. StatesAll (SaysReport head limits) limits Pages file (items text))
     (IsRefusedOfAll (SaysReport head limits) limits file)))
     → IfSome bytes (λ b. a.came.given ≡ b)
-    → IsAnswerWith items (of_no_one Memory) bytes answer r
+    → IsAnswerWith head.notes.language items (of_no_one Memory) bytes answer r
     → ReadsFieldFile gsi (fault_of r) (λ file. MatchResult r
-    (λ text. TellsInstrument file (StatesAll (SaysReport head limits) limits Pages file)
-    (items text))
+    (λ text. TellsInstrument head.notes.language file
+    (StatesAll (SaysReport head limits) limits Pages file) (items text))
     (IsRefusedOfAll (SaysReport head limits) limits file))
 all_answered items head limits gsi (Ok own) (Ok whole) bytes a same with = record {
   came = record {
@@ -170,8 +172,8 @@ all_answered items head limits gsi (Ok own) (Ok whole) bytes a same with = recor
         let file = file_answers (given_then a.came.given left) in
         let well = came_well limits.faces [] file.lines file.last st.survey.blocks tt
         st.survey.file in
-        tells (StatesAll (SaysReport head limits) limits Pages file) (items own) (items whole)
-        a.came.given bytes left well.more st same with over
+        tells head.notes.language (StatesAll (SaysReport head limits) limits Pages file) (items own)
+        (items whole) a.came.given bytes left well.more st same with over
         (record { ended = well.ended; lines = well.each });
   };
   left = a.left;
@@ -189,8 +191,8 @@ all_answered {T} items head limits gsi (Ok own) (Err refused) bytes a same with 
     })
 all_answered {T} items head limits gsi (Err refused) r bytes a same with =
     subst (λ (r : Result T StationRefusal). ReadsFieldFile gsi (fault_of r) (λ file. MatchResult r
-    (λ text. TellsInstrument file (StatesAll (SaysReport head limits) limits Pages file)
-    (items text))
+    (λ text. TellsInstrument head.notes.language file
+    (StatesAll (SaysReport head limits) limits Pages file) (items text))
     (IsRefusedOfAll (SaysReport head limits) limits file))) (sym with)
     (record { came = a.came; left = a.left })
 
@@ -225,7 +227,7 @@ pub table_answered : (asked : ReportAsked) (limits : ResultLimits) (name : List 
     (λ noted. StatesBeside (Noting (SaysTableReport asked limits) asked.form) limits file stated
     name (value_of noted.answer, noted.note.items))
     (HasNoAnswer asked.form limits file stated name) × IsHinted limits file name answer))
-    → IfSome bytes (λ b. a.gsi_bytes ≡ b) → IsNotedWith bytes answer r
+    → IfSome bytes (λ b. a.gsi_bytes ≡ b) → IsNotedWith asked.head.notes.language bytes answer r
     → ReadsBoth gsi table (by_fault r) (λ file stated. MatchResult (by_fault r)
     (λ noted. StatesBeside (Noting (SaysTableReportOf file asked limits) asked.form) limits file
     stated name (value_of noted.answer, noted.note.items))
@@ -253,8 +255,8 @@ table_answered asked limits name gsi table (Ok own) (Ok whole) bytes a same with
           whole = st.whole;
           held = st.held;
           said = (
-            tells IsOwn own.answer.text.items whole.answer.text.items a.gsi_bytes bytes left
-                (reverse st.station.blocks) is_own same with.0 over blocks_are,
+            tells asked.head.notes.language IsOwn own.answer.text.items whole.answer.text.items
+                a.gsi_bytes bytes left (reverse st.station.blocks) is_own same with.0 over blocks_are,
             with.2 ∙ st.said.1,
           );
         },

@@ -15,12 +15,14 @@ use Rattle.table_report.specs.Stating.{ReportAsked, ReportValue}
 -- The report of a station of this file, with what the file recorded.
 abbrev pub SaysReportOf : FileAnswers → ReportHead → ResultLimits → SurveyedStation → List ℕ
     → Type 0
-SaysReportOf file head limits = λ its text. TellsInstrument file (SaysReport head limits its) text
+SaysReportOf file head limits =
+    λ its text. TellsInstrument head.notes.language file (SaysReport head limits its) text
 
 -- The same of the report with a table.
 abbrev pub SaysTableReportOf : FileAnswers → ReportAsked → ResultLimits → SurveyedStation → List ℕ
     → ReportValue → Type 0
-SaysTableReportOf file asked limits = λ its bytes report. TellsInstrument file
+SaysTableReportOf file asked limits = λ its bytes report.
+    TellsInstrument asked.head.notes.language file
     (λ own. SaysTableReport asked limits its bytes (record { text = own; beyond = report.beyond }))
     report.text
 
@@ -29,6 +31,7 @@ SaysTableReportOf file asked limits = λ its bytes report. TellsInstrument file
 abbrev pub TellsReports : ReportHead → ResultLimits → FileAnswers
     → Result (List ℕ) StationRefusal → Type 0
 TellsReports head limits file (Ok text) =
-    TellsInstrument file (StatesAll (SaysReport head limits) limits Pages file) text
+    TellsInstrument head.notes.language file (StatesAll (SaysReport head limits) limits Pages file)
+    text
 TellsReports head limits file (Err refused) =
     IsRefusedOfAll (SaysReport head limits) limits file refused

@@ -47,7 +47,7 @@ pub fn report_of<R: Source>(
     let asked = Report { head };
     let (answer, reading) = answer_of(alloc, reading, name, limits, &asked);
     let (gsi, kept) = reading.into_parts();
-    (answer_with(alloc, answer, kept), gsi)
+    (answer_with(alloc, head.language(), answer, kept), gsi)
 }
 
 /// Writes that report, and flushes once.

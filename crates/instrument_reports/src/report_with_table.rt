@@ -18,6 +18,7 @@ ghost use Rattle.table_report.specs.Values.{asked_of, value_of};
 use crate::telling::text_with;
 use byte_ends::{Sink, Source};
 use instrument_words::Rereading;
+use report_phrases::Language;
 use station_book::ResultLimits;
 use station_compare::{CompareFault, Refusal};
 use std::alloc::Global;
@@ -50,19 +51,20 @@ pub fn table_report_of<R: Source, Q: Source>(
     let reading = Rereading::new(alloc, gsi);
     let (answer, reading) = table_answer_of(alloc, reading, table, name, limits, asked);
     let (gsi, kept) = reading.into_parts();
-    (noted_with(alloc, answer, kept), gsi)
+    (noted_with(alloc, asked.head.language(), answer, kept), gsi)
 }
 
-/// The answer of a report with a table, with what these bytes of its field file recorded.
+/// The answer of a report with a table in a language, with what these bytes of its field file recorded.
 fn noted_with(
     alloc: Global,
+    language: Language,
     answer: Result<Noted<TableReport>, Refusal>,
     kept: Option<Vec<u8>>,
 ) -> Result<Noted<TableReport>, Refusal>
-    ensures { IsNotedWith (option_map (λ bytes. bytes.items) kept) answer result }
+    ensures { IsNotedWith language (option_map (λ bytes. bytes.items) kept) answer result }
 {
     let noted = answer?;
-    let text = text_with(alloc, &noted.answer.text, &kept)?;
+    let text = text_with(alloc, language, &noted.answer.text, &kept)?;
     let beyond = noted.answer.beyond;
     Ok(Noted {
         answer: TableReport { text, beyond },

@@ -19,6 +19,7 @@ use crate::telling::text_with;
 use book_answers::{Arrangement, StationRefusal, answer_of_all, refusal_text};
 use byte_ends::{Sink, Source};
 use instrument_words::Rereading;
+use report_phrases::Language;
 use station_answers::Report;
 use station_book::ResultLimits;
 use station_check::{ACCEPTED, refuse_by, write_whole};
@@ -40,7 +41,7 @@ pub fn reports_of<R: Source>(
     ensures { ReadsFieldFile (reader_change R.told R.failed R.gave gsi result.1)
         (fault_of result.0)
         (λ file. MatchResult result.0
-        (λ text. TellsInstrument file
+        (λ text. TellsInstrument (head_of head.entry).notes.language file
         (StatesAll (SaysReport (head_of head.entry) limits) limits Pages file) text.items)
         (IsRefusedOfAll (SaysReport (head_of head.entry) limits) limits file)) }
 {
@@ -48,20 +49,21 @@ pub fn reports_of<R: Source>(
     let asked = Report { head };
     let (answer, reading) = answer_of_all(alloc, reading, limits, &asked, Arrangement::Pages);
     let (gsi, kept) = reading.into_parts();
-    (answers_with(alloc, answer, kept), gsi)
+    (answers_with(alloc, head.language(), answer, kept), gsi)
 }
 
-/// The answer of reports with what these bytes recorded.
+/// The answer of reports in a language with what these bytes recorded.
 fn answers_with(
     alloc: Global,
+    language: Language,
     answer: Result<Vec<u8>, StationRefusal>,
     kept: Option<Vec<u8>>,
 ) -> Result<Vec<u8>, StationRefusal>
-    ensures { IsAnswerWith (λ text. text.items) (of_no_one Memory)
+    ensures { IsAnswerWith language (λ text. text.items) (of_no_one Memory)
         (option_map (λ bytes. bytes.items) kept) answer result }
 {
     let text = answer?;
-    Ok(text_with(alloc, &text, &kept)?)
+    Ok(text_with(alloc, language, &text, &kept)?)
 }
 
 /// Writes those reports, and flushes once.

@@ -6,36 +6,40 @@ ghost use Rattle.station_compare.specs.Refusals.{unhinted};
 ghost use Rattle.station_compare.specs.declared.fault.CompareFault.TheVariants.{Memory};
 
 use instrument_words::with_instrument;
+use report_phrases::Language;
 use station_compare::{CompareFault, Refusal};
 use std::alloc::Global;
 
-/// The text of a report with what these bytes recorded.
+/// The text of a report in a language with what these bytes recorded.
 ///
 /// The only error is that memory was refused, here or for the bytes.
 pub(crate) fn text_with(
     alloc: Global,
+    language: Language,
     text: &[u8],
     kept: &Option<Vec<u8>>,
 ) -> Result<Vec<u8>, CompareFault>
     ensures { MatchResult result
-        (λ whole. IsWith (option_map (λ bytes. bytes.items) kept.now) text.now whole.items)
+        (λ whole. IsWith language (option_map (λ bytes. bytes.items) kept.now) text.now
+        whole.items)
         (λ fault. fault ≡ Memory) }
 {
     let Some(bytes) = kept else {
         return Err(CompareFault::Memory);
     };
-    Ok(with_instrument(alloc, text, bytes)?)
+    Ok(with_instrument(alloc, language, text, bytes)?)
 }
 
-/// The answer of a report with what these bytes recorded.
+/// The answer of a report in a language with what these bytes recorded.
 pub(crate) fn answer_with(
     alloc: Global,
+    language: Language,
     answer: Result<Vec<u8>, Refusal>,
     kept: Option<Vec<u8>>,
 ) -> Result<Vec<u8>, Refusal>
-    ensures { IsAnswerWith (λ text. text.items) (unhinted Memory)
+    ensures { IsAnswerWith language (λ text. text.items) (unhinted Memory)
         (option_map (λ bytes. bytes.items) kept) answer result }
 {
     let text = answer?;
-    Ok(text_with(alloc, &text, &kept)?)
+    Ok(text_with(alloc, language, &text, &kept)?)
 }

@@ -6,6 +6,7 @@ use Rattle.instrument_words.specs.Instrument.{AreBlocksOf, instrument_of}
 use Rattle.instrument_words.specs.Texts.{instrument_text}
 use Rattle.instrument_words.specs.declared.below.TheConstants as byte
 use Rattle.instrument_words.specs.declared.below.TheConstants.{LINES_ABOVE}
+use Rattle.report_phrases.specs.declared.language.Language.{Language}
 
 -- what ends a line
 abbrev pub LINE_FEED : ℕ
@@ -25,11 +26,12 @@ put_on_pages above lines (b ∷ text) =
     ++ put_on_pages (lines_above above b) lines text)
 
 -- A text of which this is so, and on each page, below the third line, which names the field file,
--- what the file recorded of instrument and time.
-pub record TellsInstrument (file : FileAnswers) (IsOwn : List ℕ → Type 0) (text : List ℕ)
-    : Type 0 where
+-- what the file recorded of instrument and time, in a language.
+pub record TellsInstrument (language : Language) (file : FileAnswers) (IsOwn : List ℕ → Type 0)
+    (text : List ℕ) : Type 0 where
   pub own : List ℕ
   pub is_own : IsOwn own
   pub blocks : List GsiBlock
   pub of_file : AreBlocksOf file blocks
-  pub text_is : text ≡ put_on_pages LINES_ABOVE (instrument_text (instrument_of blocks)) own
+  pub text_is : text
+      ≡ put_on_pages LINES_ABOVE (instrument_text language (instrument_of blocks)) own

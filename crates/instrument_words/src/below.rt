@@ -10,6 +10,7 @@ ghost use Rattle.instrument_words.specs.Texts.{instrument_text};
 
 use crate::instrument::instrument_in;
 use crate::lines::push_instrument;
+use report_phrases::Language;
 use std::alloc::{AllocError, Global};
 
 /// The lines of a report down to that of its field file: that of the program, an empty one, and
@@ -58,18 +59,24 @@ fn push_pages(whole: &mut Vec<u8>, text: &[u8], lines: &[u8]) -> Result<(), Allo
     Ok(())
 }
 
-/// The text of reports of a field file of these bytes, with what the file recorded of instrument
-/// and time on each page, below the line that names it.
+/// The text of reports in a language of a field file of these bytes, with what the file recorded of
+/// instrument and time on each page, below the line that names it.
 ///
 /// The only error is that memory was refused.
-pub fn with_instrument(alloc: Global, text: &[u8], bytes: &[u8]) -> Result<Vec<u8>, AllocError>
+pub fn with_instrument(
+    alloc: Global,
+    language: Language,
+    text: &[u8],
+    bytes: &[u8],
+) -> Result<Vec<u8>, AllocError>
     ensures { IfOk result (λ whole. (blocks : List GsiBlock)
         → AreBlocksOf (file_answers (record { bytes = bytes.now; fails = false })) blocks
         → whole.items
-        ≡ spec.put_on_pages LINES_ABOVE (instrument_text (instrument_of blocks)) text.now) }
+        ≡ spec.put_on_pages LINES_ABOVE (instrument_text language (instrument_of blocks))
+        text.now) }
 {
     let mut lines = Vec::new(alloc);
-    push_instrument(&mut lines, &instrument_in(bytes))?;
+    push_instrument(&mut lines, language, &instrument_in(bytes))?;
     let mut whole = Vec::new(alloc);
     push_pages(&mut whole, text, &lines)?;
     Ok(whole)

@@ -11,6 +11,13 @@ use Rattle.report_phrases.specs.declared.phrase.Phrase.TheVariants as phrase
 abbrev pub english : Phrase → List ℕ
 english phrase.Title = codes ": report of the sets of a station\n\n"
 english phrase.FieldFile = codes "Field file"
+english phrase.SerialNumber = codes "  12 serial number    "
+english phrase.InstrumentType = codes "  13 instrument type  "
+english phrase.RecordedDate = codes "  17 date             "
+english phrase.TimeFormatOne = codes "  18 time format 1    "
+english phrase.TimeFormatTwo = codes "  19 time format 2    "
+english phrase.AndOthers = codes " and others"
+english phrase.ToLast = codes " to "
 english phrase.Station = codes "Station"
 english phrase.Date = codes "Date"
 english phrase.Sets = codes "Sets"
@@ -64,8 +71,15 @@ english phrase.Digests = codes "\nSHA-256 digests of what was read, as sha256sum
 
 -- the phrase in German
 abbrev pub german : Phrase → List ℕ
-german phrase.Title = utf8 (codes ": Protokoll der Sätze einer Station\n\n")
+german phrase.Title = codes ": Satzmessprotokoll einer Station\n\n"
 german phrase.FieldFile = codes "Messdatei"
+german phrase.SerialNumber = codes "  12 Seriennummer     "
+german phrase.InstrumentType = codes "  13 Instrumententyp  "
+german phrase.RecordedDate = codes "  17 Datum            "
+german phrase.TimeFormatOne = codes "  18 Zeitformat 1     "
+german phrase.TimeFormatTwo = codes "  19 Zeitformat 2     "
+german phrase.AndOthers = codes " und andere"
+german phrase.ToLast = codes " bis "
 german phrase.Station = codes "Station"
 german phrase.Date = codes "Datum"
 german phrase.Sets = utf8 (codes "Sätze")
@@ -77,7 +91,7 @@ german phrase.LimitOfTwoC = codes "Grenzwert 2c"
 german phrase.LimitOfTwoI = codes "Grenzwert 2i"
 german phrase.LimitOfResiduals = codes "Verbesserungsgrenze"
 german phrase.Readings =
-    codes "\nAblesungen in gon, Mittel beider Lagen auf die erste Zeile des Satzes bezogen,\n"
+    codes "\nAblesungen in gon, Mittel beider Lagen auf erstes Ziel des Satzes reduziert,\n"
     ++ codes "2c und 2i in mgon\n\n"
 german phrase.ReadingColumns =
     codes " Satz  Ziel                 Lage I    Lage II       Mittel        2c        2i\n"
@@ -91,7 +105,7 @@ german phrase.ZenithMeans =
 german phrase.ZenithMeanColumns =
     utf8 (codes "  Ziel             Sätze       Mittel  Standardabweichung\n\n")
 german phrase.Directions =
-    codes "\nAusgeglichene Richtungen in gon, kleinste Quadrate, erstes Ziel bei null\n\n"
+    codes "\nAusgeglichene Richtungen in gon, kleinste Quadrate, auf erstes Ziel reduziert\n\n"
 german phrase.DirectionColumns = codes "  Ziel                 Richtung\n\n"
 german phrase.Residuals =
     codes "\nVerbesserungen in mgon: ausgeglichene Richtung minus Richtungsmittel\n"
@@ -103,9 +117,9 @@ german phrase.DegreesOfFreedom = codes "Freiheitsgrade"
 german phrase.NothingToCompare = codes "0: kein Winkel zweimal gemessen, nichts zu vergleichen"
 german phrase.SumOfSquares = codes "Quadratsumme [vv]"
 german phrase.StandardDeviation = codes "Standardabweichung"
-german phrase.OfOneDirection = codes " mgon, eines Richtungsmittels"
+german phrase.OfOneDirection = codes " mgon, einer in zwei Lagen beobachteten Richtung"
 german phrase.OfEachAdjusted = codes " mgon, jeder ausgeglichenen Richtung"
-german phrase.NotOfAdjusted = codes "ausgeglichener Richtungen: keine, da Ziele fehlen"
+german phrase.NotOfAdjusted = utf8 (codes "entfällt für ausgeglichene Richtungen: Ziele fehlen")
 german phrase.PlaceAndDate = codes "Ort, Datum"
 german phrase.Signature = codes "Unterschrift"
 german phrase.StatedDirections =
@@ -114,15 +128,22 @@ german phrase.StatedDirections =
 german phrase.StatedColumns =
     codes "  Ziel                       Tabelle    Abweichung         Vom Median\n\n"
 german phrase.Table = codes "Tabelle"
-german phrase.LimitOfDifferences = codes "Abweichungsgrenze"
+german phrase.LimitOfDifferences = utf8 (codes "Zulässige Abweichung")
 german phrase.Comparison = codes "Vergleich"
 german phrase.Digests =
     utf8 (codes "\nSHA-256-Prüfsummen des Gelesenen, wie sha256sum sie ausgibt\n\n")
 
 -- the phrase in French
 abbrev pub french : Phrase → List ℕ
-french phrase.Title = utf8 (codes " : procès-verbal des séries d'une station\n\n")
+french phrase.Title = utf8 (codes " : procès-verbal de mesures en séries d'une station\n\n")
 french phrase.FieldFile = codes "Fichier de terrain"
+french phrase.SerialNumber = utf8 (codes "  12 n° de série      ")
+french phrase.InstrumentType = codes "  13 type instrument  "
+french phrase.RecordedDate = codes "  17 date             "
+french phrase.TimeFormatOne = codes "  18 format d'heure 1 "
+french phrase.TimeFormatTwo = codes "  19 format d'heure 2 "
+french phrase.AndOthers = codes " et d'autres"
+french phrase.ToLast = utf8 (codes " à ")
 french phrase.Station = codes "Station"
 french phrase.Date = codes "Date"
 french phrase.Sets = utf8 (codes "Séries")
@@ -134,14 +155,14 @@ french phrase.LimitOfTwoC = codes "Limite de 2c"
 french phrase.LimitOfTwoI = codes "Limite de 2i"
 french phrase.LimitOfResiduals = utf8 (codes "Limite des résidus")
 french phrase.Readings =
-    utf8 (codes "\nLectures en gon, moyenne de CG et CD comptée de la première ligne de la série,\n")
+    utf8 (codes "\nLectures en gon, moyenne CG/CD réduite au premier point visé de la série,\n")
     ++ utf8 (codes "2c et 2i en mgon\n\n")
 french phrase.ReadingColumns =
     utf8 (codes "Série  Point visé               CG         CD      Moyenne        2c        2i\n")
 french phrase.Mean = codes "Moyenne"
 french phrase.HalfOfMean = codes "Demi-moyenne : erreurs de collimation et d'index"
 french phrase.Spread = codes "Amplitude : maximum moins minimum"
-french phrase.ZenithAngles = utf8 (codes "\nAngles zénithaux en gon, moyenne de CG et CD\n\n")
+french phrase.ZenithAngles = utf8 (codes "\nAngles zénithaux en gon, moyenne CG/CD\n\n")
 french phrase.ZenithColumns =
     utf8 (codes "Série  Point visé               CG         CD      Moyenne\n")
 french phrase.ZenithMeans =
@@ -159,7 +180,7 @@ french phrase.AndTarget = utf8 (codes ", point visé ")
 french phrase.GreatestResidual = utf8 (codes "Plus grand résidu")
 french phrase.DegreesOfFreedom = utf8 (codes "Degrés de liberté")
 french phrase.NothingToCompare = utf8 (codes "0 : aucun angle mesuré deux fois, rien à comparer")
-french phrase.SumOfSquares = codes "Somme [vv]"
+french phrase.SumOfSquares = utf8 (codes "Somme des carrés [vv]")
 french phrase.StandardDeviation = utf8 (codes "Écart-type")
 french phrase.OfOneDirection = codes " mgon, d'une direction moyenne CG/CD"
 french phrase.OfEachAdjusted = utf8 (codes " mgon, de chaque direction compensée")

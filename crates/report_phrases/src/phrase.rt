@@ -13,6 +13,28 @@ pub enum Phrase {
     /// The label of the path of the field file.
     FieldFile,
 
+    /// The label of the serial number that the field file recorded, in its column of 22 characters, as
+    /// those of the next four.
+    SerialNumber,
+
+    /// The label of the type of the instrument that it recorded.
+    InstrumentType,
+
+    /// The label of the date that it recorded.
+    RecordedDate,
+
+    /// The label of the first form of the time that it recorded.
+    TimeFormatOne,
+
+    /// The label of the second form of that time.
+    TimeFormatTwo,
+
+    /// What stands after the first of several contents that are not all alike.
+    AndOthers,
+
+    /// What stands between a first content and a last one.
+    ToLast,
+
     /// The label of the name of the station.
     Station,
 
@@ -157,6 +179,13 @@ fn english(phrase: Phrase) -> &'static str
     match phrase {
         Phrase::Title => ": report of the sets of a station\n\n",
         Phrase::FieldFile => "Field file",
+        Phrase::SerialNumber => "  12 serial number    ",
+        Phrase::InstrumentType => "  13 instrument type  ",
+        Phrase::RecordedDate => "  17 date             ",
+        Phrase::TimeFormatOne => "  18 time format 1    ",
+        Phrase::TimeFormatTwo => "  19 time format 2    ",
+        Phrase::AndOthers => " and others",
+        Phrase::ToLast => " to ",
         Phrase::Station => "Station",
         Phrase::Date => "Date",
         Phrase::Sets => "Sets",
@@ -223,8 +252,15 @@ fn german(phrase: Phrase) -> &'static str
     ensures { result.now ≡ spec.german phrase }
 {
     match phrase {
-        Phrase::Title => ": Protokoll der Sätze einer Station\n\n",
+        Phrase::Title => ": Satzmessprotokoll einer Station\n\n",
         Phrase::FieldFile => "Messdatei",
+        Phrase::SerialNumber => "  12 Seriennummer     ",
+        Phrase::InstrumentType => "  13 Instrumententyp  ",
+        Phrase::RecordedDate => "  17 Datum            ",
+        Phrase::TimeFormatOne => "  18 Zeitformat 1     ",
+        Phrase::TimeFormatTwo => "  19 Zeitformat 2     ",
+        Phrase::AndOthers => " und andere",
+        Phrase::ToLast => " bis ",
         Phrase::Station => "Station",
         Phrase::Date => "Datum",
         Phrase::Sets => "Sätze",
@@ -236,7 +272,7 @@ fn german(phrase: Phrase) -> &'static str
         Phrase::LimitOfTwoI => "Grenzwert 2i",
         Phrase::LimitOfResiduals => "Verbesserungsgrenze",
         Phrase::Readings => {
-            "\nAblesungen in gon, Mittel beider Lagen auf die erste Zeile des Satzes bezogen,\n\
+            "\nAblesungen in gon, Mittel beider Lagen auf erstes Ziel des Satzes reduziert,\n\
              2c und 2i in mgon\n\n"
         }
         Phrase::ReadingColumns => {
@@ -254,7 +290,7 @@ fn german(phrase: Phrase) -> &'static str
             "  Ziel             Sätze       Mittel  Standardabweichung\n\n"
         }
         Phrase::Directions => {
-            "\nAusgeglichene Richtungen in gon, kleinste Quadrate, erstes Ziel bei null\n\n"
+            "\nAusgeglichene Richtungen in gon, kleinste Quadrate, auf erstes Ziel reduziert\n\n"
         }
         Phrase::DirectionColumns => "  Ziel                 Richtung\n\n",
         Phrase::Residuals => {
@@ -268,9 +304,9 @@ fn german(phrase: Phrase) -> &'static str
         Phrase::NothingToCompare => "0: kein Winkel zweimal gemessen, nichts zu vergleichen",
         Phrase::SumOfSquares => "Quadratsumme [vv]",
         Phrase::StandardDeviation => "Standardabweichung",
-        Phrase::OfOneDirection => " mgon, eines Richtungsmittels",
+        Phrase::OfOneDirection => " mgon, einer in zwei Lagen beobachteten Richtung",
         Phrase::OfEachAdjusted => " mgon, jeder ausgeglichenen Richtung",
-        Phrase::NotOfAdjusted => "ausgeglichener Richtungen: keine, da Ziele fehlen",
+        Phrase::NotOfAdjusted => "entfällt für ausgeglichene Richtungen: Ziele fehlen",
         Phrase::PlaceAndDate => "Ort, Datum",
         Phrase::Signature => "Unterschrift",
         Phrase::StatedDirections => {
@@ -281,7 +317,7 @@ fn german(phrase: Phrase) -> &'static str
             "  Ziel                       Tabelle    Abweichung         Vom Median\n\n"
         }
         Phrase::Table => "Tabelle",
-        Phrase::LimitOfDifferences => "Abweichungsgrenze",
+        Phrase::LimitOfDifferences => "Zulässige Abweichung",
         Phrase::Comparison => "Vergleich",
         Phrase::Digests => "\nSHA-256-Prüfsummen des Gelesenen, wie sha256sum sie ausgibt\n\n",
     }
@@ -293,8 +329,15 @@ fn french(phrase: Phrase) -> &'static str
     ensures { result.now ≡ spec.french phrase }
 {
     match phrase {
-        Phrase::Title => " : procès-verbal des séries d'une station\n\n",
+        Phrase::Title => " : procès-verbal de mesures en séries d'une station\n\n",
         Phrase::FieldFile => "Fichier de terrain",
+        Phrase::SerialNumber => "  12 n° de série      ",
+        Phrase::InstrumentType => "  13 type instrument  ",
+        Phrase::RecordedDate => "  17 date             ",
+        Phrase::TimeFormatOne => "  18 format d'heure 1 ",
+        Phrase::TimeFormatTwo => "  19 format d'heure 2 ",
+        Phrase::AndOthers => " et d'autres",
+        Phrase::ToLast => " à ",
         Phrase::Station => "Station",
         Phrase::Date => "Date",
         Phrase::Sets => "Séries",
@@ -306,7 +349,7 @@ fn french(phrase: Phrase) -> &'static str
         Phrase::LimitOfTwoI => "Limite de 2i",
         Phrase::LimitOfResiduals => "Limite des résidus",
         Phrase::Readings => {
-            "\nLectures en gon, moyenne de CG et CD comptée de la première ligne de la série,\n\
+            "\nLectures en gon, moyenne CG/CD réduite au premier point visé de la série,\n\
              2c et 2i en mgon\n\n"
         }
         Phrase::ReadingColumns => {
@@ -315,7 +358,7 @@ fn french(phrase: Phrase) -> &'static str
         Phrase::Mean => "Moyenne",
         Phrase::HalfOfMean => "Demi-moyenne : erreurs de collimation et d'index",
         Phrase::Spread => "Amplitude : maximum moins minimum",
-        Phrase::ZenithAngles => "\nAngles zénithaux en gon, moyenne de CG et CD\n\n",
+        Phrase::ZenithAngles => "\nAngles zénithaux en gon, moyenne CG/CD\n\n",
         Phrase::ZenithColumns => "Série  Point visé               CG         CD      Moyenne\n",
         Phrase::ZenithMeans => {
             "\nMoyenne des séries par point visé en gon, écart-type de la moyenne en mgon\n\n"
@@ -334,7 +377,7 @@ fn french(phrase: Phrase) -> &'static str
         Phrase::GreatestResidual => "Plus grand résidu",
         Phrase::DegreesOfFreedom => "Degrés de liberté",
         Phrase::NothingToCompare => "0 : aucun angle mesuré deux fois, rien à comparer",
-        Phrase::SumOfSquares => "Somme [vv]",
+        Phrase::SumOfSquares => "Somme des carrés [vv]",
         Phrase::StandardDeviation => "Écart-type",
         Phrase::OfOneDirection => " mgon, d'une direction moyenne CG/CD",
         Phrase::OfEachAdjusted => " mgon, de chaque direction compensée",

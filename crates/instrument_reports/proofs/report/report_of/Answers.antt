@@ -20,8 +20,8 @@ returns g c =
     let held = (kept told failed gave old new a.came.given c.new-reading.ensures.nothing
     a.came.by_reads).1 in
     rw (sym c.new-reading.ensures.reader, c.into_parts-gsi.ensures.reader)
-    (answered (SaysReport (head_of c.args.head) c.args.limits) c.args.limits c.args.name.now
-    (λ text. text.items) _ answer c.answer_with.result _ tells
+    (answered (head_of c.args.head).notes.language (SaysReport (head_of c.args.head) c.args.limits)
+    c.args.limits c.args.name.now (λ text. text.items) _ answer c.answer_with.result _ tells
     (subst (λ (b : Option (List ℕ)). IfSome b (λ bytes. a.came.given ≡ bytes))
     (sym c.into_parts-gsi.ensures.kept) held)
-    c.answer_with.ensures)
+    (rw c.language.ensures at c.answer_with.ensures))

@@ -22,4 +22,4 @@ returns g c =
     (all_answered (λ text. text.items) (head_of c.args.head) c.args.limits _ answer c.answers_with.result _ tells
     (subst (λ (b : Option (List ℕ)). IfSome b (λ bytes. a.came.given ≡ bytes))
     (sym c.into_parts-gsi.ensures.kept) held)
-    c.answers_with.ensures)
+    (rw c.language.ensures at c.answers_with.ensures))
