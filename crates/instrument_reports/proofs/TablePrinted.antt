@@ -4,7 +4,7 @@ use Rattle.std.specs.Prelude.{MatchResult}
 use Rattle.byte_ends.specs.Sink.{WriterChange}
 use Rattle.byte_ends.specs.Source.{ReaderChange}
 use Rattle.instrument_reports.specs.Answers.{SaysTableReportOf}
-use Rattle.instrument_reports.specs.Printing.{IsNotedAsPrinted}
+use Rattle.instrument_reports.specs.Printing.{IsNotedMade, as_printed}
 use Rattle.instrument_reports.specs.Runs.{IsTableReportRun}
 use Rattle.station_book.specs.declared.result_limits.ResultLimits.{ResultLimits}
 use Rattle.station_compare.specs.Hints.{IsHinted}
@@ -29,7 +29,7 @@ pub table_printed : {A : Type 0} (asked : ReportAsked) (limits : ResultLimits)
     (λ noted. StatesBeside (Noting (SaysTableReportOf file asked limits) asked.form) limits file
     stated name (value_of noted.answer, noted.note.items))
     (HasNoAnswer asked.form limits file stated name) × IsHinted limits file name answer))
-    → IsNotedAsPrinted asked.head.notes answer all
+    → IsNotedMade (as_printed asked.head.notes) answer all
     → (r : Result A Refusal) (note : List ℕ) (out : WriterChange)
     → PrintsBeside (λ (n : Noted TableReport). PrintsReport (value_of n.answer)) all r out
     → MatchResult all (λ n. note ≡ n.note.items) (λ _. note ≡ [])

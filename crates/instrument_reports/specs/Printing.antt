@@ -17,11 +17,12 @@ abbrev pub as_printed : NotesValue → List ℕ → List ℕ
 as_printed notes text =
     if notes.pages then paged (said notes.language Station) text else text
 
--- The inside: a report with a table as it is printed, or why there is none.
-abbrev pub IsNotedAsPrinted : NotesValue → Result (Noted TableReport) Refusal
+-- A report with a table and its note, of which another text is made; or that there was no memory
+-- for it; and a refusal stays.
+abbrev pub IsNotedMade : (List ℕ → List ℕ) → Result (Noted TableReport) Refusal
     → Result (Noted TableReport) Refusal → Type 0
-IsNotedAsPrinted notes (Ok own) (Ok whole) =
-    (whole.answer.text.items ≡ as_printed notes own.answer.text.items)
+IsNotedMade make (Ok own) (Ok whole) =
+    (whole.answer.text.items ≡ make own.answer.text.items)
     × (whole.answer.beyond ≡ own.answer.beyond) × (whole.note.items ≡ own.note.items)
-IsNotedAsPrinted notes (Ok own) (Err refusal) = refusal ≡ unhinted Memory
-IsNotedAsPrinted notes (Err refusal) r = r ≡ Err refusal
+IsNotedMade make (Ok own) (Err refusal) = refusal ≡ unhinted Memory
+IsNotedMade make (Err refusal) r = r ≡ Err refusal

@@ -4,7 +4,8 @@ ghost use Rattle.std.specs.Prelude.{⊤, MatchResult, option_map};
 ghost use Rattle.byte_ends.specs.Source.{UntilDropped, reader_change};
 ghost use Rattle.byte_ends.specs.Writers.{writer_change};
 ghost use Rattle.instrument_reports.specs.Answers.{SaysTableReportOf};
-ghost use Rattle.instrument_reports.specs.Printing.{IsNotedAsPrinted};
+ghost use Rattle.instrument_reports.specs.Printing.{IsNotedMade};
+ghost use Rattle.instrument_reports.specs.Printing as spec;
 ghost use Rattle.instrument_reports.specs.Runs.{IsTableReportRun};
 ghost use Rattle.instrument_reports.specs.Telling.{IsNotedWith};
 ghost use Rattle.station_compare.specs.Hints.{IsHinted};
@@ -82,7 +83,7 @@ fn noted_as_printed(
     head: Head<'_, '_>,
     answer: Result<Noted<TableReport>, Refusal>,
 ) -> Result<Noted<TableReport>, Refusal>
-    ensures { IsNotedAsPrinted (head_of head.entry).notes answer result }
+    ensures { IsNotedMade (spec.as_printed (head_of head.entry).notes) answer result }
 {
     let noted = answer?;
     let beyond = noted.answer.beyond;

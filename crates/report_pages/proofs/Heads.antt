@@ -1,5 +1,5 @@
 -- The head among lines that are read.
-use Rattle.std.proofs.Common.{◌≡◌, ◌∙◌, ℕ, ◌+◌, Bool, true, false, List, [], ◌∷◌, ap, length, map}
+use Rattle.std.proofs.Common.{◌≡◌, ◌∙◌, ℕ, ◌+◌, Bool, true, false, List, [], ◌∷◌, ap, arith, length, map}
 use Rattle.std.proofs.Common.{nat_eq, nat_lt, refl, sym, take, Bor, Option, Some, None}
 use Rattle.std.proofs.lemmas.List.{take-map, take_min}
 use Rattle.std.specs.Prelude.{cond, min, not}
@@ -21,7 +21,7 @@ position-map p f xs =
     ap (λ (n : ℕ). cond (nat_lt n (length (map f xs))) (Some n) None)
     (prefix-map (λ y. not (p y)) f xs)
     ∙ ap (λ (m : ℕ). cond (nat_lt (position_or_len (λ x. p (f x)) xs) m)
-    (Some (position_or_len (λ x. p (f x)) xs)) None) (length-map f xs)
+    (Some (position_or_len (λ x. p (f x)) xs)) None) (length-map xs f)
 
 -- The head of lines, by the place that is found among the first of them.
 pub head_by : (label : List ℕ) (ls : List (Bor (List ℕ))) (found : Option ℕ)
@@ -34,8 +34,9 @@ head_by label ls found is =
     let begins = λ (line : List ℕ). starts_with nat_eq line label in
     let firsts : take LINES_OF_HEAD (map now ls) ≡ map now (take LINES_OF_HEAD ls) =
     take-map now LINES_OF_HEAD ls in
+    let swapped : min (length ls) LINES_OF_HEAD ≡ min LINES_OF_HEAD (length ls) = omega arith in
     let most : take (min (length ls) LINES_OF_HEAD) ls ≡ take LINES_OF_HEAD ls =
-    ap (λ (n : ℕ). take n ls) (min-comm (length ls) LINES_OF_HEAD) ∙ take_min LINES_OF_HEAD ls in
+    ap (λ (n : ℕ). take n ls) swapped ∙ take_min LINES_OF_HEAD ls in
     ap (λ (place : Option ℕ). down_to place (map now ls))
     (ap (position begins) firsts ∙ position-map begins now (take LINES_OF_HEAD ls)
     ∙ sym (is ∙ ap (position (λ (l : Bor (List ℕ)). begins l.now)) most))

@@ -1,52 +1,17 @@
 -- Laws of lines and pages.
 use Rattle.std.proofs.Common.{◌≡◌, ◌∙◌, ℕ, ◌≤◌, ◌<◌, ◌+◌, ◌-◌, Bool, true, false, List, [], ◌∷◌}
-use Rattle.std.proofs.Common.{◌++◌, absurd, ap, append_assoc, arith, drop, length, refl, rules, sym}
-use Rattle.std.proofs.Common.{map, nat_eq, nat_lt, slice_index_or, take, Bor, Option, Some, None}
-use Rattle.std.proofs.lemmas.Grind.{common_steps}
-use Rattle.std.proofs.lemmas.List.{append-nil, drop_more, length-append, length-drop, length-take}
+use Rattle.std.proofs.Common.{◌++◌, ap, append_assoc, arith, length, refl, sym}
+use Rattle.std.proofs.Common.{map, nat_eq, nat_lt, take, Bor, Option, Some, None}
+use Rattle.std.proofs.lemmas.List.{append-nil, length-append, length-take}
 use Rattle.std.proofs.lemmas.List.Elements.{All-nil, All-cons}
-use Rattle.std.specs.Prelude.{◌==◌, ◌&&◌, cond, if◌then◌else◌}
+use Rattle.std.specs.Prelude.{◌==◌, ◌&&◌, ◌||◌, cond, if◌then◌else◌}
 use Rattle.std.specs.List.{All, concat, flat_map, onto_first, position, starts_with}
 use Rattle.report_pages.specs.Lines.{lines, is_empty}
-use Rattle.report_pages.specs.Pages.{Pages, begins_page, down_to, head, left_after, on_pages}
-use Rattle.report_pages.specs.Pages.{repeated, text_of, with_line}
+use Rattle.report_pages.specs.Pages.{Pages, begins_page, begins_section, down_to, head, left_after, on_pages}
+use Rattle.report_pages.specs.Pages.{repeated, with_line}
+use Rattle.report_pages.specs.declared.pages.TheConstants.{LINES_OF_SECTION}
 use Rattle.report_pages.specs.declared.head.TheConstants.{LINES_OF_HEAD}
 use Rattle.report_pages.specs.declared.lines.TheConstants.{LINE_FEED}
-use lib.ListN.{length-map}
-
--- The text of pages with one line more before them.
-text_with : (start : List ℕ) (begins : Bool) (line : List ℕ) (pages : Pages)
-    → text_of start (with_line begins line pages)
-    ≡ ((if begins then start else []) ++ line) ++ text_of start pages
-text_with start true line pages =
-    append_assoc start (line ++ concat pages.first) _
-    ∙ ap (λ (t : List ℕ). start ++ t) (append_assoc line (concat pages.first) _)
-    ∙ sym (append_assoc start line _)
-text_with start false line pages = append_assoc line (concat pages.first) _
-
--- What is put of a line, and then the text of the lines after it, is the text from that line on.
-pub line_put : (start : List ℕ) (room left : ℕ) (after : Bool) (ls : List (Bor (List ℕ))) (i : ℕ)
-    (line : Bor (List ℕ)) → i < length ls → slice_index_or ls i line ≡ line → (begins : Bool)
-    → begins ≡ begins_page left after line.now (length ls - i)
-    → ((if begins then start else []) ++ line.now)
-    ++ text_of start (on_pages room (left_after begins room left) (is_empty line.now)
-    (map (λ (l : Bor (List ℕ)). l.now) (drop (i + 1) ls)))
-    ≡ text_of start (on_pages room left after (map (λ (l : Bor (List ℕ)). l.now) (drop i ls)))
-line_put start room left after ls i line inside at begins is =
-    let now = λ (l : Bor (List ℕ)). l.now in
-    let rest = map now (drop (i + 1) ls) in
-    let many : length (line.now ∷ rest) ≡ length ls - i =
-    omega (arith, length-map now (drop (i + 1) ls), length-drop (i + 1) ls, inside) in
-    let dropped : drop i ls ≡ line ∷ drop (i + 1) ls =
-    drop_more ls i line inside ∙ ap (λ (l : Bor (List ℕ)). l ∷ drop (i + 1) ls) at in
-    let same : begins ≡ begins_page left after line.now (length (line.now ∷ rest)) =
-    is ∙ ap (begins_page left after line.now) (sym many) in
-    sym (text_with start begins line.now
-    (on_pages room (left_after begins room left) (is_empty line.now) rest))
-    ∙ ap (λ (b : Bool). text_of start (with_line b line.now
-    (on_pages room (left_after b room left) (is_empty line.now) rest))) same
-    ∙ sym (ap (λ (r : List (Bor (List ℕ))). text_of start (on_pages room left after (map now r)))
-    dropped)
 
 -- The lines of all pages.
 abbrev pub all_lines : Pages → List (List ℕ)
@@ -89,15 +54,15 @@ concat-lines (byte ∷ text) =
 -- Where all lines to come have room, no page begins.
 none_begins : (left : ℕ) (after : Bool) (line : List ℕ) (n : ℕ) → n ≤ left → 1 ≤ left
     → begins_page left after line n ≡ false
-none_begins zero after line n h some = absurd (omega (arith, some))
-none_begins (suc k) after line n h some =
-    let less : nat_lt (suc k) n ≡ false = grind arith in
-    rw less (by_section _ _)
+none_begins left after line n h some =
+    let any_left : (left == 0) ≡ false = grind arith in
+    let room : nat_lt left n ≡ false = grind arith in
+    rw (any_left, room) (by_parts (begins_section after line) (nat_lt left LINES_OF_SECTION))
   where
-    by_section : (s t : Bool) → (s && (t && false)) ≡ false
-    by_section true true = refl
-    by_section true false = refl
-    by_section false t = refl
+    by_parts : (s t : Bool) → (false || (s && (t && false))) ≡ false
+    by_parts true true = refl
+    by_parts true false = refl
+    by_parts false t = refl
 
 -- Lines that have room stand on the one page.
 pub one_page : (room left : ℕ) (after : Bool) (ls : List (List ℕ)) → length ls ≤ left
@@ -113,8 +78,11 @@ one_page room left after (line ∷ more) h =
 -- A page begins where no line is left.
 some_left : (left : ℕ) (after : Bool) (line : List ℕ) (n : ℕ)
     → begins_page left after line n ≡ false → 1 ≤ left
-some_left zero after line n e = search (rules, e)
-some_left (suc k) after line n e = omega arith
+some_left left after line n = by_none (left == 0) _ refl
+  where
+    by_none : (none t : Bool) → (left == 0) ≡ none → (none || t) ≡ false → 1 ≤ left
+    by_none true t is e = absurd (omega (arith, ap (λ (b : Bool). if b then 1 else 0) e))
+    by_none false t is e = grind arith
 
 -- A page that has begun keeps to the lines that are left on it, with one line more.
 first_with : (begins : Bool) (room left : ℕ) (line : List ℕ) (pages : Pages)
@@ -173,3 +141,17 @@ head_few label ls =
 pub repeated_few : (hs : List (List ℕ)) → length (repeated hs) ≤ length hs + 1
 repeated_few [] = omega arith
 repeated_few (line ∷ more) = omega (arith, length-append (line ∷ more) ((LINE_FEED ∷ []) ∷ []))
+
+-- Lines with one more after them.
+concat-snoc : (hs : List (List ℕ)) (x : List ℕ) → concat (hs ++ (x ∷ [])) ≡ concat hs ++ x
+concat-snoc [] x = append-nil x
+concat-snoc (line ∷ more) x =
+    ap (λ (t : List ℕ). line ++ t) (concat-snoc more x) ∙ sym (append_assoc line (concat more) x)
+
+-- The text that repeats a head: its lines, and a line feed.
+pub repeated_text : (hs : List (Bor (List ℕ))) → 0 < length hs
+    → concat (repeated (map (λ (l : Bor (List ℕ)). l.now) hs))
+    ≡ concat (map (λ (l : Bor (List ℕ)). l.now) hs) ++ (LINE_FEED ∷ [])
+repeated_text [] some = absurd (omega (arith, some))
+repeated_text (line ∷ more) some =
+    concat-snoc (map (λ (l : Bor (List ℕ)). l.now) (line ∷ more)) (LINE_FEED ∷ [])

@@ -3,9 +3,7 @@ use Rattle.std.proofs.Common.{◌≡◌, ◌++◌, ℕ, List, Result, Ok, Err, r
 use Rattle.std.specs.Prelude.{MatchResult}
 use Rattle.byte_ends.specs.Sink.{WriterChange}
 use Rattle.byte_ends.specs.Source.{ReaderChange}
-use Rattle.csv.specs.Writing.{row_text}
 use Rattle.report_rows.specs.Stating.{AreReportRows}
-use Rattle.row_forms.specs.Forms.{writer_of}
 use Rattle.row_forms.specs.declared.form.RowForm.{RowForm}
 use Rattle.sha2.specs.Sha256.{sha256}
 use Rattle.station_answers.specs.Answers.{HasNone, StatesOf}
@@ -16,24 +14,9 @@ use Rattle.station_compare.specs.Refusals.{by_fault, unhinted}
 use Rattle.station_compare.specs.Runs.{ReadsFieldFile}
 use Rattle.station_compare.specs.declared.fault.CompareFault.TheVariants.{Memory, Write}
 use Rattle.station_compare.specs.declared.refusal.Refusal.{Refusal}
-use Rattle.station_record.specs.AddedRow.{GetsRow}
-use Rattle.station_record.specs.Rows.{AreRecordedRows, file_row, recorded_rows_text}
-
--- What is printed of a text is so of any that has the same bytes.
-printed_alike : {T A : Type 0} (items : T → List ℕ) (text : T) (bytes : List ℕ)
-    → items text ≡ bytes → (r : Result A Refusal) (out : WriterChange)
-    → PrintsAnswer items (unhinted Write) (Ok text) r out
-    → PrintsAnswer (λ (b : List ℕ). b) (unhinted Write) (Ok bytes) r out
-printed_alike items text bytes same (Ok x) out p = rw same at p
-printed_alike items text bytes same (Err fault) out p = rw same at p
-
--- So it is where the same bytes are made of others.
-printed_of : {A : Type 0} (print : List ℕ → List ℕ) (of bytes : List ℕ) → bytes ≡ print of
-    → (r : Result A Refusal) (out : WriterChange)
-    → PrintsAnswer (λ (b : List ℕ). b) (unhinted Write) (Ok bytes) r out
-    → PrintsAnswer print (unhinted Write) (Ok of) r out
-printed_of print of bytes same (Ok x) out p = rw same at p
-printed_of print of bytes same (Err fault) out p = rw same at p
+use Rattle.station_record.proofs.Printed.{printed_alike, printed_of}
+use Rattle.station_record.specs.Made.{IsMadeOf}
+use Rattle.station_record.specs.Rows.{AreRecordedRows, recorded_rows_text}
 
 -- What was printed of rows with a digest, where it is that of the bytes that the promise speaks of.
 pub recorded_rows : {T A : Type 0} (items : T → List ℕ) (form : RowForm) (path : List ℕ)
@@ -42,7 +25,7 @@ pub recorded_rows : {T A : Type 0} (items : T → List ℕ) (form : RowForm) (pa
     (λ text. StatesOf (AreReportRows form) limits file station (items text))
     (HasNone limits file station) × IsHinted limits file station answer)) (d : List ℕ)
     → d ≡ sha256 a.came.given
-    → GetsRow items (row_text (writer_of form) (file_row path d)) answer all
+    → IsMadeOf items (λ rows. recorded_rows_text form rows path d) answer all
     → (r : Result A Refusal) (out : WriterChange)
     → PrintsAnswer items (unhinted Write) all r out
     → AreRecordedRows form path limits gsi station r out

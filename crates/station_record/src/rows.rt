@@ -8,22 +8,21 @@ ghost use Rattle.hex.specs.Hex.{encode_lower};
 ghost use Rattle.row_forms.specs.Forms.{writer_of};
 ghost use Rattle.row_forms.specs.Writing.{Writes};
 ghost use Rattle.row_forms.specs.declared.form.RowForm.{RowForm as Form};
-ghost use Rattle.station_check.specs.RunEndings.{PrintsAnswer, Run};
-ghost use Rattle.station_compare.specs.Refusals.{refusal_text, unhinted};
-ghost use Rattle.station_compare.specs.declared.fault.CompareFault.TheVariants.{Write};
-ghost use Rattle.station_record.specs.AddedRow.{GetsRow};
+ghost use Rattle.station_check.specs.RunEndings.{Run};
+ghost use Rattle.station_compare.specs.Refusals.{refusal_text};
+ghost use Rattle.station_record.specs.Made.{IsMadeOf};
 ghost use Rattle.station_record.specs.Rows.{AreRecordedRows};
 ghost use Rattle.station_record.specs.Rows as spec;
 
 use crate::compare::report;
 use crate::named::NamedReader;
+use crate::texts::print_text;
 use byte_digests::Digesting;
 use byte_ends::{Sink, Source};
 use csv::Writer;
 use row_forms::{RowForm, rows_in, write_row};
 use station_answers::{ReportRows, answer_of};
 use station_book::ResultLimits;
-use station_check::write_whole;
 use station_compare::{CompareFault, Refusal};
 use std::alloc::{AllocError, Global};
 use std::io::Write;
@@ -53,7 +52,7 @@ pub fn run_rows_recorded<R: Source, W: Sink, E: Sink>(
     let (answer, digested) = answer_of(alloc, digested, station, limits, &asked);
     let digest = digested.digest();
     let recorded = with_file_row(alloc, answer, form, gsi.name, &digest);
-    let printed = print_rows(recorded, out);
+    let printed = print_text(recorded, out);
     report(printed, err)
 }
 
@@ -65,8 +64,8 @@ fn with_file_row(
     path: &[u8],
     digest: &[u8; 32],
 ) -> Result<Vec<u8>, Refusal>
-    ensures { GetsRow (λ text. text.items)
-        (row_text (writer_of form) (spec.file_row path.now digest.now)) answer result }
+    ensures { IsMadeOf (λ text. text.items)
+        (λ rows. spec.recorded_rows_text form rows path.now digest.now) answer result }
 {
     let mut rows = answer?;
     match push_file_row(alloc, &mut rows, form, path, digest) {
@@ -144,14 +143,4 @@ fn write_file_row<W: Write + Drop>(
             none,
         ],
     )
-}
-
-/// Prints rows, and passes on a refusal.
-fn print_rows<W: Sink>(recorded: Result<Vec<u8>, Refusal>, out: &mut W) -> Result<(), Refusal>
-    ensures { PrintsAnswer (λ text. text.items) (unhinted Write) recorded result
-        (writer_change W.Sink out.old out.new) }
-{
-    let text = recorded?;
-    write_whole(out, &text)?;
-    Ok(())
 }

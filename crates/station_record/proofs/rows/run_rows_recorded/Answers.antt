@@ -15,8 +15,8 @@ returns g c =
     let gsi' = c.answer_of-answer.result.1 in
     let answer = c.answer_of-answer.result.0 in
     let a = c.answer_of-answer.ensures in
-    let out = writer_change g.W.Sink c.args.out.now c.print_rows-printed.new.out in
-    let printed = c.print_rows-printed.result in
+    let out = writer_change g.W.Sink c.args.out.now c.print_text-printed.new.out in
+    let printed = c.print_text-printed.result in
     let tells = field_file_of g.R.Source.told g.R.Source.failed g.R.Source.gave gsi gsi'
     (by_fault answer) _ c.new-digested.ensures.nothing a in
     let held = (digested g.R.Source.told g.R.Source.failed g.R.Source.gave gsi gsi'
@@ -24,7 +24,7 @@ returns g c =
     let run = recorded_rows (λ text. text.items) c.args.form c.args.gsi.name.now c.args.limits _
     c.args.station.now answer c.with_file_row-recorded.result tells c.digest-digest.result
     (c.digest-digest.ensures a.came.given held) c.with_file_row-recorded.ensures printed out
-    c.print_rows-printed.ensures in
+    c.print_text-printed.ensures in
     let of_gsi = subst (λ (r : _). AreRecordedRows c.args.form c.args.gsi.name.now c.args.limits
     (reader_change g.R.Source.told g.R.Source.failed g.R.Source.gave r (reader_of gsi'))
     c.args.station.now printed out) c.new-digested.ensures.reader run in (
