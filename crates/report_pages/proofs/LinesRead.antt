@@ -77,8 +77,8 @@ lines_split {s = s} g {f} text rest closure tests =
     (λ t. ComputesKey g ends (split_inclusive_callee t))
     (λ t u h k. ap (λ (xs : List ℕ). length (lines xs)) (nil_from_length _ k.0))
     (λ t x u h k. (
-      (k.1.0.1.1 ends h).0,
-      first_line _ x.now _ k.1.0.0 k.0 k.1.0.1.0 k.1.1 (k.1.0.1.1 ends h).1,
+      (k.1.2 ends h).0,
+      first_line _ x.now _ k.1.0 k.0 k.1.1 k.2 (k.1.2 ends h).1,
     ))
     s (subst (ComputesKey g ends) (sym closure) (always_returns_same g
     (λ a r. r ≡ ends a.0.now) f (λ a r q k.

@@ -81,7 +81,7 @@ some_left : (left : ℕ) (after : Bool) (line : List ℕ) (n : ℕ)
 some_left left after line n = by_none (left == 0) _ refl
   where
     by_none : (none t : Bool) → (left == 0) ≡ none → (none || t) ≡ false → 1 ≤ left
-    by_none true t is e = absurd (omega (arith, ap (λ (b : Bool). if b then 1 else 0) e))
+    by_none true t is e = absurd (omega (arith, ap {B = ℕ} (λ (b : Bool). if b then 1 else 0) e))
     by_none false t is e = grind arith
 
 -- A page that has begun keeps to the lines that are left on it, with one line more.

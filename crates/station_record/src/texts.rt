@@ -4,6 +4,8 @@ ghost use Rattle.std.specs.Prelude.{◌≡◌, ◌++◌, OnOk, MatchResult};
 ghost use Rattle.byte_digests.specs.DigestLines.{digest_line};
 ghost use Rattle.byte_ends.specs.Writers.{writer_change};
 ghost use Rattle.instrument_reports.specs.Printing as spec;
+ghost use Rattle.report_phrases.specs.Phrases.{said};
+ghost use Rattle.report_phrases.specs.declared.phrase.Phrase.TheVariants.{Digests};
 ghost use Rattle.station_check.specs.RunEndings.{PrintsAnswer};
 ghost use Rattle.station_compare.specs.Refusals.{unhinted};
 ghost use Rattle.station_compare.specs.declared.fault.CompareFault.TheVariants.{Memory, Write};
@@ -40,6 +42,22 @@ fn push_digest_line(
     Ok(())
 }
 
+/// Adds what stands after a report with this head: the title of digests, and the line of that of
+/// its field file.
+fn push_digest(
+    alloc: Global,
+    text: &mut Vec<u8>,
+    gsi: &[u8; 32],
+    head: Head<'_, '_>,
+) -> Result<(), AllocError>
+    ensures { OnOk result (text.new.items ≡ text.old.items
+        ++ (said (head_of head.entry).notes.language Digests
+        ++ digest_line gsi.now head.entry.path.now)) }
+{
+    text.extend_from_slice(Phrase::Digests.said(head.language()))?;
+    push_digest_line(alloc, text, gsi, head.path)
+}
+
 /// The text of a report with this head as it is printed, with the digest of its field file.
 ///
 /// The only error is that memory was refused.
@@ -55,8 +73,7 @@ pub(crate) fn with_digest(
         (λ fault. fault ≡ Memory) }
 {
     let mut recorded = text;
-    recorded.extend_from_slice(Phrase::Digests.said(head.language()))?;
-    push_digest_line(alloc, &mut recorded, gsi, head.path)?;
+    push_digest(alloc, &mut recorded, gsi, head)?;
     as_printed(alloc, head, recorded)
 }
 
@@ -78,8 +95,7 @@ pub(crate) fn with_digests(
 {
     let head = asked.head;
     let mut recorded = text;
-    recorded.extend_from_slice(Phrase::Digests.said(head.language()))?;
-    push_digest_line(alloc, &mut recorded, gsi, head.path)?;
+    push_digest(alloc, &mut recorded, gsi, head)?;
     push_digest_line(alloc, &mut recorded, table, asked.table_path)?;
     as_printed(alloc, head, recorded)
 }
