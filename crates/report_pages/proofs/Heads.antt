@@ -1,5 +1,5 @@
 -- The head among lines that are read.
-use Rattle.std.proofs.Common.{◌≡◌, ◌∙◌, ℕ, ◌+◌, Bool, true, false, List, [], ◌∷◌, ap, arith, length, map}
+use Rattle.std.proofs.Common.{◌≡◌, ◌∙◌, ℕ, ◌+◌, Bool, List, [], ◌∷◌, ap, arith, length, map}
 use Rattle.std.proofs.Common.{nat_eq, nat_lt, refl, sym, take, Bor, Option, Some, None}
 use Rattle.std.proofs.lemmas.List.{take-map, take_min}
 use Rattle.std.specs.Prelude.{cond, min, not}

@@ -1,5 +1,5 @@
 -- The lines that are split off a text.
-use Rattle.std.proofs.Common.{◌≡◌, ◌∙◌, ℕ, ◌≤◌, ◌<◌, ◌+◌, Bool, true, false, List, [], ◌∷◌, ◌++◌}
+use Rattle.std.proofs.Common.{◌≡◌, ◌∙◌, ℕ, ◌<◌, ◌+◌, Bool, List, [], ◌∷◌, ◌++◌}
 use Rattle.std.proofs.Common.{ap, arith, drop, length, refl, subst, suc, sym, take, zero, Bor}
 use Rattle.std.proofs.Common.{Option}
 use Rattle.std.proofs.lemmas.Fn.{always_returns_same}

@@ -1,11 +1,11 @@
 -- Laws of lines and pages.
 use Rattle.std.proofs.Common.{◌≡◌, ◌∙◌, ℕ, ◌≤◌, ◌<◌, ◌+◌, ◌-◌, Bool, true, false, List, [], ◌∷◌}
 use Rattle.std.proofs.Common.{◌++◌, ap, append_assoc, arith, length, refl, sym}
-use Rattle.std.proofs.Common.{map, nat_eq, nat_lt, take, Bor, Option, Some, None}
+use Rattle.std.proofs.Common.{map, nat_lt, take, Bor, Some, None}
 use Rattle.std.proofs.lemmas.List.{append-nil, length-append, length-take}
 use Rattle.std.proofs.lemmas.List.Elements.{All-nil, All-cons}
 use Rattle.std.specs.Prelude.{◌==◌, ◌&&◌, ◌||◌, cond, if◌then◌else◌}
-use Rattle.std.specs.List.{All, concat, flat_map, onto_first, position, starts_with}
+use Rattle.std.specs.List.{All, concat, flat_map, onto_first}
 use Rattle.report_pages.specs.Lines.{lines, is_empty}
 use Rattle.report_pages.specs.Pages.{Pages, begins_page, begins_section, down_to, head, left_after, on_pages}
 use Rattle.report_pages.specs.Pages.{repeated, with_line}

@@ -1,7 +1,7 @@
 -- A report in pages: each has at most 60 lines, and each but the first begins with a form feed, the
 -- head of the report down to the line of its station, and an empty line.
 use Rattle.std.specs.Prelude.{ℕ, ◌+◌, ◌-◌, ◌==◌, Bool, true, false, ◌&&◌, ◌||◌, not, nat_lt, nat_eq}
-use Rattle.std.specs.Prelude.{List, [], ◌∷◌, ◌++◌, length, map, take, if◌then◌else◌}
+use Rattle.std.specs.Prelude.{List, [], ◌∷◌, ◌++◌, length, take, if◌then◌else◌}
 use Rattle.std.specs.Prelude.{Option, Some, None}
 use Rattle.std.specs.List.{concat, flat_map, position, slice_split, starts_with}
 use Rattle.report_pages.specs.Lines.{first_byte, is_empty, lines}

@@ -1,4 +1,4 @@
-use Rattle.std.proofs.Common.{◌≡◌, ◌+◌, ◌∙◌, Bor, List, Some, None, ℕ, map, rules, sym}
+use Rattle.std.proofs.Common.{◌+◌, ◌∙◌, Bor, List, Some, None, ℕ, rules, sym}
 use Rattle.std.proofs.lemmas.List.{take-map}
 use Rattle.report_pages.proofs.Heads.{head_by}
 use Rattle.report_pages.proofs.head.head_of.Goals as goal

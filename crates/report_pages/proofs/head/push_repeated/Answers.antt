@@ -1,4 +1,4 @@
-use Rattle.std.proofs.Common.{◌≡◌, ◌∙◌, ◌<◌, ◌++◌, ◌∷◌, [], List, ℕ, ap, append_assoc, length, rules}
+use Rattle.std.proofs.Common.{◌∙◌, ◌<◌, ◌++◌, ◌∷◌, [], List, ℕ, ap, append_assoc, length, rules}
 use Rattle.std.proofs.Common.{map, sym}
 use Rattle.std.specs.List.{concat}
 use Rattle.report_pages.specs.declared.lines.TheConstants.{LINE_FEED}

@@ -1,4 +1,4 @@
-use Rattle.std.proofs.Common.{◌≤◌, ◌+◌, ◌-◌, arith, length}
+use Rattle.std.proofs.Common.{◌≤◌, ◌-◌, arith, length}
 use Rattle.report_pages.specs.Pages.{head, repeated}
 use Rattle.report_pages.specs.declared.pages.TheConstants.{LINES_OF_PAGE}
 use Rattle.report_pages.proofs.PageLaws.{first_fits, further_fit, head_few, repeated_few}
