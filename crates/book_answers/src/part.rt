@@ -3,11 +3,11 @@ ghost use Rattle.std.specs.Prelude.{◌≡◌, ◌<◌, ◌^◌, IfOk, MatchResu
 ghost use Rattle.book_answers.specs.PartTexts as spec;
 ghost use Rattle.book_answers.specs.PartTexts.{LacksPart, RefusesPart, SaysPart};
 ghost use Rattle.book_answers.specs.Notes.{IsPartNote};
-ghost use Rattle.direction_table.specs.TableNotes.{table_note};
 ghost use Rattle.exact_adjustment.specs.LeastOf.{HasResidualsWithin};
 ghost use Rattle.station_compare.specs.AgreementTexts as texts;
 ghost use Rattle.station_tables.specs.Lines.{of_lines};
 ghost use Rattle.station_tables.specs.Parts as parts;
+ghost use Rattle.table_answers.specs.Noting.{IsNote};
 
 use crate::columns::{column_in_whole, form_in_part};
 use crate::each::{EachAnswer, OwnText};
@@ -134,8 +134,8 @@ fn text_of_part(
         (λ noted. spec.SaysText asked.form asked.text limits surveyed.now bytes.now
         noted.answer.items)
         (spec.LacksText asked.form asked.text limits surveyed.now bytes.now) }
-    ensures noted { IfOk result (λ noted. noted.note.items
-        ≡ table_note asked.form surveyed.now.station.targets bytes.now) }
+    ensures noted { IfOk result (λ noted.
+        IsNote asked.form surveyed.now.station bytes.now noted.note.items) }
     ensures held { OnOk result (HasResidualsWithin surveyed.now.station limits.residual) }
 {
     let form = asked.form;
@@ -161,8 +161,8 @@ fn compared_text(
         (λ noted. spec.IsAgreementText asked.form asked.within limits surveyed.now bytes.now
         noted.answer.items)
         (spec.HasNoAgreement asked.form asked.within limits surveyed.now bytes.now) }
-    ensures noted { IfOk result (λ noted. noted.note.items
-        ≡ table_note asked.form surveyed.now.station.targets bytes.now) }
+    ensures noted { IfOk result (λ noted.
+        IsNote asked.form surveyed.now.station bytes.now noted.note.items) }
     ensures held { OnOk result (HasResidualsWithin surveyed.now.station limits.residual) }
 {
     let noted = asked.of_table(alloc, limits, surveyed, bytes)?;
