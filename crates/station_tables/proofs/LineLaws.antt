@@ -1,5 +1,5 @@
 -- The lines of a text, byte by byte.
-use Rattle.std.proofs.Common.{◌≡◌, ◌∙◌, ◌++◌, ◌∷◌, ◌+◌, ◌-◌, ◌<◌, ◌≤◌, ◌==◌, List, ℕ, [], Bool, true}
+use Rattle.std.proofs.Common.{◌≡◌, ◌∙◌, ◌++◌, ◌∷◌, ◌+◌, ◌-◌, ◌<◌, ◌≤◌, List, ℕ, [], Bool, true}
 use Rattle.std.proofs.Common.{false, add-one, ap, append_assoc, arith, drop, drop-cons, get_or, length}
 use Rattle.std.proofs.Common.{length-drop, refl, sym, take}
 use Rattle.std.specs.Borrow.{Bor}

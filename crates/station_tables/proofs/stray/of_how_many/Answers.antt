@@ -1,5 +1,5 @@
 use Rattle.std.proofs.Common.{◌≡◌, ◌<◌, ◌∙◌, ap, arith, length, option_copied, rules, sym}
-use Rattle.std.specs.Prelude.{Bool, false, is_some, true}
+use Rattle.std.specs.Prelude.{false, is_some, true}
 use Rattle.station_check.proofs.ListLaws.{some_inside}
 use Rattle.station_tables.proofs.PartLaws.{count_here, count_later, some_made}
 use Rattle.station_tables.specs.Said.{is_of}
