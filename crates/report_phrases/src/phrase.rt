@@ -13,8 +13,8 @@ pub enum Phrase {
     /// The label of the path of the field file.
     FieldFile,
 
-    /// The label of the serial number that the field file recorded, in its column of 22 characters, as
-    /// those of the next four.
+    /// The label of the serial number that the field file recorded. As the next four it fills its
+    /// column of 22 characters.
     SerialNumber,
 
     /// The label of the type of the instrument that it recorded.
