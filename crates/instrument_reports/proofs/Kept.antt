@@ -256,7 +256,8 @@ table_answered asked limits name gsi table (Ok own) (Ok whole) bytes a same with
           held = st.held;
           said = (
             tells asked.head.notes.language IsOwn own.answer.text.items whole.answer.text.items
-                a.gsi_bytes bytes left (reverse st.station.blocks) is_own same with.0 over blocks_are,
+                a.gsi_bytes bytes left (reverse st.station.blocks) is_own same with.0 over
+                blocks_are,
             subst (IsNote asked.form st.its.station st.bytes) (sym with.2) st.said.1,
           );
         },

@@ -59,7 +59,8 @@ pub fn table_report_of<R: Source, Q: Source>(
     (noted_with(alloc, asked.head.language(), answer, kept), gsi)
 }
 
-/// The answer of a report with a table in a language, with what these bytes of its field file recorded.
+/// The answer of a report with a table in a language, with what these bytes of its field file
+/// recorded.
 fn noted_with(
     alloc: Global,
     language: Language,
