@@ -1001,8 +1001,8 @@ const MATCH_FAULTS: &[Explanation] = &[
         when: "\
 No station of the field file that has sets has the name in the sheet or, for 'compare',
 'differences', 'directions', 'report' and 'means', the name STATION; or STATION is left out, and the
-file has none or several. Names are compared byte by byte. A job that was recorded without blocks of the codes 10 and 20, as most jobs are, has no
-station and an empty list.",
+file has none or several. Names are compared byte by byte. A job that was recorded without blocks of
+the codes 10 and 20, as most jobs are, has no station and an empty list.",
         example: "refused: no station",
         remedy: "\
 'station_check list GSI' lists the names. Blanks and small letters count; zeros at the
