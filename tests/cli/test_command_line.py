@@ -436,7 +436,7 @@ class CommandLineTest(ProgramTest):
             self.assertEqual(
                 answer_of([*words, "--columns=2,3", table]), answer_of([*words, "--columns=Target,Hz", table])
             )
-            for titles, reason in [("target,Hz", "NoTitle targets"), ("Target,V", "NoTitle directions")]:
+            for titles, reason in [("target,Hz", "NoTitle 1"), ("Target,V", "NoTitle 2"), ("Hz,Hz", "SameTitle")]:
                 self.assert_answer((1, b"", refused(f"table: {reason}")), [*words, f"--columns={titles}", table])
 
     def test_an_output_that_takes_nothing_is_a_refusal(self):

@@ -9,7 +9,7 @@ from argparse import ArgumentParser
 from functools import partial
 
 import model
-from kinds import OF_COUNTS, OF_READS, REFUSALS, kind_of
+from kinds import OF_COUNTS, OF_READS, OF_TITLES, REFUSALS, kind_of
 from program import PROGRAM, ROOT, ProgramTest
 
 sys.path.insert(0, str(ROOT / "conformance"))
@@ -273,7 +273,7 @@ class ConformanceTest(unittest.TestCase):
 
     def test_each_refusal_has_a_case(self):
         met = {kind_of(case.expected) for case in run.cases() if case.expected[0] == 1}
-        self.assertEqual({*REFUSALS, *OF_COUNTS, *OF_READS}, met)
+        self.assertEqual({*REFUSALS, *OF_COUNTS, *OF_TITLES, *OF_READS}, met)
 
     def test_each_case_lies_where_its_answer_belongs(self):
         statuses = {"answered": 0, "refused": 1, "mistaken": 2}

@@ -5,7 +5,7 @@ import sys
 
 import model
 import preload
-from kinds import NEVER_MET, OF_BYTES, OF_COUNTS, OF_READS, REFUSALS, refusal_in
+from kinds import NEVER_MET, OF_BYTES, OF_COUNTS, OF_READS, OF_TITLES, REFUSALS, refusal_in
 from program import EXAMPLE, PROGRAM, ROOT, ProgramTest, answer_in_shell, answer_of
 
 sys.path.insert(0, str(ROOT / "conformance"))
@@ -88,7 +88,7 @@ class ExplainTest(ProgramTest):
 
     def test_each_kind_of_refusal_is_explained(self):
         others = ["cannot open", "already there", "write failed", "out of memory"]
-        kinds = [*REFUSALS, *OF_COUNTS, *OF_BYTES, *OF_READS, *NEVER_MET, *others]
+        kinds = [*REFUSALS, *OF_COUNTS, *OF_BYTES, *OF_TITLES, *OF_READS, *NEVER_MET, *others]
         found = {self.name_in(re.sub(r" n\b", " 1", kind)) for kind in kinds}
         self.assertEqual(found, set(names()))
 

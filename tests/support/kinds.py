@@ -48,13 +48,14 @@ REFUSALS = [
     "compare: Apart n mgon, limit n mgon",
 ]
 
-# Those of files, sheets and tables with too much of something, and of reads that fail.
+# Those of files, sheets and tables with too much of something, of titles, and of reads that fail.
 OF_COUNTS = [
     *["block n: TooManyTargets", "block n: TooManySets", "block n: TooManyStations"],
     *["block n: mark: TooManyTargets", "block n: mark: TooManySets"],
     *["block n: mark: TooManyStations", "sheet row n: TooMany"],
 ]
 OF_BYTES = ["block n: FileTooLong", "field file: FileTooLong", "sheet: TooLong", "table: TooLong"]
+OF_TITLES = ["table: NoTitle n", "table: TwiceTitled n", "table: SameTitle"]
 OF_READS = ["block n: Read", "field file: Read", "sheet: Read", "table: Read"]
 
 # Those that no run is known to have.

@@ -22,22 +22,22 @@ pub right_notes : (found : Found) (language : Language) (lines : List Note)
 right_notes found language lines is noted text wrong =
     let first : IsFirstUnnoted language (texts_of found (codes "note")) text =
     subst (λ (l : Language). IsFirstUnnoted l (texts_of found (codes "note")) text)
-    (one_language found wrong.0 language wrong.1 is) wrong.2 in
+    (one_language found wrong.language language wrong.stated is) wrong.first in
     no_notes language (texts_of found (codes "note")) text first lines noted
 
 -- Where no language is stated that may be, no text of a note is judged.
 pub no_language : (found : Found) → language_stated found ≡ None
     → (text : List ℕ) → ¬ (IsWrongNote found text)
 no_language found none text wrong =
-    let both : None ≡ Some wrong.0 = sym none ∙ wrong.1 in absurd (cc)
+    let both : None ≡ Some wrong.language = sym none ∙ wrong.stated in absurd (cc)
 
 -- The text of a language is no wrong one.
 pub right_language : (found : Found) (code : List ℕ) (language : Language)
     → IsGiven found (codes "language") code → language_named code ≡ Some language
     → (text : List ℕ) → ¬ (IsWrongLanguage found text)
 right_language found code language given named text wrong =
-    let same : Some code ≡ Some text = sym given ∙ wrong.0 in
+    let same : Some code ≡ Some text = sym given ∙ wrong.given in
     let its : code ≡ text = cc in
     let both : None ≡ Some language =
-    sym (subst (λ (t : List ℕ). language_named t ≡ None) (sym its) wrong.1) ∙ named in
+    sym (subst (λ (t : List ℕ). language_named t ≡ None) (sym its) wrong.unnamed) ∙ named in
     absurd (cc)

@@ -92,14 +92,15 @@ abbrev pub IsWrongChange : Found → EditKind → List ℕ → Type 0
 IsWrongChange found kind text = IsFirstUnsaid kind (texts_of found (change_name kind)) text
 
 -- This is stated as the language of a report, and is no code of one.
-abbrev pub IsWrongLanguage : Found → List ℕ → Type 0
-IsWrongLanguage found text =
-    IsGiven found (codes "language") text × (language_named text ≡ None)
+pub record IsWrongLanguage (found : Found) (text : List ℕ) : Type 0 where
+  pub given : IsGiven found (codes "language") text
+  pub unnamed : language_named text ≡ None
 
 -- This text of the option is the first that states no note in the stated language.
-abbrev pub IsWrongNote : Found → List ℕ → Type 0
-IsWrongNote found text = (language : Language) × (language_stated found ≡ Some language)
-    × IsFirstUnnoted language (texts_of found (codes "note")) text
+pub record IsWrongNote (found : Found) (text : List ℕ) : Type 0 where
+  pub language : Language
+  pub stated : language_stated found ≡ Some language
+  pub first : IsFirstUnnoted language (texts_of found (codes "note")) text
 
 -- This mistake is there: the text of an option is no limit; a text states no columns; JSON lines
 -- are asked for, and decimal commas; rows are asked for, and something beside them; the limit of a

@@ -361,6 +361,16 @@ fn mistake_in_changing<'a>(alloc: Global, found: &ArgMatches<'a>) -> Result<Mist
     if let Some(text) = wrong_change(alloc, found, EditKind::Rename)? {
         return Ok(Mistake::Change(EditKind::Rename, text));
     }
+    mistake_in_reporting(alloc, found)
+}
+
+/// The mistake in what `report` notes, or in what is said of stations: the first that is there.
+fn mistake_in_reporting<'a>(
+    alloc: Global,
+    found: &ArgMatches<'a>,
+) -> Result<Mistake<'a>, AllocError>
+    ensures { IfOk result (IsMistakeFrom 14 (found_of found.now)) }
+{
     if let Some(text) = wrong_language(found) {
         return Ok(Mistake::Language(text));
     }

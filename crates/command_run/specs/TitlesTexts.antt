@@ -11,10 +11,10 @@ abbrev pub place_text : TitlesFault → List ℕ
 place_text fault.Memory = []
 place_text other = codes "table: "
 
--- Which title it is of.
+-- Which title it is of: the first is that of targets, the second that of directions.
 abbrev pub title_text : TitleOf → List ℕ
-title_text title.Targets = codes " targets"
-title_text title.Directions = codes " directions"
+title_text title.Targets = codes " 1"
+title_text title.Directions = codes " 2"
 
 abbrev pub carried_text : TitlesFault → List ℕ
 carried_text (fault.NoTitle of) = title_text of

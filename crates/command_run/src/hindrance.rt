@@ -30,12 +30,10 @@ pub(crate) fn titles_line(fault: TitlesFault) -> &'static str
     match fault {
         TitlesFault::Read => "refused: table: Read\n",
         TitlesFault::TooLong => "refused: table: TooLong\n",
-        TitlesFault::NoTitle(TitleOf::Targets) => "refused: table: NoTitle targets\n",
-        TitlesFault::NoTitle(TitleOf::Directions) => "refused: table: NoTitle directions\n",
-        TitlesFault::TwiceTitled(TitleOf::Targets) => "refused: table: TwiceTitled targets\n",
-        TitlesFault::TwiceTitled(TitleOf::Directions) => {
-            "refused: table: TwiceTitled directions\n"
-        }
+        TitlesFault::NoTitle(TitleOf::Targets) => "refused: table: NoTitle 1\n",
+        TitlesFault::NoTitle(TitleOf::Directions) => "refused: table: NoTitle 2\n",
+        TitlesFault::TwiceTitled(TitleOf::Targets) => "refused: table: TwiceTitled 1\n",
+        TitlesFault::TwiceTitled(TitleOf::Directions) => "refused: table: TwiceTitled 2\n",
         TitlesFault::SameTitle => "refused: table: SameTitle\n",
         TitlesFault::Memory => "refused: out of memory\n",
     }

@@ -997,12 +997,12 @@ See whether the sheet was written and copied whole.",
 const MATCH_FAULTS: &[Explanation] = &[
     Said {
         names: &["no station"],
-        meaning: "the field file has no station of this name",
+        meaning: "the field file has no station of this name, or not one where none is named",
         when: "\
 No station of the field file that has sets has the name in the sheet or, for 'compare',
-'differences', 'directions', 'report' and 'means', the name STATION. Names are compared byte by
-byte. A job that was recorded without blocks of the codes 10 and 20, as most jobs are, has no
-station and an empty list.",
+'differences', 'directions', 'report' and 'means', the name STATION; or STATION is left out, and the
+file has none or several. Names are compared byte by byte. A job that was recorded without blocks of
+the codes 10 and 20, as most jobs are, has no station and an empty list.",
         example: "refused: no station",
         remedy: "\
 'station_check list GSI' lists the names. Blanks and small letters count; zeros at the
@@ -1163,16 +1163,36 @@ State which column names the targets and which has their directions, by their nu
 '--columns 2,4'. If the two are degrees and minutes, with seconds after them, state --degrees.",
     },
     Said {
-        names: &["NoTitle", "TwiceTitled", "SameTitle"],
-        meaning: "the titles that are stated name no two columns of the table",
+        names: &["NoTitle"],
+        meaning: "no column of the table has the stated title",
         when: "\
-'--columns' states two titles. At NoTitle no row has the one of targets as a cell, or the first row
-that has it lacks the one of directions; at TwiceTitled that row has the title in two cells; at
-SameTitle both titles are the same. They are compared as they stand, capitals and blanks too.",
-        example: "refused: table: NoTitle directions",
+With '--columns TARGETS,DIRECTIONS' the first title is looked for in each row, and the second in the
+first row that has it. The number in the line says which has no column: 1 is that of the targets, 2
+that of their directions. Titles are compared as they stand, capitals too, without blanks around
+them.",
+        example: "refused: table: NoTitle 2",
         remedy: "\
-Write both titles as one row of the table has them, with quotes around them for the
-shell: --columns 'Point,Hz [gon]'. Or state the columns by their numbers, as '--columns 2,4'.",
+Write both titles as one row of the table has them; or state the columns by their
+numbers: '--columns 2,4'.",
+    },
+    Said {
+        names: &["TwiceTitled"],
+        meaning: "more than one column of the table has the stated title",
+        when: "\
+The row of titles has this title in two cells. The number in the line says which: 1 is that of the
+targets, 2 that of their directions.",
+        example: "refused: table: TwiceTitled 1",
+        remedy: "\
+State the columns by their numbers, from 1: '--columns 2,4'.",
+    },
+    Said {
+        names: &["SameTitle"],
+        meaning: "the stated titles of both columns are the same",
+        when: "\
+The title of targets and that of directions, as '--columns' states them, are of one column.",
+        example: "refused: table: SameTitle",
+        remedy: "\
+State the title of the targets, a comma, and that of their directions.",
     },
     Said {
         names: &["Missing"],
