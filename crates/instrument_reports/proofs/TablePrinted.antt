@@ -1,5 +1,5 @@
 -- A report with a table that was printed as it is told to be.
-use Rattle.std.proofs.Common.{◌≡◌, ◌∙◌, ℕ, List, [], Option, Result, Ok, Err, refl, subst, sym}
+use Rattle.std.proofs.Common.{◌≡◌, ◌∙◌, ℕ, List, [], Option, Result, Ok, Err, refl, subst}
 use Rattle.std.specs.Prelude.{MatchResult}
 use Rattle.byte_ends.specs.Sink.{WriterChange}
 use Rattle.byte_ends.specs.Source.{ReaderChange}
