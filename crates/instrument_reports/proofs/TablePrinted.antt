@@ -1,5 +1,5 @@
 -- A report with a table that was printed as it is told to be.
-use Rattle.std.proofs.Common.{◌≡◌, ◌∙◌, ℕ, List, [], Option, Result, Ok, Err, refl, subst, sym}
+use Rattle.std.proofs.Common.{◌≡◌, ◌∙◌, ℕ, List, [], Option, Result, Ok, Err, refl, subst}
 use Rattle.std.specs.Prelude.{MatchResult}
 use Rattle.byte_ends.specs.Sink.{WriterChange}
 use Rattle.byte_ends.specs.Source.{ReaderChange}
@@ -34,7 +34,7 @@ pub table_printed : {A : Type 0} (asked : ReportAsked) (limits : ResultLimits)
     → PrintsBeside (λ (n : Noted TableReport). PrintsReport (value_of n.answer)) all r out
     → MatchResult all (λ n. note ≡ n.note.items) (λ _. note ≡ [])
     → IsTableReportRun asked limits gsi table name r note out
-table_printed asked limits gsi table name (Ok own) (Ok whole) a as r note out p noted = record {
+table_printed asked limits gsi table name (Ok own) (Ok whole) a made r note out p noted = record {
   answer = Ok (value_of own.answer, own.note.items);
   tells = record {
     gsi_bytes = a.gsi_bytes;
@@ -46,14 +46,14 @@ table_printed asked limits gsi table name (Ok own) (Ok whole) a as r note out p 
     table_reader = a.table_reader;
   };
   printed = (
-    subst (λ (t : List ℕ). PrintsVerdict t own.answer.beyond (by_fault r) out) as.0
+    subst (λ (t : List ℕ). PrintsVerdict t own.answer.beyond (by_fault r) out) made.0
         (subst (λ (b : Option HowFar). PrintsVerdict whole.answer.text.items b (by_fault r) out)
-        as.1 p.0),
+        made.1 p.0),
     p.1,
   );
-  noted = noted ∙ as.2;
+  noted = noted ∙ made.2;
 }
-table_printed asked limits gsi table name (Ok own) (Err refusal) a as r note out p noted = record {
+table_printed asked limits gsi table name (Ok own) (Err refusal) a made r note out p noted = record {
   answer = Err (unhinted Memory);
   tells = record {
     gsi_bytes = a.gsi_bytes;
@@ -64,10 +64,10 @@ table_printed asked limits gsi table name (Ok own) (Err refusal) a as r note out
     gsi_reader = a.gsi_reader.unfailed;
     table_reader = a.table_reader.unfailed;
   };
-  printed = rw as at p;
+  printed = rw made at p;
   noted = noted;
 }
-table_printed asked limits gsi table name (Err refusal) all a as r note out p noted = record {
+table_printed asked limits gsi table name (Err refusal) all a made r note out p noted = record {
   answer = Err refusal;
   tells = record {
     gsi_bytes = a.gsi_bytes;
@@ -78,6 +78,6 @@ table_printed asked limits gsi table name (Err refusal) all a as r note out p no
     gsi_reader = a.gsi_reader;
     table_reader = a.table_reader;
   };
-  printed = rw as at p;
-  noted = rw as at noted;
+  printed = rw made at p;
+  noted = rw made at noted;
 }

@@ -38,10 +38,10 @@ returns-in_err-write_whole g c =
       },
     )
 
-pub returns-in_err-as_printed : goal.returns-in_err-as_printed
-returns-in_err-as_printed g c =
+pub returns-in_err-printed : goal.returns-in_err-printed
+returns-in_err-printed g c =
     let told = rw c.in_ok-text.was at c.report_of-answer.ensures in
-    let is_its : c.from_residual-in_err-as_printed.result ≡ Err (unhinted Memory) = search rules in
+    let is_its : c.from_residual-in_err-printed.result ≡ Err (unhinted Memory) = search rules in
     rw is_its (
       c.report_of-answer.result.1,
       record {
