@@ -80,9 +80,11 @@ function around(bytes, shown, first, end) {
     show(nth + 1, bytes.subarray(begins[nth], lineEndAt(bytes, begins[nth])));
   if (end === undefined) return lines;
   show(begins.length + 1, bytes.subarray(first, end), true);
-  at = nextAfter(bytes, end);
-  for (let more = 2; more < AROUND + 2 && at < bytes.length; more++) {
-    show(begins.length + more, bytes.subarray(at, lineEndAt(bytes, at)));
+  let last = begins.length;
+  // (a row may have line ends in quotes)
+  for (at = first; at < end; at = nextAfter(bytes, lineEndAt(bytes, at))) last++;
+  for (let more = 1; more <= AROUND && at < bytes.length; more++) {
+    show(last + more, bytes.subarray(at, lineEndAt(bytes, at)));
     at = nextAfter(bytes, lineEndAt(bytes, at));
   }
   return lines;
@@ -151,7 +153,8 @@ const shownText = (/** @type {Uint8Array} */ line) => textOf(line.subarray(0, MO
 function rowIn({ what, number, row, first, end }, file) {
   if (!file || first === undefined) return null;
   const lines = around(file.bytes, shownText, first, end);
-  const kind = KINDS[what], about = { row: row ?? number, name: file.shown, kind, nth: number };
+  const kind = KINDS[what] ?? '', name = file.shown;
+  const about = { row: row ?? number, name, kind, nth: number };
   const meant = lines.find(one => one.isMeant)?.text ?? '';
   return { where: text(kind ? 'rowOfKind' : 'rowOfFile', about), lines, first: 0, end: meant.length };
 }
