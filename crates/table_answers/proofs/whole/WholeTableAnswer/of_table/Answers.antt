@@ -1,4 +1,5 @@
-use Rattle.std.proofs.Common.{rules, ap, ◌∙◌}
+use Rattle.std.proofs.Common.{◌≡◌, Err, rules, ap, ◌∙◌}
+use Rattle.station_compare.specs.declared.fault.CompareFault.TheVariants.{Memory}
 use Rattle.row_forms.specs.declared.form.RowForm.TheVariants.{Commas}
 use Rattle.station_differences.specs.DifferenceTexts.{differences_text}
 use Rattle.table_answers.proofs.ComparedBy.{by_how_far}
@@ -17,7 +18,7 @@ returns-clause-tells c =
         compares = by_how_far asked.form its.station c.args.limits.residual bytes asked.within
             beside.how_far compared
             (rw c.station-station.ensures at c.in_ok-compared.ensures.compared) (record {
-              held = search rules;
+              held = rw c.station-station.ensures at c.in_ok-adjustment.ensures.held;
               compared = record {
                 directions = directions;
                 states = search rules;
@@ -45,3 +46,11 @@ returns-clause-tells c =
       },
       rw c.station-station.ensures at c.in_ok-note.ensures,
     )
+
+pub returns-clause-held : goal.returns-clause-held
+returns-clause-held c = rw c.station-station.ensures at c.in_ok-adjustment.ensures.held
+
+pub returns-in_err-compared-clause-tells : goal.returns-in_err-compared-clause-tells
+returns-in_err-compared-clause-tells c =
+    let is_its : c.from_residual.result ≡ Err Memory = search rules in
+    rw is_its (λ within. tt)
