@@ -3,4 +3,5 @@ pub mod AnswerLaws
 pub mod ComparisonRuns
 pub mod Told
 pub mod OtherUnits
+pub mod OneNote
 pub mod ComparedBy

@@ -14,7 +14,7 @@ returns-clause-tells c =
         rows = rows;
         compared = are_compared station c.in_ok-adjustment.adjustment directions rows
             (rw c.station-station.ensures at c.targets.ensures.valid) e.tied e.exact e.limited
-            (rw (c.targets-targets.ensures.value, c.station-station.ensures) at
+            (rw (c.targets-targets.ensures.value, c.station-station.ensures, c.deref.ensures.value) at
             c.in_ok-rows.ensures);
         text_is = search rules;
       },
