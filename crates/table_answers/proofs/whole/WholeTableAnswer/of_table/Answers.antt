@@ -52,5 +52,5 @@ returns-clause-held c = rw c.station-station.ensures at c.in_ok-adjustment.ensur
 
 pub returns-in_err-compared-clause-tells : goal.returns-in_err-compared-clause-tells
 returns-in_err-compared-clause-tells c =
-    let is_its : c.from_residual.result ≡ Err Memory = search rules in
+    let is_its : c.from_residual-in_err-compared.result ≡ Err Memory = search rules in
     rw is_its (λ within. tt)
