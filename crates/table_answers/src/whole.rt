@@ -72,7 +72,6 @@ impl<'a, 'n> TableAnswer for Whole<'a, 'n> {
         let table = read_stated_table(alloc, asked.form, station.targets(), bytes)?;
         let limit = asked.within.unwrap_or(table.usual_within);
         let adjustment = adjust(alloc, station, limits.residual)?;
-        let note = note_of(alloc, asked.form, station, &adjustment, &table, bytes)?;
         let stated = StatedDirections {
             directions: &table.directions,
             off: table.most_off,
@@ -82,6 +81,7 @@ impl<'a, 'n> TableAnswer for Whole<'a, 'n> {
         let compared = compared_by(alloc, station, &adjustment, beside.how_far)?;
         let differences = text_of(alloc, &beside.rows, RowForm::Commas)?;
         let text = whole_text(alloc, &compared, &differences, &beside.report)?;
+        let note = note_of(alloc, asked.form, station, &adjustment, &table, bytes)?;
         let answer = WholeTable { compared, text };
         Ok(Noted { answer, note })
     }

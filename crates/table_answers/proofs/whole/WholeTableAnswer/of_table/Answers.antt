@@ -1,5 +1,4 @@
-use Rattle.std.proofs.Common.{◌≡◌, Err, rules, ap, ◌∙◌}
-use Rattle.station_compare.specs.declared.fault.CompareFault.TheVariants.{Memory}
+use Rattle.std.proofs.Common.{rules, ap, ◌∙◌}
 use Rattle.row_forms.specs.declared.form.RowForm.TheVariants.{Commas}
 use Rattle.station_differences.specs.DifferenceTexts.{differences_text}
 use Rattle.table_answers.proofs.ComparedBy.{by_how_far}
@@ -49,8 +48,3 @@ returns-clause-tells c =
 
 pub returns-clause-held : goal.returns-clause-held
 returns-clause-held c = rw c.station-station.ensures at c.in_ok-adjustment.ensures.held
-
-pub returns-in_err-compared-clause-tells : goal.returns-in_err-compared-clause-tells
-returns-in_err-compared-clause-tells c =
-    let is_its : c.from_residual-in_err-compared.result ≡ Err Memory = search rules in
-    rw is_its (λ within. tt)
