@@ -22,7 +22,7 @@ impl StationName<'_> {
     {
         match self {
             StationName::Stated(name) => name.as_bytes(),
-            StationName::Only(name) => name.as_bytes(),
+            StationName::Only(name) => name.bytes(),
         }
     }
 }

@@ -7,8 +7,8 @@ use Rattle.station_compare.specs.Refusals.{unhinted}
 use Rattle.only_station.proofs.OnlyLaws.{refused_by_file}
 use Rattle.only_station.proofs.only.only_station.Goals as goal
 
-pub returns-in-Ok-Some : goal.returns-in-Ok-Some
-returns-in-Ok-Some g c =
+pub returns-in-Some : goal.returns-in-Some
+returns-in-Some g c =
     let found = c.in-Ok.found in
     let file = rw c.in-Ok.is at c.noted_stations_of_file-noted.ensures.surveys in (
       c.noted_stations_of_file-noted.result.1,
@@ -24,8 +24,8 @@ returns-in-Ok-Some g c =
       },
     )
 
-pub returns-in-Ok-None : goal.returns-in-Ok-None
-returns-in-Ok-None g c =
+pub returns : goal.returns
+returns g c =
     let found = c.in-Ok.found in
     let file = rw c.in-Ok.is at c.noted_stations_of_file-noted.ensures.surveys in (
       c.noted_stations_of_file-noted.result.1,
