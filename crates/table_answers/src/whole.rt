@@ -1,11 +1,18 @@
 //! All that is answered of a table beside its station, as one answer.
 ghost use Rattle.std.specs.Prelude.{◌≡◌, ◌≤◌, ◌++◌, Err, IfOk, codes, decimal, length};
+ghost use Rattle.adjust_kernel.specs.declared.bounds.TheConstants.{LARGEST_RESIDUAL_LIMIT};
 ghost use Rattle.byte_ends.specs.Writers.{writer_change};
+ghost use Rattle.exact_adjustment.specs.Exact.{IsExact, KeepsLimit};
+ghost use Rattle.exact_adjustment.specs.LeastOf.{AreTied};
+ghost use Rattle.row_forms.specs.declared.form.RowForm.TheVariants.{Commas};
+ghost use Rattle.station_differences.specs.DifferenceTexts.{differences_text};
+ghost use Rattle.table_answers.specs.Comparisons.{IsComparedBy};
 ghost use Rattle.table_answers.specs.OneWhole.{one_whole};
 ghost use Rattle.table_answers.specs.Printing.{PrintsVerdict};
 ghost use Rattle.table_answers.specs.declared.whole.TheConstants.{LONGEST_TITLE};
 ghost use Rattle.table_answers.specs.Wholes.{IsWhole, WholeValue, beyond_in};
 ghost use Rattle.table_answers.specs.Wholes as spec;
+ghost use Rattle.table_report.specs.Stating.{beyond_of};
 ghost use Rattle.table_report.specs.Values.{asked_of};
 
 use crate::answer::TableAnswer;
@@ -14,10 +21,11 @@ use crate::comparison::compared_by;
 use crate::noted::{Noted, note_of};
 use crate::report::verdict;
 use crate::verdict_row::{verdict_line, verdict_rows};
+use adjust_kernel::Station;
 use arrayvec::ArrayVec;
 use byte_ends::Sink;
 use direction_table::read_stated_table;
-use exact_adjustment::adjust;
+use exact_adjustment::{Adjustment, adjust};
 use row_forms::RowForm;
 use station_answers::push_part;
 use station_book::{ResultLimits, Surveyed};
@@ -25,7 +33,7 @@ use station_check::{LONGEST_VERDICT_LINE, VerdictLine, add, add_numbered, write_
 use station_compare::CompareFault;
 use station_differences::text_of;
 use std::alloc::{AllocError, Global};
-use table_report::{Asked, StatedDirections, beside_by};
+use table_report::{Asked, Beside, StatedDirections, beside_by};
 
 /// All of a table beside its station, of one adjustment: the line of the verdict, the verdict as a
 /// row, the differences, and the report with the table, each after a line of its title and of how
@@ -72,17 +80,14 @@ impl<'a, 'n> TableAnswer for Whole<'a, 'n> {
         let table = read_stated_table(alloc, asked.form, station.targets(), bytes)?;
         let limit = asked.within.unwrap_or(table.usual_within);
         let adjustment = adjust(alloc, station, limits.residual)?;
+        let note = note_of(alloc, asked.form, station, &adjustment, &table, bytes)?;
         let stated = StatedDirections {
             directions: &table.directions,
             off: table.most_off,
             limit,
         };
         let beside = beside_by(alloc, asked, limits, surveyed, &adjustment, &stated)?;
-        let compared = compared_by(alloc, station, &adjustment, beside.how_far)?;
-        let differences = text_of(alloc, &beside.rows, RowForm::Commas)?;
-        let text = whole_text(alloc, &compared, &differences, &beside.report)?;
-        let note = note_of(alloc, asked.form, station, &adjustment, &table, bytes)?;
-        let answer = WholeTable { compared, text };
+        let answer = whole_by(alloc, station, &adjustment, &beside)?;
         Ok(Noted { answer, note })
     }
 
@@ -102,6 +107,31 @@ impl<'a, 'n> TableAnswer for Whole<'a, 'n> {
       states = p.are_differences.states;
       adjustable = p.are_differences.compared.rounded.adjustable;
     } };
+}
+
+/// All of a table beside its station, of its rows, how far it is apart, and its report.
+///
+/// The only error is that memory was refused.
+fn whole_by(
+    alloc: Global,
+    station: &Station,
+    adjustment: &Adjustment,
+    beside: &Beside,
+) -> Result<WholeTable, AllocError>
+    requires exact { IsExact station.now adjustment.now }
+    requires limited { KeepsLimit station.now adjustment.now LARGEST_RESIDUAL_LIMIT }
+    requires tied { AreTied station.now }
+    ensures compared { IfOk result (λ whole.
+        IsComparedBy station.now beside.now.how_far whole.compared) }
+    ensures beyond { IfOk result (λ whole.
+        beyond_in whole.compared ≡ beyond_of beside.now.how_far) }
+    ensures text { IfOk result (λ whole. whole.text.items ≡ spec.whole_text whole.compared
+        (differences_text Commas beside.now.rows.items) beside.now.report.items) }
+{
+    let compared = compared_by(alloc, station, adjustment, beside.how_far)?;
+    let differences = text_of(alloc, &beside.rows, RowForm::Commas)?;
+    let text = whole_text(alloc, &compared, &differences, &beside.report)?;
+    Ok(WholeTable { compared, text })
 }
 
 /// The parts in one text.

@@ -1,8 +1,10 @@
-use Rattle.std.proofs.Common.{rules, ap, ◌∙◌}
+use Rattle.std.proofs.Common.{◌≡◌, Err, Ok, Result, ap, refl, rules}
+use Rattle.std.specs.Result.{IsErr, IsErrAnd}
+use Rattle.station_compare.specs.declared.fault.CompareFault.{CompareFault}
+use Rattle.station_compare.specs.declared.fault.CompareFault.TheVariants.{Memory}
 use Rattle.row_forms.specs.declared.form.RowForm.TheVariants.{Commas}
 use Rattle.station_differences.specs.DifferenceTexts.{differences_text}
 use Rattle.table_answers.proofs.ComparedBy.{by_how_far}
-use Rattle.table_answers.specs.Wholes.{whole_text}
 use Rattle.table_answers.proofs.whole.WholeTableAnswer.of_table.Goals as goal
 
 pub returns-clause-tells : goal.returns-clause-tells
@@ -12,11 +14,11 @@ returns-clause-tells c =
     let bytes = c.args.bytes.now in
     let directions = c.in_ok-table.table.directions.items in
     let beside = c.in_ok-beside.beside in
-    let compared = c.in_ok-compared.compared in (
+    let compared = c.in_ok-answer.answer.compared in (
       record {
         compares = by_how_far asked.form its.station c.args.limits.residual bytes asked.within
             beside.how_far compared
-            (rw c.station-station.ensures at c.in_ok-compared.ensures.compared) (record {
+            (rw c.station-station.ensures at c.in_ok-answer.ensures.compared) (record {
               held = rw c.station-station.ensures at c.in_ok-adjustment.ensures.held;
               compared = record {
                 directions = directions;
@@ -25,14 +27,13 @@ returns-clause-tells c =
               };
               limit = search rules;
             });
-        differences = c.in_ok-differences.differences.items;
+        differences = differences_text Commas beside.rows.items;
         are_differences = record {
           directions = directions;
           states = search rules;
           rows = beside.rows.items;
           compared = search rules;
-          text_is = c.in_ok-differences.ensures
-              ∙ ap (differences_text Commas) c.deref-2.ensures.value;
+          text_is = refl;
         };
         report = beside.report.items;
         is_report = record {
@@ -40,11 +41,21 @@ returns-clause-tells c =
           states = search rules;
           beside = search rules;
         };
-        text_is = c.in_ok-text.ensures
-            ∙ (λ i. whole_text compared (c.deref-3.ensures.value i) (c.deref-4.ensures.value i));
+        text_is = c.in_ok-answer.ensures.text;
       },
       rw c.station-station.ensures at c.in_ok-note.ensures,
     )
 
 pub returns-clause-held : goal.returns-clause-held
 returns-clause-held c = rw c.station-station.ensures at c.in_ok-adjustment.ensures.held
+
+-- what comes of an error without memory
+memory_of : {A : Type 0} (r : Result A CompareFault) → IsErr r → IsErrAnd r (λ why. why ≡ Memory)
+    → r ≡ Err Memory
+memory_of (Ok a) is_err is = absurd is
+memory_of (Err why) is_err is = ap Err is
+
+pub returns-in_err-answer-clause-tells : goal.returns-in_err-answer-clause-tells
+returns-in_err-answer-clause-tells c =
+    let e = c.from_residual-in_err-answer.ensures in
+    rw (memory_of c.from_residual-in_err-answer.result e.0 e.1) (λ within. tt)

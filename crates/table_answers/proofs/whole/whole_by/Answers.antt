@@ -1,0 +1,13 @@
+use Rattle.std.proofs.Common.{◌∙◌, ap}
+use Rattle.row_forms.specs.declared.form.RowForm.TheVariants.{Commas}
+use Rattle.station_differences.specs.DifferenceTexts.{differences_text}
+use Rattle.table_answers.specs.Wholes.{whole_text}
+use Rattle.table_answers.proofs.whole.whole_by.Goals as goal
+
+pub returns-clause-text : goal.returns-clause-text
+returns-clause-text c =
+    let compared = c.in_ok-compared.compared in
+    let differences = c.in_ok-differences.ensures
+        ∙ ap (differences_text Commas) c.deref.ensures.value in
+    c.in_ok-text.ensures ∙ (λ i. whole_text compared
+        ((c.deref-2.ensures.value ∙ differences) i) (c.deref-3.ensures.value i))
