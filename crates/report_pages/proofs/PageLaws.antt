@@ -7,7 +7,8 @@ use Rattle.std.proofs.lemmas.List.Elements.{All-nil, All-cons}
 use Rattle.std.specs.Prelude.{◌==◌, ◌&&◌, ◌||◌, cond, if◌then◌else◌}
 use Rattle.std.specs.List.{All, concat, flat_map, onto_first}
 use Rattle.report_pages.specs.Lines.{lines, is_empty}
-use Rattle.report_pages.specs.Pages.{Pages, begins_page, begins_section, down_to, head, left_after, on_pages}
+use Rattle.report_pages.specs.Pages.{Pages, begins_page, begins_section, down_to, head}
+use Rattle.report_pages.specs.Pages.{left_after, on_pages}
 use Rattle.report_pages.specs.Pages.{repeated, with_line}
 use Rattle.report_pages.specs.declared.pages.TheConstants.{LINES_OF_SECTION}
 use Rattle.report_pages.specs.declared.head.TheConstants.{LINES_OF_HEAD}

@@ -3,7 +3,8 @@ use Rattle.std.specs.Prelude.{ℕ, ◌==◌, Bool, List, [], ◌∷◌, slice_in
 use Rattle.std.specs.List.{onto_first}
 use Rattle.report_pages.specs.declared.lines.TheConstants.{LINE_FEED}
 
--- The lines, each with the line feed that ends it; what stands after the last of these is a line too.
+-- The lines, each with the line feed that ends it; what stands after the last of these is a line
+-- too.
 abbrev pub lines : List ℕ → List (List ℕ)
 lines [] = []
 lines (byte ∷ text) =

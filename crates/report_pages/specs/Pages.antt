@@ -32,8 +32,8 @@ begins_section after_empty line =
     after_empty && (not (is_empty line) && not (first_byte line == BLANK))
 
 -- Whether a page begins at a line, where so many lines are left on the page before and so many are
--- still to come: no line is left, or a section begins here of which too few lines would stand there,
--- and the report does not end there.
+-- still to come: no line is left, or a section begins here of which too few lines would stand
+-- there, and the report does not end there.
 abbrev pub begins_page : ℕ → Bool → List ℕ → ℕ → Bool
 begins_page left after_empty line to_come =
     (left == 0)

@@ -105,7 +105,8 @@ fn push_next(
     further: bool,
 ) -> Result<(), AllocError>
     ensures { OnOk result (pages.new.items ≡ pages.old.items
-        ++ ((if further then FORM_FEED ∷ [] else []) ++ spec.report_on_pages label.now report.now)) }
+        ++ ((if further then FORM_FEED ∷ [] else [])
+        ++ spec.report_on_pages label.now report.now)) }
 {
     if further {
         pages.push(FORM_FEED)?;

@@ -9,5 +9,6 @@ use Rattle.report_pages.proofs.laws.unchanged.Goals as goal
 
 pub returns : goal.returns
 returns c label report few =
-    ap (text_of (FORM_FEED ∷ concat (repeated (head label (lines report))))) (one_page _ _ _ (lines report) few)
+    ap (text_of (FORM_FEED ∷ concat (repeated (head label (lines report)))))
+    (one_page _ _ _ (lines report) few)
     ∙ append-nil _ ∙ concat-lines report
