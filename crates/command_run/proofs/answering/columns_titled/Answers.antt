@@ -7,7 +7,8 @@ returns-in-Ok-clause-titled g c = (
   c.in_ok-file.file,
   c.titled_columns.new.table,
   c.in_ok-file.ensures.opened,
-  rw (c.in-Ok.is, c.as_bytes.ensures, c.as_bytes-2.ensures) at c.titled_columns.ensures.tells,
+  rw (c.in-Ok.is, c.as_bytes.ensures.value, c.as_bytes-2.ensures.value)
+  at c.titled_columns.ensures.tells,
 )
 
 -- The table is refused.
@@ -16,7 +17,8 @@ returns-clause-hindered g c = inr (
   c.in_ok-file.file,
   c.titled_columns.new.table,
   c.in_ok-file.ensures.opened,
-  rw (c.in-Err.is, c.as_bytes.ensures, c.as_bytes-2.ensures) at c.titled_columns.ensures.tells,
+  rw (c.in-Err.is, c.as_bytes.ensures.value, c.as_bytes-2.ensures.value)
+  at c.titled_columns.ensures.tells,
 )
 
 -- It can't be opened.
