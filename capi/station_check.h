@@ -272,6 +272,22 @@ uint8_t station_check_digest(const void *file, size_t file_length,
 uint8_t station_check_explain(const char *line, size_t line_length,
                               char *text, size_t room, size_t *length);
 
+/* Where the line of a refusal stands, in the field file or in the sheet or the table of the call that
+ * refused; of length 0 where there is none. A row below titles: `what` it is ("block", "sheet row",
+ * "table row"; "target", "set" or "observation" among the sheet's rows of these; "station target",
+ * "station observation"), its `number` from 1, its `row` among all where it is counted by its kind,
+ * and the places, from 0, of its `first` byte and of the `end` after its last. Numbers that aren't
+ * there are left out; no row, where the line names nothing. 256 bytes are always enough. */
+uint8_t station_check_place(const char *line, size_t line_length,
+                            const void *gsi, size_t gsi_length,
+                            const void *other, size_t other_length,
+                            char *rows, size_t room, size_t *length);
+
+/* The lines that a report has of the words 12, 13, 17, 18 and 19 of a field file without a fault of
+ * its lines, as they stand: what it recorded of instrument and time. 512 bytes are always enough. */
+uint8_t station_check_instrument(const void *gsi, size_t gsi_length,
+                                 char *text, size_t room, size_t *length);
+
 #ifdef __cplusplus
 }
 #endif

@@ -96,6 +96,9 @@ _AGREEMENT = re.compile(
 _STATION = re.compile(r"station (.*): \d+ sets?, \d+ targets?, \d+ directions?")
 _OBSERVATION = re.compile(r"set (\d+), target (.*): p (\d+), 2c (-?\d+), 2i (-?\d+)")
 
+# The titles of the place of a refusal.
+_PLACE = "what,number,row,first,end"
+
 # A text is given so many bytes at least, and so many times more where that was too little.
 _ROOM, _MORE = 1 << 16, 8
 
@@ -233,6 +236,18 @@ class Verdict(NamedTuple):
     apart: Decimal
     limit: Decimal
     greatest_residual: Decimal | None
+
+
+class Place(NamedTuple):
+    """What the line of a refusal names, and where that stands: `what` it is, as `station_check.h`
+    says, its number from 1, its row among all where it is counted by its kind, and its bytes as a
+    part of the file; `first` and `end` are None of what stands in no file, or is not there."""
+
+    what: str
+    number: int
+    row: int | None
+    first: int | None
+    end: int | None
 
 
 class Table(NamedTuple):
@@ -481,6 +496,22 @@ def digest(file: File, name: str) -> str:
 def explain(line: str = "") -> str:
     """What the fault means that the line of a refusal names; of no line, all names of faults."""
     return _answer("explain", [_text(line)], []).decode()
+
+
+def instrument(gsi: File) -> str:
+    """The lines that a report has of what a field file recorded of instrument and time, in its words
+    12, 13, 17, 18 and 19, as they stand."""
+    return _answer("instrument", [gsi], []).decode()
+
+
+def place(line: str, gsi: File, other: File = b"") -> Place | None:
+    """Where the line of a refusal stands, in the field file or in the sheet or the table of the call
+    that refused; None where it names nothing."""
+    rows = _rows_below(_PLACE, _answer("place", [_text(line), gsi, other], []).decode())
+    for what, number, *places in rows:
+        row, first, end = (int(one) if one else None for one in places)
+        return Place(what, int(number), row, first, end)
+    return None
 
 
 def agreement_numbers(line: str) -> Agreement:

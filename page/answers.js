@@ -7,7 +7,7 @@ import {
 } from './files.js';
 import { commandOf, isWithin } from './limits.js';
 import {
-  accuracyIn, each, greatestOf, partsIn, recognizedIn, residualsIn, rowsIn,
+  accuracyIn, each, greatestOf, namedIn, partsIn, recognizedIn, residualsIn, rowsIn,
 } from './records.js';
 
 /**
@@ -17,13 +17,13 @@ import {
  * How a card looks: all is in order, something was refused, a station was read and has nothing to
  * be compared, or something is to be done first.
  * @typedef {'good' | 'bad' | 'read' | 'open'} Mood
- * The answer of a command: its line or text, the fault in the words of the program where it is a
- * refusal, the greatest residual where it accepts a sheet, the verdict on a table in fields, with the
+ * The answer of a command: its line or text, where it is a refusal the fault in the words of the
+ * program and what it names, the greatest residual where it accepts a sheet, the verdict on a table in fields, with the
  * text of the differences where it was compared and the note of one that was read by a pair of its
  * columns, what it told of each station where it puts codes in, and whether there a line further on
  * sets up a station.
  * @typedef {{ command: string, asked: string, status: number, line: string, explanation: string,
- *   field: Input, other?: Input, station?: Station, greatest?: import('./records.js').Residual,
+ *   named?: import('./records.js').Named, field: Input, other?: Input, station?: Station, greatest?: import('./records.js').Residual,
  *   verdict?: import('./records.js').Verdict, differences?: string, note?: string,
  *   told?: import('./records.js').Recognized[], isSetUpLater?: boolean }} Answer
  * What came of the limit of residuals, to which each station is held: whether it is kept, the
@@ -85,16 +85,27 @@ async function explanationOf(/** @type {string} */ line) {
   return status === ACCEPTED ? text : '';
 }
 
+/** A file that isn't there. */
+const NO_BYTES = new Uint8Array();
+
+/** What the line of a refusal names, and where that stands in the files. */
+async function namedBy(/** @type {string} */ line, /** @type {Uint8Array[]} */ ...files) {
+  const { status, text } = await ask('place', line, ...files);
+  return status === ACCEPTED ? namedIn(text) : undefined;
+}
+
 /**
  * An answer, with what its line speaks of.
  * @param {{ status: number, text: string }} reply
- * @param {Omit<Answer, 'status' | 'line' | 'explanation' | 'greatest'>} about
+ * @param {Omit<Answer, 'status' | 'line' | 'explanation' | 'greatest' | 'named'>} about
  * @returns {Promise<Answer>}
  */
 async function answered({ status, text }, about) {
-  const line = text.trimEnd();
-  const explanation = status === REFUSED ? await explanationOf(line) : '';
-  return { ...about, status, line, explanation };
+  const line = text.trimEnd(), { field, other } = about;
+  if (status !== REFUSED) return { ...about, status, line, explanation: '' };
+  const files = [field.bytes, other?.bytes ?? NO_BYTES];
+  const [explanation, named] = await Promise.all([explanationOf(line), namedBy(line, ...files)]);
+  return { ...about, status, line, explanation, named };
 }
 
 /**
@@ -107,6 +118,12 @@ export const filesOf = (/** @type {Card} */ { field, answers }) =>
     .flatMap(file => file.given ? [file.given, file] : [file]);
 
 // ---------------------------------------------------------------- field files
+
+/** The lines of what a field file recorded of instrument and time. */
+async function recordedIn(/** @type {Input} */ { bytes }) {
+  const { status, text } = await ask('instrument', bytes);
+  return status === ACCEPTED ? text.split('\n').filter(line => line !== '') : [];
+}
 
 /**
  * A card of a file of which nothing is known yet.
@@ -385,6 +402,7 @@ export async function makeCards(inputs, limits, cards, told) {
     for (const field of fields) {
       tell(field);
       field.digest ||= await digestOf(field);
+      field.recorded ??= await recordedIn(field);
       cards.push(...await cardsOfField(field, limits));
       left.delete(field);
     }

@@ -17,7 +17,7 @@ import { LIMITS, commandOf } from './limits.js';
 import { MOODS } from './overview.js';
 import { mgonOf } from './numbers.js';
 import { pictureFile } from './picture.js';
-import { placeOf, seenText } from './place.js';
+import { faultAt, placeOf, seenText } from './place.js';
 import { nameOfProtocol, protocolFile } from './protocol.js';
 import { isComplete, residualsIn } from './records.js';
 import { showExplanation, showFault, showMeaning, showPlace } from './refusals.js';
@@ -162,9 +162,8 @@ const PROPOSED = {
  * @param {number} block
  */
 function proposalAt({ line, field }, block) {
-  const fault = line.replace(/^refused: block \d+: /, '');
   return field.code ? undefined
-    : proposalFor(field.bytes, block, fault, field.again === 'another');
+    : proposalFor(field.bytes, block, faultAt(line), field.again === 'another');
 }
 
 /**
@@ -176,12 +175,11 @@ function proposalAt({ line, field }, block) {
  * @param {Element} parent
  */
 function offerChange(answer, desk, parent) {
-  const { line, field, status } = answer, [, nth] = line.match(/^refused: block (\d+): /) ?? [];
-  if (status !== REFUSED || !nth || field.original) return;
-  const isThere = placeOf(line, field)?.lines.some(({ isMeant }) => isMeant);
-  const proposal = proposalAt(answer, Number(nth));
+  const { field, status, named } = answer;
+  if (status !== REFUSED || named?.what !== 'block' || field.original) return;
+  const isThere = named.first !== undefined, proposal = proposalAt(answer, named.number);
   if (!isThere && !proposal) return;
-  const block = givenBlock(field, Number(nth)), given = asHandedIn(field);
+  const block = givenBlock(field, named.number), given = asHandedIn(field);
   const form = element('form', '', parent, { className: 'buttons change' });
   const called = text(isThere ? 'changeLine' : 'changeLines', { block, name: given.shown });
   form.setAttribute('aria-label', called);
@@ -621,7 +619,7 @@ function showUnmarked(card, desk, parent) {
   if (isAsked) element('p', text(isWrong ? 'wrongName' : 'needName'), parent);
   else {
     if (marked.explanation) showMeaning('p', marked, parent, 'reason');
-    const place = placeOf(marked.line, marked.field);
+    const place = placeOf(marked);
     if (place) showPlace(place, parent);
     if (marked.explanation) showExplanation(marked.explanation, parent);
     // (what is to be stated is in no line)

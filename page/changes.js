@@ -62,7 +62,8 @@ export async function changeLines(field, changes) {
   const copyOf = (/** @type {string} */ old) => `${stemOf({ name: old })}_changed.gsi`;
   const copy = { name: copyOf(name), path: copyOf(path), bytes: reply.bytes, digest: '', given };
   const isChanged = inOrder.length > 0;
-  Object.assign(field, { changes: inOrder }, isChanged ? copy : { ...given, given: undefined });
+  // (of other bytes it is asked again what they recorded)
+  Object.assign(field, { changes: inOrder, recorded: undefined }, isChanged ? copy : { ...given, given: undefined });
   return '';
 }
 

@@ -19,14 +19,14 @@ import { each, recordsOf } from './records.js';
  * `changes` are those of its lines, where a copy with these stands in its place, and `given` is it
  * then as it was handed in.
  * `saved` says of the stations of a field file by their names what was saved of them last, and
- * `unfolded` has those whose readings the user unfolded. The digest is there once the file was
- * judged.
+ * `unfolded` has those whose readings the user unfolded. `recorded` has the lines of what it recorded
+ * of instrument and time, and is there with the digest once the file was judged.
  * @typedef {{ name: string, path: string, handle?: any, shown: string, bytes: Uint8Array,
  *   kind: Kind, digest: string, choice?: { field: Input, name: string }, unit?: Unit,
  *   columns?: number[], station?: string, typed?: string, original?: Input, taken?: Input,
  *   numbers?: Map<string, Numbers>, typing?: Map<string, Record<string, string>>, code?: string,
  *   typedCode?: string, again?: Again, others?: boolean,
- *   saved?: Map<string, () => string>, unfolded?: Set<string>,
+ *   saved?: Map<string, () => string>, unfolded?: Set<string>, recorded?: string[],
  *   changes?: import('./changes.js').Change[], given?: Input }} Input
  * How many sets were read to the end at a station, and how many targets they have: each 0 where it
  * is not stated.
@@ -85,22 +85,32 @@ function escaped(/** @type {string} */ sign) {
   return digits.length > 2 ? `\\u{${digits}}` : `\\x${digits.padStart(2, '0')}`;
 }
 
+/** How often each name stands among these: of many files each is looked up. */
+function countsOfNames(/** @type {string[]} */ names) {
+  /** @type {Map<string, number>} */
+  const counts = new Map();
+  for (const name of names) counts.set(name, (counts.get(name) ?? 0) + 1);
+  return counts;
+}
+
 /**
  * Says how files are shown, so that they are told apart: by their names, those of one name by their
  * paths, and those of one path each with a number of its own. What is not seen is shown as an
  * escape.
  */
 export function tellApart(/** @type {Input[]} */ files) {
-  const all = files.map(file => file.name);
-  const isAlone = (/** @type {string} */ name) => all.indexOf(name) === all.lastIndexOf(name);
+  const all = countsOfNames(files.map(file => file.name));
   const names = files.map(({ name, path }) =>
-    (isAlone(name) ? name : path).replace(UNSEEN, escaped));
-  const taken = new Set(names);
+    (all.get(name) === 1 ? name : path).replace(UNSEEN, escaped));
+  const counts = countsOfNames(names), taken = new Set(names);
+  /** @type {Map<string, number>} */
+  const before = new Map();
   files.forEach((file, at) => {
-    const name = names[at], before = names.slice(0, at).filter(one => one === name).length;
+    const name = names[at], own = (before.get(name) ?? 0) + 1;
     file.shown = name;
-    if (names.indexOf(name) === names.lastIndexOf(name)) return;
-    for (let nth = before + 1; taken.has(file.shown); nth++) file.shown = `${name} (${nth})`;
+    if (counts.get(name) === 1) return;
+    before.set(name, own);
+    for (let nth = own; taken.has(file.shown); nth++) file.shown = `${name} (${nth})`;
     taken.add(file.shown);
   });
 }

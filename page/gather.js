@@ -68,19 +68,25 @@ async function filesOfPath(one, before = '') {
 /** What ends the name of a file, and of hardly any folder. */
 const ENDING = /\.[a-z]\w*$/i;
 
+/** Of so many things at most the handles of files are asked for: each of them holds the window. */
+const MOST_HANDLES = 200;
+
 /**
  * What is dropped. The browser tells it only as long as it is, so all is asked for at once: for an
  * entry, which takes long, only where there is no handle, or where that may be refused for a folder.
+ * Of very many files, which are none of them read again, no handle is asked for.
  * @param {DataTransfer} transfer
  * @returns {Promise<Given[]>}
  */
 export async function dropped(transfer) {
   const items = /** @type {any[]} */ ([...transfer.items]).filter(({ kind }) => kind === 'file');
+  const isFew = items.length <= MOST_HANDLES;
   const asked = items.map(item => {
     const file = item.getAsFile(), isFile = item.getAsFileSystemHandle && ENDING.test(file?.name);
     return {
       file, entry: isFile ? null : item.webkitGetAsEntry?.(),
-      handle: item.getAsFileSystemHandle?.().catch(/** @type {() => any} */ (() => null)),
+      handle: isFew || !isFile
+        ? item.getAsFileSystemHandle?.().catch(/** @type {() => any} */ (() => null)) : null,
     };
   });
   /** @type {Given[]} */

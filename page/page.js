@@ -507,7 +507,7 @@ async function inputOf({ file, path, handle }) {
 }
 
 /** So many files are read at a time: that the browser turns to a file holds the window. */
-const AT_A_TIME = 25;
+const AT_A_TIME = 10;
 
 /** What many files are. */
 async function inputsOf(/** @type {import('./gather.js').Given[]} */ given) {
@@ -536,12 +536,12 @@ async function add(/** @type {import('./gather.js').Given[]} */ given) {
   const all = await inputsOf(given.filter(one => !folders.includes(one)));
   const read = all.filter(one => !isSkipped(one));
   const skipped = [...all.filter(isSkipped), ...folders].map(({ path }) => path);
-  const isGone = (/** @type {Input} */ one) =>
-    read.some(more => more.path === asHandedIn(one).path);
+  const paths = new Set(read.map(one => one.path));
+  const isGone = (/** @type {Input} */ one) => paths.has(asHandedIn(one).path);
   const replaced = now.inputs.filter(isGone).map(one => one.shown);
   const inputs = [...now.inputs.filter(one => !isGone(one)), ...read];
-  tellApart(inputs);
-  go({ skipped, replaced, inputs, readAt: new Date() });
+  // (what comes next draws it)
+  now = { ...now, skipped, replaced, inputs, readAt: new Date() };
   await checkAll();
 }
 
@@ -554,7 +554,8 @@ async function readAgain() {
   for (const input of now.inputs.filter(one => one.handle)) {
     const { path, handle } = input, { bytes } = asHandedIn(input), changes = changesOf(input);
     const again = await inputOf(await givenOf(handle, input.given?.path ?? path));
-    Object.assign(input, { taken: undefined, given: undefined, changes: undefined }, again);
+    const gone = { taken: undefined, given: undefined, changes: undefined, recorded: undefined };
+    Object.assign(input, gone, again);
     const still = stillOf(changes, bytes, again.bytes);
     // (where that is stopped the file is checked as it is)
     if (still.length > 0) await changeLines(input, still).catch(() => '');

@@ -1,11 +1,12 @@
-// Where a refusal says that the fault stands: a line of the field file, a row of a sheet or a
-// table, or a target or an observation of the station.
+// Where a refusal stands: at a line of the field file, a row of a sheet or a table, or a target or
+// an observation of the station. Which of them, and which bytes, a call says; here they are shown.
 import { textOf } from './files.js';
-import { pairsOf, recordsOf } from './records.js';
+import { pairsOf } from './records.js';
 import { text } from './texts.js';
 
 /**
  * @typedef {import('./files.js').Input} Input
+ * @typedef {import('./records.js').Named} Named
  * A place: its name in words, and the lines around it with their numbers. In the line that is meant
  * the part from `first` to `end` is marked, or all of it.
  * @typedef {{ number: string, text: string, isMeant: boolean }} Line
@@ -20,6 +21,9 @@ export const MOST_SHOWN = 1024;
 
 const LF = 10, CR = 13, BLANK = 32, BYTE = 255;
 
+/** Whether a byte ends a line. */
+const isEnd = (/** @type {number} */ byte) => byte === LF || byte === CR;
+
 const signOf = (/** @type {number} */ byte) =>
   byte < 0x20 ? 0x2400 + byte : byte < 0x7f ? byte : 0xfffd;
 /** A line's bytes as letters, those outside 20 to 7E (hex) as signs that are seen. */
@@ -30,43 +34,60 @@ export const seenText = (/** @type {string} */ line) =>
   seen(Uint8Array.from(line, sign => Math.min(sign.charCodeAt(0), BYTE)));
 
 /**
- * The lines of a field file as an editor counts them, up to some after that of a block: that line's
- * place among them, or the end where there is none.
+ * The lines of a field file as an editor counts them, up to that of a block: that line, or no bytes
+ * where there is none.
  */
-function linesTo(/** @type {Uint8Array} */ bytes, /** @type {number} */ block) {
-  const lines = [];
-  let blocks = 0, first = 0, meant = -1;
+export function lineOf(/** @type {Uint8Array} */ bytes, /** @type {number} */ block) {
+  let blocks = 0, first = 0;
   for (let at = 0; at <= bytes.length; at++) {
-    if (at < bytes.length && bytes[at] !== LF && bytes[at] !== CR) continue;
+    if (at < bytes.length && !isEnd(bytes[at])) continue;
     const line = bytes.subarray(first, at);
-    if (line.some(byte => byte !== BLANK) && ++blocks === block) meant = lines.length;
-    lines.push(line);
-    if (meant >= 0 && lines.length > meant + AROUND) break;
-    if (bytes[at] === CR && bytes[at + 1] === LF) at++;
+    if (line.some(byte => byte !== BLANK) && ++blocks === block) return line;
     first = at + 1;
   }
-  if (lines.at(-1)?.length === 0) lines.pop();
-  return { lines, meant: meant < 0 ? lines.length : meant };
+  return new Uint8Array();
 }
 
-/** The line of a block; no bytes where there is none. */
-export function lineOf(/** @type {Uint8Array} */ bytes, /** @type {number} */ block) {
-  const { lines, meant } = linesTo(bytes, block);
-  return lines[meant] ?? new Uint8Array();
+/** Where a line ends that goes on at this byte: at the byte that ends it, or with the file. */
+function lineEndAt(/** @type {Uint8Array} */ bytes, /** @type {number} */ at) {
+  while (at < bytes.length && !isEnd(bytes[at])) at++;
+  return at;
 }
+
+/** Where the line after one begins that ends there: a carriage return and a line feed end it. */
+const nextAfter = (/** @type {Uint8Array} */ bytes, /** @type {number} */ end) =>
+  end + (bytes[end] === CR && bytes[end + 1] === LF ? 2 : 1);
 
 /**
- * The lines around one, each as it is shown.
- * @template T
- * @param {T[]} lines
- * @param {number} meant
- * @param {(line: T) => string} shown
- * @returns {Line[]}
+ * The lines around a part of a file, with their numbers as an editor counts them; without an end
+ * those before it alone.
+ * @param {Uint8Array} bytes
+ * @param {(line: Uint8Array) => string} shown
+ * @param {number} first
+ * @param {number} [end]
  */
-function around(lines, meant, shown) {
-  const first = Math.max(0, meant - AROUND);
-  return lines.slice(first, meant + AROUND + 1).map((line, nth) =>
-    ({ number: String(first + nth + 1), text: shown(line), isMeant: first + nth === meant }));
+function around(bytes, shown, first, end) {
+  const begins = [];
+  let at = 0;
+  for (; at < first; at = nextAfter(bytes, lineEndAt(bytes, at))) begins.push(at);
+  // (a byte order mark stands in the line of the first row)
+  if (end !== undefined && at > first) begins.pop();
+  /** @type {Line[]} */
+  const lines = [];
+  const show = (/** @type {number} */ number, /** @type {Uint8Array} */ line, isMeant = false) =>
+    lines.push({ number: String(number), text: shown(line), isMeant });
+  for (let nth = Math.max(0, begins.length - AROUND); nth < begins.length; nth++)
+    show(nth + 1, bytes.subarray(begins[nth], lineEndAt(bytes, begins[nth])));
+  if (end === undefined) return lines;
+  show(begins.length + 1, bytes.subarray(first, end), true);
+  let last = begins.length;
+  // (a row may have line ends in quotes)
+  for (at = first; at < end; at = nextAfter(bytes, lineEndAt(bytes, at))) last++;
+  for (let more = 1; more <= AROUND && at < bytes.length; more++) {
+    show(last + more, bytes.subarray(at, lineEndAt(bytes, at)));
+    at = nextAfter(bytes, lineEndAt(bytes, at));
+  }
+  return lines;
 }
 
 /**
@@ -104,36 +125,58 @@ function wordOf(/** @type {string} */ fault) {
 
 /**
  * A block of a field file.
+ * @param {Named} named
  * @param {Input} file
- * @param {number} block
  * @param {string} fault
  * @returns {Place}
  */
-function blockIn(file, block, fault) {
-  const { lines, meant } = linesTo(file.bytes, block);
-  const shown = around(lines, meant, seen), line = shown.find(one => one.isMeant);
-  const where = line ? text('lineOfFile', { line: line.number, name: file.shown, block })
-    : text('endOfFile', { name: file.shown });
-  const [first, end] = line ? meantIn(line.text, fault) : [0, 0];
-  return { where, lines: shown, first, end };
+function blockIn({ number, first, end }, { bytes, shown }, fault) {
+  if (first === undefined) {
+    const lines = around(bytes, seen, bytes.length);
+    return { where: text('endOfFile', { name: shown }), lines, first: 0, end: 0 };
+  }
+  const lines = around(bytes, seen, first, end), line = lines.find(one => one.isMeant);
+  const about = { line: line?.number ?? '', name: shown, block: number };
+  const [from, to] = line ? meantIn(line.text, fault) : [0, 0];
+  return { where: text('lineOfFile', about), lines, first: from, end: to };
 }
+
+/** The bytes of a line as their text, which may be cut. */
+const shownText = (/** @type {Uint8Array} */ line) => textOf(line.subarray(0, MOST_SHOWN));
 
 /**
  * A row of a sheet or a table: the nth of all, or of those of a kind.
+ * @param {Named} named
  * @param {Input | undefined} file
- * @param {number} nth
  * @returns {Place | null}
  */
-function rowIn(file, nth, kind = '') {
-  if (!file) return null;
-  const all = textOf(file.bytes), rows = recordsOf(all);
-  const row = rows.filter(({ fields }) => !kind || fields[0] === kind)[nth - 1];
-  if (!row) return null;
-  const meant = rows.indexOf(row), end = row.end - row.first;
-  const about = { row: meant + 1, name: file.shown, kind, nth };
-  const where = text(kind ? 'rowOfKind' : 'rowOfFile', about);
-  const lines = around(rows, meant, one => all.slice(one.first, one.end));
-  return { where, lines, first: 0, end };
+function rowIn({ what, number, row, first, end }, file) {
+  if (!file || first === undefined) return null;
+  const lines = around(file.bytes, shownText, first, end);
+  const kind = KINDS[what] ?? '', name = file.shown;
+  const about = { row: row ?? number, name, kind, nth: number };
+  const meant = lines.find(one => one.isMeant)?.text ?? '';
+  return { where: text(kind ? 'rowOfKind' : 'rowOfFile', about), lines, first: 0, end: meant.length };
+}
+
+/**
+ * What the rows of a sheet are called that are counted by their kind.
+ * @type {Partial<Record<Named['what'], string>>}
+ */
+const KINDS = { target: 'target', set: 'set', observation: 'obs' };
+
+/**
+ * A target or an observation of a station, which stands in no file.
+ * @param {Named} named
+ * @param {import('./files.js').Station} station
+ * @returns {Place}
+ */
+function inStation({ what, number }, { listed }) {
+  const about = { nth: number, station: listed.name };
+  if (what === 'station target')
+    return alone(text('targetOfStation', about), listed.targetNames[number - 1]);
+  const { set, target } = pairsOf(listed)[number - 1];
+  return alone(text('observationOfStation', about), text('setAndTarget', { set, target }));
 }
 
 /**
@@ -145,47 +188,18 @@ function rowIn(file, nth, kind = '') {
 const alone = (where, line) =>
   ({ where, lines: [{ number: '', text: line, isMeant: true }], first: 0, end: line.length });
 
-/** @type {Record<string, string>} */
-const KIND_OF_FAULT = { Target: 'target', Set: 'set', Obs: 'obs' };
-
-/**
- * What a refusal of the comparison says of a station that was found: a target, or an observation.
- * @param {(pattern: RegExp, place: (...words: string[]) => Place | null) => Place | null} at
- * @param {import('./files.js').Station} station
- * @returns {Place | null}
- */
-function inStation(at, station) {
-  const { listed } = station;
-  return at(/^refused: table: Missing (\d+)/, nth => {
-    const where = text('targetOfStation', { nth, station: listed.name });
-    return alone(where, listed.targetNames[Number(nth) - 1]);
-  }) ?? at(/^refused: adjust: Residual (\d+)/, nth => {
-    const { set, target } = pairsOf(listed)[Number(nth) - 1];
-    const where = text('observationOfStation', { nth, station: listed.name });
-    return alone(where, text('setAndTarget', { set, target }));
-  });
-}
+/** What a refusal says after the block at which it stands: the name of its fault, and its number. */
+export const faultAt = (/** @type {string} */ line) => line.replace(/^refused: block \d+: /, '');
 
 /**
  * What a refusal speaks of; none where it names no place, or there is nothing.
- * @param {string} refusal
- * @param {Input} field
- * @param {Input} [other] the sheet or the table
+ * @param {import('./answers.js').Answer} answer
  * @param {import('./files.js').Station} [station]
  * @returns {Place | null}
  */
-export function placeOf(refusal, field, other, station) {
-  /** @type {(pattern: RegExp, place: (...words: string[]) => Place | null) => Place | null} */
-  const at = (pattern, place) => {
-    const words = refusal.match(pattern);
-    return words && place(...words.slice(1));
-  };
-  return at(/^refused: block (\d+): (.*)/, (block, fault) => blockIn(field, Number(block), fault))
-    ?? at(/^refused: (?:sheet|table) row (\d+): /, nth => rowIn(other, Number(nth)))
-    ?? at(/^refused: kernel: (Target|Set|Obs)(?:Row|Sum) (\d+)/,
-      (kind, nth) => rowIn(other, Number(nth), KIND_OF_FAULT[kind]))
-    ?? at(/^refused: kernel: Residual (\d+)/, nth => rowIn(other, Number(nth), 'obs'))
-    ?? at(/^refused: kernel: Datum/, () => rowIn(other, 1, 'target'))
-    ?? at(/^refused: no station/, () => station || !other ? null : rowIn(other, 1))
-    ?? (station ? inStation(at, station) : null);
+export function placeOf({ named, line, field, other }, station) {
+  if (!named) return null;
+  if (named.what === 'block') return blockIn(named, field, faultAt(line));
+  if (!named.what.startsWith('station')) return rowIn(named, other);
+  return station ? inStation(named, station) : null;
 }

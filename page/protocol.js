@@ -42,6 +42,14 @@ function showFile(/** @type {Input} */ { shown, digest }, /** @type {Element} */
   if (digest) ofProgram('code', text('digest', { digest }), line);
 }
 
+/** What a field file recorded of instrument and time, in the lines of the program. */
+function showRecorded(/** @type {Input} */ file, /** @type {Element} */ parent) {
+  const { recorded = [] } = originalOf(file);
+  if (recorded.length === 0) return;
+  const said = row('recorded', parent);
+  for (const line of recorded) ofProgram('samp', line.trim(), element('div', '', said));
+}
+
 /** What the user said of the job: the observer and the instrument in one row. */
 function showNotes(/** @type {Element} */ parent) {
   const { project, instrument, observer } = notes();
@@ -196,6 +204,7 @@ export function showProtocol(card, limits, parent, page = '', beside = []) {
   showNotes(facts);
   const files = row('files', facts);
   for (const file of allFilesOf(card)) showFile(file, files);
+  if (card.field) showRecorded(card.field, facts);
   showDate(facts);
   if (station) row('observed', facts).textContent = text('counts', countsOf(station.listed));
   if (card.field) showChanged(card.field, facts);

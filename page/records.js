@@ -140,6 +140,28 @@ export function recognizedIn(/** @type {string} */ rows) {
   return stations;
 }
 
+/**
+ * What the line of a refusal names by a number, as the call wrote it: a block of the field file, a
+ * row of the sheet or the table, a row of the sheet among those of targets, sets or observations, or
+ * a target or an observation of the station; its row among all, where it is counted by its kind; and
+ * of what stands in a file the place of its first byte, and that after its last.
+ * @typedef {{ what: 'block' | 'sheet row' | 'table row' | 'target' | 'set' | 'observation' |
+ *   'station target' | 'station observation', number: number, row?: number, first?: number,
+ *   end?: number }} Named
+ */
+
+/**
+ * What a refusal names, if anything.
+ * @returns {Named | undefined}
+ */
+export function namedIn(/** @type {string} */ text) {
+  const [named] = rowsIn(text);
+  if (!named) return undefined;
+  const of = (/** @type {string} */ number) => number === '' ? undefined : Number(number);
+  const { number, row, first, end } = named, what = /** @type {Named['what']} */ (named.what);
+  return { what, number: Number(number), row: of(row), first: of(first), end: of(end) };
+}
+
 // ---------------------------------------------------------------- lists
 
 /**

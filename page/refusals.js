@@ -102,8 +102,8 @@ export function showExplanation(explanation, parent, isOnPaper = false) {
  * @param {Element} parent
  */
 export function showFault(answer, parent, isOnPaper = false) {
-  const { status, line, field, other, station, explanation } = answer;
-  const place = status === REFUSED ? placeOf(line, field, other, station) : null;
+  const { status, station, explanation } = answer;
+  const place = status === REFUSED ? placeOf(answer, station) : null;
   if (place) showPlace(place, parent);
   if (explanation) showExplanation(explanation, parent, isOnPaper);
 }

@@ -585,6 +585,11 @@ export const TEXTS = {
   targetsRead: { en: 'Targets', de: 'Ziele', fr: 'Points visés' },
   changeNumbers: { en: 'Change the numbers', de: 'Anzahlen ändern', fr: 'Changer les nombres' },
   markSets: { en: 'Recognize the sets', de: 'Sätze erkennen', fr: 'Reconnaître les séries' },
+  recorded: {
+    en: 'Instrument and time, as recorded',
+    de: 'Instrument und Zeit, wie aufgezeichnet',
+    fr: 'Instrument et heure, tels qu’enregistrés',
+  },
   lineOfFile: {
     en: 'Line {line} of {name}, block {block}',
     de: 'Zeile {line} von {name}, Block {block}',

@@ -4,6 +4,7 @@ worked from the exact fractions of its sheet."""
 import unittest
 from dataclasses import replace
 
+import model
 from program import ProgramTest
 from test_compare import P7, agrees, judged, told
 from worked import refused
@@ -274,6 +275,11 @@ TOLD = {
     "a row of the standard deviation below": (1, 2, 1, 0, 1, 0),
 }
 
+# What is told of a print that agrees in another unit.
+UNIT_TOLD = {
+    "degrees with minutes and seconds after the point": model.UNIT_NOTES["dmmss"],
+}
+
 # Of a print that is refused as it is: an option, and what then is said and told of it.
 STATED: list[tuple[str, str, tuple[int, int] | str, tuple[int, ...] | None]] = [
     ("degrees with minutes and seconds after the point", "--dmmss", (1, 10), None),
@@ -304,7 +310,8 @@ def judged_print(name, table, said, counts, *options):
 class ClientsTest(ProgramTest):
     def test_a_print_agrees_or_its_first_fault_is_named(self):
         for name, table, said in PRINTS:
-            self.check([judged_print(name, table, said, TOLD.get(name))])
+            run = judged_print(name, table, said, TOLD.get(name))
+            self.check([replace(run, stderr=UNIT_TOLD.get(name, b"") + run.stderr)])
 
     def test_a_print_that_is_refused_as_it_is_agrees_by_an_option(self):
         tables = {name: table for name, table, _ in PRINTS}

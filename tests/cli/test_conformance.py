@@ -87,7 +87,7 @@ def notes_asked(asked):
     lines = [model.note_in(text, language) for text in asked.note]
     if None in lines:
         raise Mistake(asked.note)
-    return model.ReportNotes(asked.date, lines, asked.signature, language)
+    return model.ReportNotes(asked.date, lines, asked.signature, language, asked.pages)
 
 
 def command_line():
@@ -122,6 +122,7 @@ def command_line():
     parser.add_argument("--note", action="append", type=str.encode, default=[])
     parser.add_argument("--language", choices=model.LANGUAGES)
     parser.add_argument("--signature", action="store_true")
+    parser.add_argument("--pages", action="store_true")
     parser.add_argument("command", nargs="?")
     parser.add_argument("operands", nargs="*")
     return parser
@@ -147,23 +148,24 @@ def answer_of_all(asked, data, limits, fails, held, formed, notes):
     def of_name(name):
         return one(data, name=name, limits=limits, **held)
 
-    return model.of_all(data, limits, fails, of_name, joined)
+    return model.in_pages(model.of_all(data, limits, fails, of_name, joined), notes)
 
 
 def answer_of_table(asked, files, limits, fails, held, formed):
     """The same of all stations and of one table."""
     if len(asked.operands) != 2 or asked.json or asked.sha256:
         return (2, b"", b"")
-    form = model.TableForm(asked.unit, asked.columns)
+    form = model.form_in_part(model.TableForm(asked.unit, asked.columns))
     if asked.command == "compare":
         joined, one = model.line_by_line, partial(model.compared, within=asked.within)
     else:
-        joined, one = model.named_differences, partial(model.differences, **formed)
+        joined, one = model.named_differences, model.differences
 
     def of_part(name, part):
         return one(files[0], name, part, limits, form=form, **held)
 
-    return model.of_table_of_all(*files, limits, fails, of_part, joined)
+    found = model.of_table_of_all(*files, limits, fails, of_part, joined)
+    return model.written(found, model.NAMES_OF_ALL, **formed)
 
 
 # The commands that take a limit of residuals.
@@ -238,14 +240,16 @@ def model_answer(case):
         formed["as_json"] = asked.json
         return model.differences(files[0], station, files[1], limits, form, fails, **held, **formed)
     if asked.command == "report" and asked.csv:
-        return model.reported_rows(files[0], station, limits, fails[0], **held, **formed)
+        rows = model.reported_rows(files[0], station, limits, fails[0], **held, **formed)
+        path = asked.operands[0].encode()
+        return model.with_file_row(rows, path, files[0], **formed) if asked.sha256 else rows
     if asked.command == "report":
         names = [name.encode() for name in [asked.operands[0], asked.table] if name]
         units = asked.within, form
         stated = model.ReportTable(names[1], files[1], *units, fails[1]) if asked.table else None
         report = model.reported(files[0], names[0], station, limits, fails[0], stated, **held, notes=notes)
         recorded = partial(model.with_digests, report, *zip(names, files), language=notes.language)
-        return recorded() if asked.sha256 else report
+        return model.in_pages(recorded() if asked.sha256 else report, notes)
     units = asked.within, form
     return model.compared(files[0], station, files[1], limits, *units, fails, **held)
 

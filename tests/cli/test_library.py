@@ -265,6 +265,8 @@ int main(int count, char **words) {
         station_check_change(gsi, n, "1\n2=P8", 6, out, sizeof out, &length);
         station_check_digest(gsi, n, "gsi", 3, out, sizeof out, &length);
         station_check_explain("TwoC", 4, out, sizeof out, &length);
+        station_check_place("refused: kernel: TargetRow 1", 28, gsi, n, sheet, m, out, sizeof out, &length);
+        station_check_instrument(gsi, n, out, sizeof out, &length);
     }
     printf("%d %zu %d\n", count, mallinfo2().uordblks - taken, noted > 0);
     return 0;
@@ -530,6 +532,11 @@ class LibraryTest(ProgramTest):
         with self.assertRaises(self.module.Refused) as unknown:
             self.module.explain("Elephant")
         self.assertEqual("", unknown.exception.explanation())
+        # (the place of the third row, by hand)
+        sheet = b"sheet,1,P7,2\ntarget,,A,0\nobs,1,A,0,0\n"
+        place = self.module.place("refused: kernel: ObsRow 1", GIVEN["compare"][0], sheet)
+        self.assertEqual(("observation", 1, 3, 25, 36), place)
+        self.assertIsNone(self.module.place(apart.exception.line, GIVEN["compare"][0]))
         copy = pickle.loads(pickle.dumps(apart.exception))
         self.assertEqual((apart.exception.line, "", ""), (copy.line, copy.text, copy.note))
 
@@ -760,7 +767,7 @@ class LibraryTest(ProgramTest):
         if not shutil.which("nm"):
             self.skipTest("no nm is found")
         declared = set(re.findall(r"^uint8_t (\w+)\(", HEADER.read_text(), re.MULTILINE))
-        self.assertEqual(20, len(declared))
+        self.assertEqual(22, len(declared))
         shown = subprocess.run(["nm", "-D", LIBRARY], check=True, capture_output=True, text=True).stdout
         kinds = {name.partition("@")[0]: kind for kind, name in re.findall(r"(?:[0-9a-f]{16}| {16}) (\w) (\S+)", shown)}
         self.assertEqual(declared, {name for name, kind in kinds.items() if kind == "T"})
@@ -781,7 +788,7 @@ class LibraryTest(ProgramTest):
             heads = re.findall(rf"^{name}(\w+)(\(.*?)^\{{$", sources, re.DOTALL | re.MULTILINE)
             said.append({call: re.sub(r"\s+|,(?=\s*\))", "", head) for call, head in heads})
         calls, exports = said
-        self.assertEqual(20, len(calls))
+        self.assertEqual(22, len(calls))
         self.assertEqual(calls, exports)
 
 

@@ -38,7 +38,10 @@ WITHIN = {"LONGEST_FAULT_NAME", "LARGEST_RESIDUAL"}
 # A text that definitions say is printed; crates whose texts are none of a run (lines that are read, the
 # command line's, explanations, the page's own); and what is too short to tell.
 PRINTED = re.compile(r'codes "((?:[^"\\]|\\.)*)"')
-OF_NO_RUN = {"changed_lines", "gsi_word", "command_line", "command_run", "station_explain", "page_calls"}
+OF_NO_RUN = {
+    "changed_lines", "gsi_word", "command_line", "command_run", "station_explain", "page_calls",
+    "refusal_places",
+}
 SHORT = 6
 
 # A row of the page of tables: how directions are printed, what rounding explains in mgon, the limit if

@@ -1,7 +1,7 @@
 // The program's command line over the calls of the page: node program.mjs PAGE WORD..
 //
 // The worker's script and the module are taken out of the page as it is. Beside the program's commands,
-// `station FILE NAME` gives all of a station, `table FILE NAME TABLE` all of a table, `list-rows FILE` a list as rows, `explain-bytes FILE` explains the bytes of a file,
+// `station FILE NAME` gives all of a station, `table FILE NAME TABLE` all of a table, `list-rows FILE` a list as rows, `explain-bytes FILE` explains the bytes of a file, `place LINE FILE [OTHER]` tells where a refusal stands,
 // `digest FILE NAME` gives the line of its digest with this name, `change FILE N..` the copy with changes,
 // each `N` or `N=NAME`, `mark-rows FILE` what `mark` is told, with rows in the place of its notes and the line
 // of a refusal in that of the copy, and `time COMMAND WORD..` the milliseconds that the fastest of some runs takes. With
@@ -102,6 +102,8 @@ const answers = {
   digest: (file, name) => calls.digest(core, bytesOf(file), nameOf(name)),
   explain: (line = '') => calls.explain(core, nameOf(line)),
   'explain-bytes': file => calls.explain(core, bytesOf(file)),
+  place: (line, gsi, other) => calls.place(
+    core, nameOf(line), bytesOf(gsi), other ? bytesOf(other) : nameOf('')),
   time: async (command, ...rest) => {
     const took = [];
     for (let run = 0; run < RUNS; run++) {

@@ -194,6 +194,45 @@ def is_of_page(case):
     return not is_own and case.expected[0] < 2 and all(path.is_file() for path in paths)
 
 
+# What a refusal names, by the words before its number; and what has none, which is the first.
+NAMED = {
+    "block": r"block (\d+): ",
+    "sheet row": r"sheet row (\d+): |(no station)",
+    "table row": r"table row (\d+): ",
+    "target": r"kernel: Target(?:Row|Sum) (\d+)|kernel: (Datum)",
+    "set": r"kernel: Set(?:Row|Sum) (\d+)",
+    "observation": r"kernel: (?:ObsRow|Residual) (\d+)",
+    "station target": r"table: Missing (\d+)",
+    "station observation": r"adjust: Residual (\d+)",
+}
+KINDS = {"target": b"target", "set": b"set", "observation": b"obs"}
+
+
+def parts_with(data, is_one):
+    """Where the parts between line ends stand that are meant."""
+    found = [match.span() for match in re.finditer(rb"[^\r\n]*", data)]
+    return [span for span in dict.fromkeys(found) if is_one(data[slice(*span)])]
+
+
+def place_of(line, gsi, other):
+    """The row of the place of a refusal, where no field of the other file is in quotes."""
+    titles = "what,number,row,first,end\n"
+    for what, words in NAMED.items():
+        if not (match := re.match("refused: (?:" + words + ")", line)):
+            continue
+        number = int(match[1] or 1)
+        rows = [(nth + 1, *span) for nth, span in enumerate(parts_with(other, len))]
+        if what in KINDS:
+            rows = [row for row in rows if other[row[1] :].startswith(KINDS[what] + b",")]
+        elif what == "block":
+            rows = [("", *span) for span in parts_with(gsi, lambda part: part.strip(b" "))]
+        else:
+            rows = [("", first, end) for _, first, end in rows if "row" in what]
+        row = rows[number - 1] if 0 < number <= len(rows) else ("", "", "")
+        return titles + ",".join(map(str, [what, number, *row])) + "\n"
+    return titles
+
+
 def cases_of_page():
     """The cases whose files can be handed in."""
     return [case for case in map(as_call, run.cases()) if is_of_page(case)]
@@ -464,6 +503,45 @@ class PageCallsTest(TimedTest):
                 self.assertEqual(*answers)
                 self.assertEqual(0, answers[0][0])
 
+    def test_each_refusal_stands_at_its_line_or_its_row(self):
+        named = set()
+        for case in cases_of_page():
+            paths = [case.folder / word for word in case.args if "." in word]
+            if case.expected[0] != 1 or not paths:
+                continue
+            gsi, *others = paths
+            line, other = refusal_in(case.expected[2]), others[0].read_bytes() if others else b""
+            if b'"' in other or other.startswith(b"\xef\xbb\xbf"):
+                continue
+            with self.subTest(case.name):
+                expected = place_of(line, gsi.read_bytes(), other)
+                status, text, _ = answer_to([*self.command(), "place", line, *paths[:2]])
+                self.assertEqual((0, expected), (status, text.decode()))
+            named.add(expected.splitlines()[-1].partition(",")[0])
+        self.assertLessEqual({"block", "sheet row", "table row", *KINDS}, named)
+
+    def test_the_place_of_a_row_with_quotes_and_a_byte_order_mark(self):
+        sheet = b'\xef\xbb\xbf"sheet",1,S1,2\r\n\r\n"tar""get",,A,0\n"target",,"B\n",0\ntarget,,C,0'
+        table = b'A;"1\n";0\nB;2\n'
+        rows = {
+            "refused: sheet row 1: Version": "sheet row,1,,3,17",
+            "refused: sheet row 3: Number": "sheet row,3,,37,53",
+            "refused: kernel: TargetRow 2": "target,2,4,54,65",
+            "refused: kernel: TargetRow 3": "target,3,,,",
+            "refused: kernel: Datum": "target,1,3,37,53",
+        }
+        with tempfile.TemporaryDirectory() as folder:
+            path = Path(folder) / "sheet.csv"
+            path.write_bytes(sheet)
+            for line, row in rows.items():
+                with self.subTest(line):
+                    answer = answer_to([*self.command(), "place", line, EXAMPLES[0], path])
+                    self.assertEqual(f"what,number,row,first,end\n{row}\n".encode(), answer[1])
+            # (by semicolons row 2 begins after the quotes, by commas within them)
+            path.write_bytes(table)
+            answer = answer_to([*self.command(), "place", "refused: table row 2: Form", EXAMPLES[0], path])
+            self.assertEqual(b"what,number,row,first,end\ntable row,2,,,\n", answer[1])
+
     def test_a_text_without_the_name_of_a_fault_is_refused(self):
         for line in ["refused: kernel: Elephant 2", " ", "TwoC\n"]:
             with self.subTest(line):
@@ -497,6 +575,7 @@ class PageCallsTest(TimedTest):
             ["compare", *noted],
             ["differences", *noted],
             ["explain", "TwoC"],
+            ["place", "refused: block 2: OneFace", gsi],
             ["mark", job],
             ["mark-rows", job],
             ["comma-rows", gsi, "P7"],

@@ -742,6 +742,15 @@ class PageInBrowserTest(TimedTest):
         self.state_name(page, "P70")
         self.assertEqual([["bad", "plain.csv"], ["read", "Station P70"]], [card[:2] for card in self.cards(page)])
 
+    def test_a_protocol_tells_what_the_file_recorded_of_instrument_and_time(self):
+        first, others = P7_FIELD.read_bytes().split(b"\n", 1)
+        words = b" 12....+0000000000345678 17....+0000000001022026"
+        page = self.page(self.file("recorded.gsi", first.rstrip() + words + b"\n" + others))
+        page.js("onbeforeprint()")
+        said = page.texts("#protocol .facts dd div samp")
+        lines = ["12 serial number    0000000000345678", "17 date             0000000001022026"]
+        self.assertEqual(lines, [line for line in said if line[:2] in ("12", "17")])
+
     def test_each_station_of_a_job_is_recognized_by_its_set_up_line(self):
         detail = b"*110062+00000000000000P8 88..10+0000000000001500\n*110063+00000000000000P7 21.322"
         detail += b"+0000000000000023 22.322+0000000009987405\n"
@@ -1158,7 +1167,8 @@ class PageInBrowserTest(TimedTest):
             status, said, told = model.compared(P7_FIELD.read_bytes(), b"P7", degrees, form=model.TableForm(unit))
             with self.subTest(unit):
                 self.assertEqual(["good" if status == 0 else "bad"], [card[0] for card in self.cards(page)])
-                self.assertEqual((said + told).decode().strip(), page.text(".exact samp"))
+                # The line of the verdict, and then the note, which names the unit in which it agrees.
+                self.assertCountEqual((said + told).decode().splitlines(), page.texts(".exact samp"))
                 option = "" if unit == "gon" else f"--{unit} "
                 self.assertEqual(f"station_check compare {option}station_p7.gsi P7 degrees.csv", page.text(".exact code"))
                 self.assertEqual(place, page.js("document.querySelector('#inputs select.unit').selectedIndex"))

@@ -4,3 +4,4 @@ pub mod StationLaws
 pub mod FileLaws
 pub mod PartLaws
 pub mod TableLaws
+pub mod NoteLaws

@@ -5,6 +5,7 @@ use Rattle.std.proofs.Common.{length, refl, subst, sym, true}
 use Rattle.std.specs.Prelude.{if◌then◌else◌, nat_lt}
 use Rattle.std.proofs.lemmas.Bool.Decides.{nat_tests}
 use Rattle.adjust_kernel.specs.Stations.{StationValue}
+use Rattle.book_answers.specs.Columns.{form_in_part}
 use Rattle.book_answers.specs.OfStations.{HasText}
 use Rattle.book_answers.specs.PartTexts.{LacksPart, LacksText, RefusesPart, SaysPart}
 use Rattle.book_answers.specs.PartTexts.{SaysText, in_whole}
@@ -40,6 +41,7 @@ use Rattle.station_tables.specs.Lines.{lines_of}
 use Rattle.station_tables.specs.Parts.{part_of}
 use Rattle.table_answers.proofs.Given.{tells_by_input}
 use Rattle.table_answers.specs.OfInput.{SaysOfInput}
+use Rattle.table_answers.specs.Refusing.{HasNoAnswerOf}
 use Rattle.table_answers.specs.Saying.{SaysDifferences}
 
 module _ (form : TableForm) (station : StationValue) (residual : ℕ) (bytes : List ℕ) where
@@ -76,6 +78,14 @@ module _ (form : TableForm) (station : StationValue) (residual : ℕ) (bytes : L
       let past : LONGEST_TABLE < length bytes = grind (arith, nat_tests, e) in
       absurd (omega (arith, past, h.states.short))
 
+-- Where bytes are no table, nothing is answered of them, whatever is asked for.
+pub lacks_table : (form : TableForm) (text : PartText) (limits : ResultLimits)
+    (its : SurveyedStation) (bytes : List ℕ) (fault : CompareFault)
+    → ((residual : ℕ) → HasNoAnswerOf form its.station residual bytes fault)
+    → LacksText form text limits its bytes fault
+lacks_table form (Comparison within) limits its bytes fault none = none limits.residual within
+lacks_table form (Differences rows) limits its bytes fault none = none limits.residual
+
 module _ (limits : ResultLimits) (table : List ℕ) where
   no_file : (form : TableForm) (station : StationValue) (residual : ℕ) (bytes : List ℕ)
       (within : Option ℕ) (fault : CompareFault)
@@ -95,7 +105,8 @@ module _ (limits : ResultLimits) (table : List ℕ) where
   pub no_file_part : (asked : PartAsked) (its : SurveyedStation) (fault : CompareFault)
       → LacksPart asked limits its (lines_of table) fault → IsOfNoFile {T = ℕ} (Err fault)
   no_file_part asked its fault lacks =
-      no_file_text asked.form asked.text its (part_of its.station.name (lines_of table)) fault lacks
+      no_file_text (form_in_part asked.form) asked.text its
+      (part_of its.station.name (lines_of table)) fault lacks
 
 module _ (limits : ResultLimits) (file : FileAnswers) (table : List ℕ) where
   -- What is said of a station and of its part is answered of both where they alone are asked for,
@@ -125,7 +136,7 @@ module _ (limits : ResultLimits) (file : FileAnswers) (table : List ℕ) where
       → HasText (λ s. SaysPart asked limits s (lines_of table)) limits.residual its own
       → TellsPart asked limits file table its.station.name (Ok own)
   tells_part asked its own station has =
-      tells_text asked.form asked.text its own station has.0 has.1
+      tells_text (form_in_part asked.form) asked.text its own station has.0 has.1
 
   -- and so is why nothing is.
   lacks_text : (form : TableForm) (text : PartText) (its : SurveyedStation) (fault : CompareFault)
@@ -152,7 +163,8 @@ module _ (limits : ResultLimits) (file : FileAnswers) (table : List ℕ) where
       → IsRefusedPart asked limits file table its.station.name refusal
   refuses_part asked its refusal station refuses = record {
     fault = refuses.fault;
-    tells = lacks_text asked.form asked.text its refuses.fault station refuses.lacks;
+    tells = lacks_text (form_in_part asked.form) asked.text its refuses.fault station
+        refuses.lacks;
     hint = subst (λ hint. IsHintOf limits file its.station.name refuses.fault hint)
         (sym refuses.hint_is)
         (hinted_by_station limits file its.station.name {T = ℕ} its (Err refuses.fault) station
@@ -206,5 +218,5 @@ module _ (lines : List (List ℕ)) (name : List ℕ) (reader : ReaderChange) (ou
         (table : List ℕ) (fault : CompareFault) → LacksPart asked limits its (lines_of table) fault
         → IsLeftAs (table_left (in_whole lines name fault)) reader
     table_left_by asked limits its table fault lacks =
-        by_text asked.form asked.text limits its (part_of its.station.name (lines_of table)) fault
-        lacks
+        by_text (form_in_part asked.form) asked.text limits its
+        (part_of its.station.name (lines_of table)) fault lacks

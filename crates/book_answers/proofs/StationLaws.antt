@@ -5,10 +5,12 @@ use Rattle.std.proofs.Common.{take}
 use Rattle.std.proofs.Common.{true}
 use Rattle.std.proofs.lemmas.List.{append-nil, length-take-le, take_more}
 use Rattle.std.proofs.lemmas.Bool.{ne_eqb}
+use Rattle.std.proofs.lemmas.List.Folds.{concat-append}
 use Rattle.std.proofs.lemmas.Option.{get_or_from_slice_get, slice_get_within}
-use Rattle.std.specs.List.{AllZip, zip}
+use Rattle.std.specs.List.{AllZip, concat, zip}
 use Rattle.book_answers.proofs.TextLaws.{first_alone, more_pieces}
 use Rattle.book_answers.specs.Answers.{names_of}
+use Rattle.book_answers.specs.Notes.{AreNotes}
 use Rattle.book_answers.specs.OfStations.{HasText, IsOneText}
 use Rattle.book_answers.specs.Together.{head, piece, pieces}
 use Rattle.book_answers.specs.declared.arrangement.Arrangement.{Arrangement}
@@ -84,3 +86,24 @@ module _ (Says : SurveyedStation → List ℕ → Type 0) (residual : ℕ) (a : 
             ∙ ap (λ (t : List ℕ). head a ++ t)
             (sym (pieces_more xs before.texts its own before.each));
       })
+
+-- What one more station is told of comes after the notes of those before it.
+pub note_more : (IsNote : SurveyedStation → List ℕ → Type 0) (stations : List SurveyedStation)
+    (place : ℕ) (its : SurveyedStation) (old new note : List ℕ)
+    → slice_get stations place ≡ Some its → AreNotes IsNote (take place stations) old
+    → IsNote its note → new ≡ old ++ note → AreNotes IsNote (take (place + 1) stations) new
+note_more IsNote stations place its old new note here before is put =
+    let xs = take place stations in
+    let more : take (place + 1) stations ≡ xs ++ its ∷ [] =
+    take_more stations place its (slice_get_within stations place its here)
+    ∙ ap (λ (y : SurveyedStation). xs ++ y ∷ []) (get_or_from_slice_get stations place its its here)
+    in
+    let one : concat (note ∷ []) ≡ note = append-nil note in
+    subst (λ ys. AreNotes IsNote ys new) (sym more) (record {
+      of_each = before.of_each ++ note ∷ [];
+      each = all_more IsNote xs before.of_each its note before.each is;
+      notes_are = put
+          ∙ ap (λ (t : List ℕ). t ++ note) before.notes_are
+          ∙ ap (λ (t : List ℕ). concat before.of_each ++ t) (sym one)
+          ∙ sym (concat-append before.of_each (note ∷ []));
+    })

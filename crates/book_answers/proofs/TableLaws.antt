@@ -3,7 +3,7 @@ use Rattle.std.proofs.Common.{◌≡◌, ◌≤◌, ◌∙◌, ℕ, List, None, 
 use Rattle.std.proofs.Common.{length}
 use Rattle.std.proofs.Common.{ap, refl, subst, sym}
 use Rattle.std.proofs.Common.{arith, false, true}
-use Rattle.std.specs.Prelude.{Bool, MatchResult, if◌then◌else◌, nat_lt}
+use Rattle.std.specs.Prelude.{Bool, IfOk, MatchResult, if◌then◌else◌, nat_lt}
 use Rattle.std.proofs.lemmas.Bool.Decides.{nat_tests}
 use Rattle.station_answers.proofs.AnswerLaws.{none_by_file}
 use Rattle.station_check.specs.Answerable.{IsOfFile}
@@ -15,6 +15,7 @@ use Rattle.station_compare.specs.Faults.{of_file}
 use Rattle.book_answers.proofs.FileLaws.{first_of_each, states_each}
 use Rattle.book_answers.proofs.PartLaws.{file_left_by, no_file_part, refuses_part, table_left_by}
 use Rattle.book_answers.proofs.PartLaws.{tells_part}
+use Rattle.book_answers.specs.Notes.{AreNotes, IsPartNote}
 use Rattle.book_answers.specs.OfStations.{IsFirstAt, IsOneText, IsWhyNoText}
 use Rattle.book_answers.specs.PartTexts.{RefusesPart, SaysPart}
 use Rattle.book_answers.specs.Refusals.{fault_of, of_no_one}
@@ -22,6 +23,7 @@ use Rattle.book_answers.specs.TableTexts.{IsOfBytes, IsOfInput, IsWhyOfLines, st
 use Rattle.book_answers.specs.Tables.{IsRefusedPart, IsWhyNoTextOf, IsWhyNoTexts, StatesTexts}
 use Rattle.book_answers.specs.Tables.{TellsPart}
 use Rattle.book_answers.specs.Tables.{TellsTexts, arrangement_of}
+use Rattle.book_answers.specs.declared.answering.NotedText.{NotedText}
 use Rattle.book_answers.specs.declared.part.PartAsked.{PartAsked}
 use Rattle.book_answers.specs.declared.refusal.StationRefusal.{StationRefusal}
 use Rattle.byte_ends.specs.Came.{ExplainsInput, IsLeftAs, IsReadOut, Leaves}
@@ -83,10 +85,10 @@ module _ (asked : PartAsked) (limits : ResultLimits) (file : FileAnswers)
                 first;
           })
 
-      of_bytes : (r : Result (List ℕ) StationRefusal)
+      of_bytes : (r : Result NotedText StationRefusal)
           → IsOfBytes asked limits stations unchecked table r
           → TellsTexts asked limits file stated r
-      of_bytes (Ok text) h = record {
+      of_bytes (Ok told) h = record {
         table = table;
         whole = whole;
         no_stray = record { stations = stations; survey = survey; none = h.0 };
@@ -95,13 +97,14 @@ module _ (asked : PartAsked) (limits : ResultLimits) (file : FileAnswers)
             (λ its. RefusesPart asked limits its (lines_of table))
             (TellsPart asked limits file table) (IsRefusedPart asked limits file table)
             (tells_part limits file table asked) (refuses_part limits file table asked)
-            (arrangement_of asked.text) text some h.1;
+            (arrangement_of asked.text) told.text.items some h.1;
+        noted = record { stations = stations; survey = survey; notes_are = h.2 };
       }
       of_bytes (Err refused) (inl memory) = rw memory refl
       of_bytes (Err refused) (inr h) = why (first_stray stations (lines_of table)) refl refused h
 
     of_input : (input : Input) → input_within LONGEST_TABLES stated ≡ input
-        → (r : Result (List ℕ) StationRefusal) → IsOfInput asked limits stations unchecked input r
+        → (r : Result NotedText StationRefusal) → IsOfInput asked limits stations unchecked input r
         → TellsTexts asked limits file stated r
     of_input (Ended table) e r h = of_bytes table e r h
     of_input (BrokeOff bytes) e r (inl is) = rw is (bytes, e, refl)
@@ -110,19 +113,13 @@ module _ (asked : PartAsked) (limits : ResultLimits) (file : FileAnswers)
     of_input RanPast e r (inr is) = rw is refl
 
     -- What is answered of stations and of what comes of the table's reader is answered of the file.
-    pub told_of_table : (r : Result (List ℕ) StationRefusal)
+    pub told_of_table : (r : Result NotedText StationRefusal)
         → IsOfInput asked limits stations unchecked (input_within LONGEST_TABLES stated) r
         → TellsTexts asked limits file stated r
     told_of_table r h = of_input (input_within LONGEST_TABLES stated) refl r h
 
 module _ (asked : PartAsked) (limits : ResultLimits) (stations : List SurveyedStation)
     (unchecked : ℕ) where
-  -- What is answered, of a text of any type.
-  abbrev pub Answers : {T : Type 0} → (T → List ℕ) → Input → Result T StationRefusal → Type 0
-  Answers items input r = MatchResult r
-      (λ text. IsOfInput asked limits stations unchecked input (Ok (items text)))
-      (λ refused. IsOfInput asked limits stations unchecked input (Err refused))
-
   -- How a refusal of the bytes leaves the field file's reader,
   gsi_by_lines : (table : List ℕ) (stray : Option ℕ) (refused : StationRefusal) (gsi : ReaderChange)
       → IsReadOut gsi
@@ -155,61 +152,47 @@ module _ (asked : PartAsked) (limits : ResultLimits) (stations : List SurveyedSt
   gsi_by_input RanPast refused gsi out (inl is) = let e : refused ≡ of_no_one (Table TooLong) = cc in rw e out
   gsi_by_input RanPast refused gsi out (inr is) = let e : refused ≡ of_no_one Memory = cc in rw e out.unfailed
 
-  pub gsi_left : {T : Type 0} (items : T → List ℕ) (input : Input) (r : Result T StationRefusal)
-      (gsi : ReaderChange) → IsReadOut gsi → Answers items input r
+  pub gsi_left : (input : Input) (r : Result NotedText StationRefusal) (gsi : ReaderChange)
+      → IsReadOut gsi → IsOfInput asked limits stations unchecked input r
       → Leaves field_file_left (fault_of r) gsi
-  gsi_left items input (Ok text) gsi out h = out
-  gsi_left items input (Err refused) gsi out h = gsi_by_input input refused gsi out h
+  gsi_left input (Ok told) gsi out h = out
+  gsi_left input (Err refused) gsi out h = gsi_by_input input refused gsi out h
 
   -- and the table's.
-  pub bytes_left : {T : Type 0} (items : T → List ℕ) (table : List ℕ) (r : Result T StationRefusal)
-      (reader : ReaderChange) → IsReadOut reader → MatchResult r
-      (λ text. IsOfBytes asked limits stations unchecked table (Ok (items text)))
-      (λ refused. IsOfBytes asked limits stations unchecked table (Err refused))
+  pub bytes_left : (table : List ℕ) (r : Result NotedText StationRefusal) (reader : ReaderChange)
+      → IsReadOut reader → IsOfBytes asked limits stations unchecked table r
       → Leaves table_left (fault_of r) reader
-  bytes_left items table (Ok text) reader out h = out
-  bytes_left items table (Err refused) reader out (inl is) = rw is out.unfailed
-  bytes_left items table (Err refused) reader out (inr h) =
+  bytes_left table (Ok told) reader out h = out
+  bytes_left table (Err refused) reader out (inl is) = rw is out.unfailed
+  bytes_left table (Err refused) reader out (inr h) =
       table_by_lines table (first_stray stations (lines_of table)) refused reader out h
 
-  -- What is answered of stations and of the table is answered of the file.
-  pub told_of_all : {T : Type 0} (items : T → List ℕ) (file : FileAnswers)
-      → IsNotedSurvey limits.faces file stations unchecked → AreLimits limits.faces
-      → 1 ≤ length stations → (stated : Told) (r : Result T StationRefusal)
-      → Answers items (input_within LONGEST_TABLES stated) r
-      → MatchResult r (λ text. StatesTexts asked limits file stated (items text))
-      (IsWhyNoTexts asked limits file stated)
-  told_of_all items file noted small some stated (Ok text) h =
-      told_of_table asked limits file stations unchecked noted small some stated (Ok (items text)) h
-  told_of_all items file noted small some stated (Err refused) h =
-      told_of_table asked limits file stations unchecked noted small some stated (Err refused) h
-
   -- What is answered of stations and of the lines of a table is answered of its bytes.
-  pub of_lines : {T : Type 0} (items : T → List ℕ) (table : List ℕ) (lines : List (List ℕ))
-      → lines ≡ lines_of table → first_stray stations lines ≡ None → (r : Result T StationRefusal)
+  pub of_lines : (table : List ℕ) (lines : List (List ℕ)) → lines ≡ lines_of table
+      → first_stray stations lines ≡ None → (r : Result NotedText StationRefusal)
       → MatchResult r
-      (λ text. IsOneText (λ its. SaysPart asked limits its lines) limits.residual
-      (arrangement_of asked.text) stations (items text))
+      (λ told. IsOneText (λ its. SaysPart asked limits its lines) limits.residual
+      (arrangement_of asked.text) stations told.text.items)
       (IsWhyNoText (λ its. SaysPart asked limits its lines)
       (λ its. RefusesPart asked limits its lines) limits.residual stations)
-      → MatchResult r
-      (λ text. IsOfBytes asked limits stations unchecked table (Ok (items text)))
-      (λ refused. IsOfBytes asked limits stations unchecked table (Err refused))
-  of_lines items table lines is none (Ok text) one =
+      → IfOk r (λ told. AreNotes (IsPartNote asked.form lines) stations told.notes.items)
+      → IsOfBytes asked limits stations unchecked table r
+  of_lines table lines is none (Ok told) one noted =
       let same : first_stray stations (lines_of table) ≡ None =
       ap (first_stray stations) (sym is) ∙ none in (
         same,
         subst (λ ls. IsOneText (λ its. SaysPart asked limits its ls) limits.residual
-            (arrangement_of asked.text) stations (items text)) is one,
+            (arrangement_of asked.text) stations told.text.items) is one,
+        subst (λ ls. AreNotes (IsPartNote asked.form ls) stations told.notes.items) is noted,
       )
-  of_lines items table lines is none (Err refused) (inl memory) = inl memory
-  of_lines items table lines is none (Err refused) (inr first) =
+  of_lines table lines is none (Err refused) (inl memory) noted = inl memory
+  of_lines table lines is none (Err refused) (inr first) noted =
       let same : first_stray stations (lines_of table) ≡ None =
       ap (first_stray stations) (sym is) ∙ none in
       inr (rw same (subst (λ ls. IsFirstAt (λ its. SaysPart asked limits its ls)
       (λ its. RefusesPart asked limits its ls) limits.residual stations refused) is first))
 
-  -- A line that is of no station is the refusal of the bytes.
+  -- A line that is of no one station is the refusal of the bytes.
   pub of_stray : (table : List ℕ) (lines : List (List ℕ)) (number : ℕ) (refused : StationRefusal)
       → lines ≡ lines_of table → first_stray stations lines ≡ Some number
       → refused ≡ stray_refusal stations unchecked number

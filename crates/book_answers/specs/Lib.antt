@@ -3,6 +3,8 @@ pub mod Together
 pub mod Refusals
 pub mod Answers
 pub mod Runs
+pub mod Columns
+pub mod Notes
 pub mod PartTexts
 pub mod Tables
 -- The inside.

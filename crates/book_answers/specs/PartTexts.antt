@@ -1,5 +1,6 @@
 -- What is answered of a station and of its part of a table, before it is said of the file.
 use Rattle.std.specs.Prelude.{◌≡◌, ℕ, List, Option, Ok, Err}
+use Rattle.book_answers.specs.Columns.{column_in_whole, form_in_part}
 use Rattle.book_answers.specs.declared.part.PartAsked.{PartAsked}
 use Rattle.book_answers.specs.declared.part.PartText.{PartText}
 use Rattle.book_answers.specs.declared.part.PartText.TheVariants.{Comparison, Differences}
@@ -20,10 +21,12 @@ use Rattle.station_tables.specs.Parts.{line_of_row, part_of}
 use Rattle.table_answers.specs.Refusing.{HasNoAnswerOf}
 
 -- A fault of the part of the station of this name in these lines, as it is told: its row by the
--- line of the whole table.
+-- line of the whole table, its columns by those of the whole.
 abbrev pub in_whole : List (List ℕ) → List ℕ → CompareFault → CompareFault
 in_whole lines name (Table (table.Row row kind)) =
     Table (table.Row (line_of_row name lines row) kind)
+in_whole lines name (Table (table.Columns first second)) =
+    Table (table.Columns (column_in_whole first) (column_in_whole second))
 in_whole lines name fault = fault
 
 -- The line of a table that agrees with a station, within this limit, if one is stated.
@@ -67,15 +70,16 @@ LacksText form (Differences rows) limits its bytes fault =
 -- The same of a station and of its part of these lines.
 abbrev pub SaysPart : PartAsked → ResultLimits → SurveyedStation → List (List ℕ) → List ℕ → Type 0
 SaysPart asked limits its lines own =
-    SaysText asked.form asked.text limits its (part_of its.station.name lines) own
+    SaysText (form_in_part asked.form) asked.text limits its (part_of its.station.name lines) own
 
 abbrev pub LacksPart : PartAsked → ResultLimits → SurveyedStation → List (List ℕ) → CompareFault
     → Type 0
 LacksPart asked limits its lines fault =
-    LacksText asked.form asked.text limits its (part_of its.station.name lines) fault
+    LacksText (form_in_part asked.form) asked.text limits its (part_of its.station.name lines)
+    fault
 
--- A refusal of a station: why nothing is answered of its part, told by the lines of the whole table,
--- and the hint of that.
+-- A refusal of a station: why nothing is answered of its part, told by the lines and columns of the
+-- whole table, and the hint of that.
 pub record RefusesPart (asked : PartAsked) (limits : ResultLimits) (its : SurveyedStation)
     (lines : List (List ℕ)) (refusal : Refusal) : Type 0 where
   pub fault : CompareFault

@@ -1,9 +1,12 @@
 -- What is answered of all stations of a field file and of a table of their directions: of each what
 -- is answered of it alone and of its part of the table.
-use Rattle.std.specs.Prelude.{◌≡◌, ℕ, false, List, [], Option, Some, None, Result, Ok, Err}
+use Rattle.std.specs.Prelude.{◌≡◌, ℕ, false, List, [], Option, Some, None, Result, Ok, Err, IfOk}
 use Rattle.book_answers.specs.Answers.{IsFirstOfEach, IsRefusedAlone, StatesEach}
+use Rattle.book_answers.specs.Columns.{form_in_part}
+use Rattle.book_answers.specs.Notes.{AreNotes, IsPartNote}
 use Rattle.book_answers.specs.PartTexts.{in_whole}
 use Rattle.book_answers.specs.Refusals.{fault_of, of_no_one}
+use Rattle.book_answers.specs.declared.answering.NotedText.{NotedText}
 use Rattle.book_answers.specs.declared.arrangement.Arrangement.{Arrangement}
 use Rattle.book_answers.specs.declared.arrangement.Arrangement.TheVariants.{Lines}
 use Rattle.book_answers.specs.declared.arrangement.Arrangement.TheVariants.{NamedDifferences}
@@ -59,7 +62,7 @@ TellsText form (Differences rows) limits file stated name r =
 abbrev pub TellsPart : PartAsked → ResultLimits → FileAnswers → List ℕ → List ℕ
     → Result (List ℕ) CompareFault → Type 0
 TellsPart asked limits file table name r =
-    TellsText asked.form asked.text limits file (told_part table name) name r
+    TellsText (form_in_part asked.form) asked.text limits file (told_part table name) name r
 
 -- how the texts make one: lines, or rows behind the names of stations below titles
 abbrev pub arrangement_of : PartText → Arrangement
@@ -67,7 +70,7 @@ arrangement_of (Comparison within) = Lines
 arrangement_of (Differences rows) = NamedDifferences rows
 
 -- A refusal of the station of this name: what it alone is refused with, with the hint of that, but
--- that a row is counted by the lines of the whole table.
+-- that rows and columns are counted by those of the whole table.
 pub record IsRefusedPart (asked : PartAsked) (limits : ResultLimits) (file : FileAnswers)
     (table name : List ℕ) (refusal : Refusal) : Type 0 where
   pub fault : CompareFault
@@ -75,23 +78,33 @@ pub record IsRefusedPart (asked : PartAsked) (limits : ResultLimits) (file : Fil
   pub hint : IsHintOf limits file name fault refusal.hint
   pub told : refusal.fault ≡ in_whole (lines_of table) name fault
 
--- Each line of the table in which something stands, but the first, is of a station of the file.
+-- Each line of the table in which something stands, but one of titles, is of one station of the
+-- file.
 pub record HasNoStray (limits : ResultLimits) (file : FileAnswers) (table : List ℕ) : Type 0 where
   pub stations : List SurveyedStation
   pub survey : IsSurvey limits.faces file stations
   pub none : first_stray stations (lines_of table) ≡ None
 
--- This is the one text of all stations of the file and of the table, which was read to its end.
+-- These are the notes of all stations of the file and of their parts, in their order.
+pub record HasNotes (form : TableForm) (limits : ResultLimits) (file : FileAnswers)
+    (table notes : List ℕ) : Type 0 where
+  pub stations : List SurveyedStation
+  pub survey : IsSurvey limits.faces file stations
+  pub notes_are : AreNotes (IsPartNote form (lines_of table)) stations notes
+
+-- This is the one text of all stations of the file and of the table, which was read to its end, and
+-- these are its notes.
 pub record StatesTexts (asked : PartAsked) (limits : ResultLimits) (file : FileAnswers)
-    (stated : Told) (text : List ℕ) : Type 0 where
+    (stated : Told) (told : NotedText) : Type 0 where
   pub table : List ℕ
   pub whole : input_within LONGEST_TABLES stated ≡ Ended table
   pub no_stray : HasNoStray limits file table
   pub states : StatesEach (TellsPart asked limits file table) limits (arrangement_of asked.text)
-      file text
+      file told.text.items
+  pub noted : HasNotes asked.form limits file table told.notes.items
 
--- The table was read to its end, and this is the first of its lines after the first that is of no
--- station, which is told with the stations of the file.
+-- The table was read to its end, and this is the first of its lines, but one of titles, that is of
+-- no one station, which is told with the stations of the file.
 pub record IsStray (limits : ResultLimits) (file : FileAnswers) (stated : Told) (number : ℕ)
     (hint : List ℕ) : Type 0 where
   pub table : List ℕ
@@ -103,7 +116,7 @@ pub record IsStray (limits : ResultLimits) (file : FileAnswers) (stated : Told) 
   pub hint_is : hint ≡ stations_hint stations unchecked
 
 -- Why no text is answered, of no one station: a fault of the file, or that it has no station,
--- whichever is asked for; a read of the table failed; it is too long; a line is of no station.
+-- whichever is asked for; a read of the table failed; it is too long; a line is of no one station.
 abbrev pub IsRefusedWhole : ResultLimits → FileAnswers → Told → CompareFault → List ℕ → Type 0
 IsRefusedWhole limits file stated (File fault) hint =
     (name : List ℕ) → IsRefusedAlone limits file name (record { fault = File fault; hint = hint })
@@ -116,7 +129,7 @@ IsRefusedWhole limits file stated (Table (Row number Unknown)) hint =
 IsRefusedWhole limits file stated Memory hint = hint ≡ []
 IsRefusedWhole limits file stated fault hint = ⊥
 
--- The table was read to its end, each line is of a station, and the one of this name is the first
+-- The table was read to its end, each line is of one station, and the one of this name is the first
 -- that is refused.
 pub record IsRefusedFirst (asked : PartAsked) (limits : ResultLimits) (file : FileAnswers)
     (stated : Told) (name : List ℕ) (refusal : Refusal) : Type 0 where
@@ -138,16 +151,22 @@ abbrev pub IsWhyNoTexts : PartAsked → ResultLimits → FileAnswers → Told �
 IsWhyNoTexts asked limits file stated refused =
     IsWhyNoTextOf asked limits file stated refused.station refused.refusal
 
--- What is answered: the one text, or why there is none.
+-- What is answered: the one text and its notes, or why there is none.
 abbrev pub TellsTexts : PartAsked → ResultLimits → FileAnswers → Told
-    → Result (List ℕ) StationRefusal → Type 0
-TellsTexts asked limits file stated (Ok text) = StatesTexts asked limits file stated text
+    → Result NotedText StationRefusal → Type 0
+TellsTexts asked limits file stated (Ok told) = StatesTexts asked limits file stated told
 TellsTexts asked limits file stated (Err refused) = IsWhyNoTexts asked limits file stated refused
 
--- A run: all that it promises of its answer, and how the text was written.
-pub record IsRunOfTable {A : Type 0} (asked : PartAsked) (limits : ResultLimits)
-    (gsi table : ReaderChange) (r : Result A StationRefusal) (out : WriterChange) : Type 0 where
-  pub answer : Result (List ℕ) StationRefusal
+-- the notes of an answer
+abbrev pub notes_of : NotedText → List ℕ
+notes_of told = told.notes.items
+
+-- A run: all that it promises of its answer, how the text was written, and that this answer, with
+-- its notes, is given where it was.
+pub record IsRunOfTable (asked : PartAsked) (limits : ResultLimits) (gsi table : ReaderChange)
+    (r : Result NotedText StationRefusal) (out : WriterChange) : Type 0 where
+  pub answer : Result NotedText StationRefusal
   pub tells : ReadsBoth gsi table (fault_of answer)
       (λ file stated. TellsTexts asked limits file stated answer)
-  pub printed : PrintsAnswer (λ text. text) (of_no_one Write) answer r out
+  pub printed : PrintsAnswer (λ told. told.text.items) (of_no_one Write) answer r out
+  pub given : IfOk r (λ told. answer ≡ Ok told)

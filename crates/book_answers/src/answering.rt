@@ -1,7 +1,9 @@
 //! The one text of all stations of a field file: answered, written, and run as a command.
-ghost use Rattle.std.specs.Prelude.{◌≡◌, ⊤, MatchResult, OnOk};
+ghost use Rattle.std.specs.Prelude.{◌≡◌, ⊤, IfOk, MatchResult, OnOk};
 ghost use Rattle.book_answers.specs.Answers.{IsRefusedOfAll, StatesAll};
-ghost use Rattle.book_answers.specs.OfStations.{IsOneText, IsRefusedAt, IsWhyNoText};
+ghost use Rattle.book_answers.specs.Notes.{AreNotes};
+ghost use Rattle.book_answers.specs.OfStations.{IsOneText, IsRefusedAt, IsRefusedOfOne};
+ghost use Rattle.book_answers.specs.OfStations.{IsWhyNoText};
 ghost use Rattle.book_answers.specs.Refusals as spec;
 ghost use Rattle.book_answers.specs.Refusals.{fault_of, named_refusal_text};
 ghost use Rattle.book_answers.specs.Runs.{IsRunOfAll};
@@ -12,7 +14,7 @@ ghost use Rattle.station_check.specs.RunEndings.{Run};
 ghost use Rattle.station_compare.specs.Runs.{ReadsFieldFile};
 
 use crate::arrangement::Arrangement;
-use crate::each::{Alone, EachAnswer};
+use crate::each::{Alone, EachAnswer, OwnText};
 use crate::refusal::{StationRefusal, refusal_text};
 use byte_ends::{Sink, Source};
 use station_answers::StationAnswer;
@@ -51,9 +53,29 @@ pub fn answer_of_all<R: Source, A: StationAnswer>(
     if stations.len() == 0 {
         return (Err(no_station(&stations, unchecked)), gsi);
     }
-    let each = Alone { asked };
-    let answer = text_of_stations(alloc, &stations, limits, &each, arrangement);
+    let answer = text_of_each_alone(alloc, &stations, limits, asked, arrangement);
     (answer, gsi)
+}
+
+/// The one text of stations, of which nothing is told beside it.
+fn text_of_each_alone<A: StationAnswer>(
+    alloc: Global,
+    stations: &Stations,
+    limits: ResultLimits,
+    asked: &A,
+    arrangement: Arrangement,
+) -> Result<Vec<u8>, StationRefusal>
+    ensures { MatchResult result
+        (λ text. IsOneText (A.says asked.now limits) limits.residual arrangement stations.now
+        text.items)
+        (IsWhyNoText (A.says asked.now limits) (IsRefusedOfOne limits.residual) limits.residual
+        stations.now) }
+{
+    let each = Alone { asked };
+    match text_of_stations(alloc, stations, limits, &each, arrangement) {
+        Ok(told) => Ok(told.text),
+        Err(refused) => Err(refused),
+    }
 }
 
 /// The refusal of a file without stations: that of each name.
@@ -69,21 +91,33 @@ pub(crate) fn no_station(stations: &Stations, unchecked: u32) -> StationRefusal
     }
 }
 
-/// The one text of stations.
+/// The one text of stations, and what is told beside it.
+#[derive(Drop)]
+pub struct NotedText {
+    /// The text.
+    pub text: Vec<u8>,
+    /// The notes of the stations, in their order; no byte, where nothing is told.
+    pub notes: Vec<u8>,
+}
+
+/// The one text of stations, and their notes.
 pub(crate) fn text_of_stations<E: EachAnswer>(
     alloc: Global,
     stations: &Stations,
     limits: ResultLimits,
     asked: &E,
     arrangement: Arrangement,
-) -> Result<Vec<u8>, StationRefusal>
-    ensures { MatchResult result
-        (λ text. IsOneText (E.says asked.now limits) limits.residual arrangement stations.now
-        text.items)
+) -> Result<NotedText, StationRefusal>
+    ensures text { MatchResult result
+        (λ told. IsOneText (E.says asked.now limits) limits.residual arrangement stations.now
+        told.text.items)
         (IsWhyNoText (E.says asked.now limits) (E.refuses asked.now limits) limits.residual
         stations.now) }
+    ensures noted { IfOk result (λ told.
+        AreNotes (E.notes asked.now) stations.now told.notes.items) }
 {
     let mut text = Vec::new(alloc);
+    let mut notes = Vec::new(alloc);
     arrangement.push_head(&mut text)?;
     let ResultLimits { faces, residual } = limits;
     'stations: for place in 0..stations.len() {
@@ -91,10 +125,11 @@ pub(crate) fn text_of_stations<E: EachAnswer>(
             let limits = ResultLimits { faces, residual };
             let own = own_text(alloc, limits, asked, surveyed)?;
             let name = surveyed.station().name();
-            arrangement.push_piece(alloc, &mut text, place == 0, name, &own)?;
+            arrangement.push_piece(alloc, &mut text, place == 0, name, &own.text)?;
+            notes.extend_from_slice(&own.note)?;
         }
     }
-    Ok(text)
+    Ok(NotedText { text, notes })
 }
 
 /// The text of a station, or why it has none, with its name.
@@ -103,13 +138,14 @@ fn own_text<E: EachAnswer>(
     limits: ResultLimits,
     asked: &E,
     surveyed: &Surveyed,
-) -> Result<Vec<u8>, StationRefusal>
-    ensures text { MatchResult result (λ text. E.says asked.now limits surveyed.now text.items)
+) -> Result<OwnText, StationRefusal>
+    ensures text { MatchResult result (λ own. E.says asked.now limits surveyed.now own.text.items)
         (IsRefusedAt (E.refuses asked.now limits) surveyed.now) }
+    ensures noted { IfOk result (λ own. E.notes asked.now surveyed.now own.note.items) }
     ensures held { OnOk result (HasResidualsWithin surveyed.now.station limits.residual) }
 {
     match asked.own_of(alloc, limits, surveyed) {
-        Ok(text) => Ok(text),
+        Ok(own) => Ok(own),
         Err(refusal) => Err(StationRefusal {
             refusal,
             station: Some(surveyed.station().name()),

@@ -8,12 +8,14 @@
 
 mod answering;
 mod arrangement;
+mod columns;
 mod each;
+mod note;
 mod part;
 mod refusal;
 mod table;
 
-pub use answering::{answer_of_all, run_answer_of_all, write_answer_of_all};
+pub use answering::{NotedText, answer_of_all, run_answer_of_all, write_answer_of_all};
 pub use arrangement::Arrangement;
 pub use part::{PartAsked, PartText};
 pub use refusal::{LONGEST_STATION_REFUSAL, StationRefusal, StationRefusalText, refusal_text};

@@ -1,20 +1,20 @@
 //! The one text of all stations of a field file and of a table of their directions: answered,
 //! written, and run as a command.
-ghost use Rattle.std.specs.Prelude.{◌≡◌, ◌≤◌, ⊤, Err, MatchResult, Ok, length};
+ghost use Rattle.std.specs.Prelude.{◌≡◌, ◌≤◌, length};
 ghost use Rattle.book_answers.specs.Refusals.{fault_of, named_refusal_text};
 ghost use Rattle.book_answers.specs.Tables as tables;
-ghost use Rattle.book_answers.specs.Tables.{IsRunOfTable, IsWhyNoTexts, StatesTexts};
+ghost use Rattle.book_answers.specs.Tables.{IsRunOfTable, TellsTexts, notes_of};
 ghost use Rattle.book_answers.specs.TableTexts.{IsOfBytes, IsOfInput, stray_refusal};
 ghost use Rattle.byte_ends.specs.Came.{BytesCame, Leaves};
 ghost use Rattle.byte_ends.specs.Input.{input_within};
 ghost use Rattle.byte_ends.specs.Source.{reader_change, UntilDropped};
 ghost use Rattle.byte_ends.specs.Writers.{writer_change};
-ghost use Rattle.station_check.specs.RunEndings.{Run};
+ghost use Rattle.station_check.specs.RunEndings.{RunWithNotes, Tells};
 ghost use Rattle.station_compare.specs.Answers.{table_left};
 ghost use Rattle.station_tables.specs.declared.line.TheConstants.{LONGEST_TABLES};
 ghost use Rattle.table_answers.specs.Answers.{ReadsBoth};
 
-use crate::answering::{no_station, text_of_stations};
+use crate::answering::{NotedText, no_station, text_of_stations};
 use crate::arrangement::Arrangement;
 use crate::part::{PartAsked, PartText, Parts};
 use crate::refusal::{StationRefusal, refusal_text};
@@ -33,22 +33,20 @@ use std::alloc::Global;
 /// # Errors
 ///
 /// The first fault of the file; then `NoStation`, where it has none; then that of the table's
-/// reader; then that its first line after the first in which something stands and that is of no
-/// station is `Unknown`; then that of the first station whose own answer is refused, with its name,
-/// where a row is counted by the lines of the whole table. `Memory` may stand in the place of any
-/// answer.
+/// reader; then that its first line, but one of titles, in which something stands and that is of no
+/// one station is `Unknown`; then that of the first station whose own answer is refused, with its
+/// name, where rows and columns are counted by those of the whole table. `Memory` may stand in the
+/// place of any answer.
 pub fn table_answer_of_all<R: Source, Q: Source>(
     alloc: Global,
     gsi: R,
     table: &mut Q,
     limits: ResultLimits,
     asked: PartAsked,
-) -> (Result<Vec<u8>, StationRefusal>, R)
+) -> (Result<NotedText, StationRefusal>, R)
     ensures { ReadsBoth (reader_change R.told R.failed R.gave gsi result.1)
         (reader_change Q.told Q.failed Q.gave table.old table.new) (fault_of result.0)
-        (λ file stated. MatchResult result.0
-        (λ text. StatesTexts asked limits file stated text.items)
-        (IsWhyNoTexts asked limits file stated)) }
+        (λ file stated. TellsTexts asked limits file stated result.0) }
 {
     // For the proof alone: limits keep their bounds.
     limits.faces.recall();
@@ -72,13 +70,10 @@ fn text_of_input<Q: Source>(
     limits: ResultLimits,
     asked: PartAsked,
     table: &mut Q,
-) -> Result<Vec<u8>, StationRefusal>
+) -> Result<NotedText, StationRefusal>
     ensures tells { BytesCame (reader_change Q.told Q.failed Q.gave table.old table.new)
-        (λ stated. MatchResult result
-        (λ text. IsOfInput asked limits stations.now unchecked
-        (input_within LONGEST_TABLES stated) (Ok text.items))
-        (λ refused. IsOfInput asked limits stations.now unchecked
-        (input_within LONGEST_TABLES stated) (Err refused))) }
+        (λ stated. IsOfInput asked limits stations.now unchecked
+        (input_within LONGEST_TABLES stated) result) }
     ensures reader { Leaves table_left (fault_of result)
         (reader_change Q.told Q.failed Q.gave table.old table.new) }
 {
@@ -96,11 +91,9 @@ fn text_of_bytes(
     limits: ResultLimits,
     asked: PartAsked,
     bytes: &[u8],
-) -> Result<Vec<u8>, StationRefusal>
+) -> Result<NotedText, StationRefusal>
     requires { length bytes.now ≤ LONGEST_TABLES }
-    ensures { MatchResult result
-        (λ text. IsOfBytes asked limits stations.now unchecked bytes.now (Ok text.items))
-        (λ refused. IsOfBytes asked limits stations.now unchecked bytes.now (Err refused)) }
+    ensures { IsOfBytes asked limits stations.now unchecked bytes.now result }
 {
     let lines = lines_of(alloc, bytes)?;
     if let Some(number) = first_stray(stations, &lines) {
@@ -113,7 +106,7 @@ fn text_of_bytes(
     text_of_stations(alloc, stations, limits, &parts, arrangement_of(asked.text))
 }
 
-/// The refusal of a table whose line of this number is of no station.
+/// The refusal of a table whose line of this number is of no one station.
 fn stray(stations: &Stations, unchecked: u32, number: u32) -> StationRefusal
     ensures { result ≡ stray_refusal stations.now unchecked number }
 {
@@ -136,7 +129,7 @@ fn arrangement_of(text: PartText) -> Arrangement
     }
 }
 
-/// Writes that text, and flushes once.
+/// Writes that text, and flushes once; then gives it, with its notes.
 ///
 /// # Errors
 ///
@@ -149,20 +142,20 @@ pub fn write_table_answer_of_all<R: Source, Q: Source, W: Sink>(
     limits: ResultLimits,
     asked: PartAsked,
     writer: &mut W,
-) -> Result<(), StationRefusal>
+) -> Result<NotedText, StationRefusal>
     ensures { UntilDropped R.told R.failed R.gave gsi (λ gsi. IsRunOfTable asked limits gsi
         (reader_change Q.told Q.failed Q.gave table.old table.new) result
         (writer_change W.Sink writer.old writer.new)) }
 {
     let (answer, _gsi) = table_answer_of_all(alloc, gsi, table, limits, asked);
-    let text = answer?;
-    write_whole(writer, &text)?;
-    Ok(())
+    let told = answer?;
+    write_whole(writer, &told.text)?;
+    Ok(told)
 }
 
-/// Writes the text to `out`, and answers the exit status: 0 where all was written, else 1, with the
-/// line of a refusal, its hint and the name of its station on `err`. Where `err` fails, they are
-/// lost and the status stays.
+/// Writes the text to `out`, and answers the exit status: 0 where all was written, and then the notes
+/// on `err`; else 1, with the line of a refusal, its hint and the name of its station on `err`.
+/// Where `err` fails, they are lost and the status stays.
 pub fn run_table_answer_of_all<R: Source, Q: Source, W: Sink, E: Sink>(
     alloc: Global,
     gsi: R,
@@ -172,14 +165,26 @@ pub fn run_table_answer_of_all<R: Source, Q: Source, W: Sink, E: Sink>(
     out: &mut W,
     err: &mut E,
 ) -> u8
-    ensures { UntilDropped R.told R.failed R.gave gsi (λ gsi. Run {A = ⊤} named_refusal_text
-        (IsRunOfTable asked limits gsi
+    ensures { UntilDropped R.told R.failed R.gave gsi (λ gsi. RunWithNotes notes_of
+        named_refusal_text (IsRunOfTable asked limits gsi
         (reader_change Q.told Q.failed Q.gave table.old table.new))
         result (writer_change W.Sink out.old out.new)
         (writer_change E.Sink err.old err.new)) }
 {
     match write_table_answer_of_all(alloc, gsi, table, limits, asked, out) {
-        Ok(()) => ACCEPTED,
+        Ok(told) => tell(&told.notes, err),
         Err(refused) => refuse_by(refusal_text(&refused).as_slice(), err),
     }
+}
+
+/// Writes notes, where there are some, and answers the status.
+fn tell<E: Sink>(notes: &[u8], err: &mut E) -> u8
+    ensures status { result ≡ 0 }
+    ensures notes { Tells notes.now (writer_change E.Sink err.old err.new) }
+{
+    if !notes.is_empty() {
+        // Where `err` fails, they are lost.
+        let _ = err.write_all(notes);
+    }
+    ACCEPTED
 }

@@ -35,7 +35,7 @@ use Rattle.station_compare.specs.declared.fault.CompareFault.TheVariants.{Memory
 use Rattle.station_compare.specs.declared.how_far.HowFar.{HowFar}
 use Rattle.station_compare.specs.declared.refusal.Refusal.{Refusal}
 use Rattle.table_answers.specs.Answers.{ReadsBoth, StatesBeside}
-use Rattle.table_answers.specs.Noting.{Noting}
+use Rattle.table_answers.specs.Noting.{IsNote, Noting}
 use Rattle.table_answers.specs.Refusing.{HasNoAnswer}
 use Rattle.table_answers.specs.Saying.{SaysTableReport}
 use Rattle.table_answers.specs.declared.noted.Noted.{Noted}
@@ -256,8 +256,9 @@ table_answered asked limits name gsi table (Ok own) (Ok whole) bytes a same with
           held = st.held;
           said = (
             tells asked.head.notes.language IsOwn own.answer.text.items whole.answer.text.items
-                a.gsi_bytes bytes left (reverse st.station.blocks) is_own same with.0 over blocks_are,
-            with.2 ∙ st.said.1,
+                a.gsi_bytes bytes left (reverse st.station.blocks) is_own same with.0 over
+                blocks_are,
+            subst (IsNote asked.form st.its.station st.bytes) (sym with.2) st.said.1,
           );
         },
         tt,

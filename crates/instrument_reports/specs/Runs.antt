@@ -5,6 +5,7 @@ use Rattle.book_answers.specs.declared.refusal.StationRefusal.{StationRefusal}
 use Rattle.byte_ends.specs.Sink.{WriterChange}
 use Rattle.byte_ends.specs.Source.{ReaderChange}
 use Rattle.instrument_reports.specs.Answers.{SaysReportOf, SaysTableReportOf, TellsReports}
+use Rattle.instrument_reports.specs.Printing.{as_printed}
 use Rattle.station_answers.specs.Answers.{TellsOf}
 use Rattle.station_book.specs.declared.result_limits.ResultLimits.{ResultLimits}
 use Rattle.station_check.specs.RunEndings.{PrintsAnswer}
@@ -16,13 +17,13 @@ use Rattle.station_compare.specs.declared.refusal.Refusal.{Refusal}
 use Rattle.station_report.specs.NoteTexts.{ReportHead}
 use Rattle.table_answers.specs.Answers.{ReadsBoth, TellsBeside}
 use Rattle.table_answers.specs.Noting.{Noting}
-use Rattle.table_answers.specs.Printing.{PrintsReport}
+use Rattle.table_answers.specs.Printing.{PrintsVerdict}
 use Rattle.table_answers.specs.Runs.{PrintsBeside}
 use Rattle.table_answers.specs.Telling.{note_of}
 use Rattle.table_report.specs.Stating.{ReportAsked, ReportValue}
 
 -- A run of the report: all that it promises of its answer, with the hint of a refusal, and how the
--- text was written.
+-- text was printed.
 pub record IsReportRun {A : Type 0} (head : ReportHead) (limits : ResultLimits)
     (gsi : ReaderChange) (name : List ℕ) (r : Result A Refusal) (out : WriterChange)
     : Type 0 where
@@ -30,14 +31,14 @@ pub record IsReportRun {A : Type 0} (head : ReportHead) (limits : ResultLimits)
   pub tells : ReadsFieldFile gsi (by_fault answer) (λ file.
       TellsOf (SaysReportOf file head limits) limits file name (by_fault answer)
       × IsHinted limits file name answer)
-  pub printed : PrintsAnswer (λ text. text) (unhinted Write) answer r out
+  pub printed : PrintsAnswer (as_printed head.notes) (unhinted Write) answer r out
 
 -- The same of the reports of all stations.
 pub record IsReportsRun {A : Type 0} (head : ReportHead) (limits : ResultLimits)
     (gsi : ReaderChange) (r : Result A StationRefusal) (out : WriterChange) : Type 0 where
   pub answer : Result (List ℕ) StationRefusal
   pub tells : ReadsFieldFile gsi (fault_of answer) (λ file. TellsReports head limits file answer)
-  pub printed : PrintsAnswer (λ text. text) (of_no_one Write) answer r out
+  pub printed : PrintsAnswer (as_printed head.notes) (of_no_one Write) answer r out
 
 -- The same of the report with a table, and the note of the table.
 pub record IsTableReportRun {A : Type 0} (asked : ReportAsked) (limits : ResultLimits)
@@ -48,5 +49,6 @@ pub record IsTableReportRun {A : Type 0} (asked : ReportAsked) (limits : ResultL
       TellsBeside (Noting (SaysTableReportOf file asked limits) asked.form) asked.form limits file
       stated name (by_fault answer)
       × IsHinted limits file name answer)
-  pub printed : PrintsBeside (λ noted. PrintsReport noted.0) answer r out
+  pub printed : PrintsBeside (λ noted.
+      PrintsVerdict (as_printed asked.head.notes noted.0.text) noted.0.beyond) answer r out
   pub noted : note ≡ note_of answer

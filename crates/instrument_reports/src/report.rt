@@ -12,6 +12,7 @@ ghost use Rattle.station_compare.specs.Refusals.{by_fault, refusal_text};
 ghost use Rattle.station_compare.specs.Runs.{ReadsFieldFile};
 ghost use Rattle.station_report.specs.NoteTexts.{head_of};
 
+use crate::printing::as_printed;
 use crate::telling::answer_with;
 use byte_ends::{Sink, Source};
 use instrument_words::Rereading;
@@ -50,11 +51,11 @@ pub fn report_of<R: Source>(
     (answer_with(alloc, head.language(), answer, kept), gsi)
 }
 
-/// Writes that report, and flushes once.
+/// Writes that report, in pages where its head is told so, and flushes once.
 ///
 /// # Errors
 ///
-/// Those of the report; `Write` where a call of the writer failed. At any other nothing was asked
+/// Those of the report; `Memory`; `Write` where a call of the writer failed. At any other nothing was asked
 /// of the writer.
 fn write_report<R: Source, W: Sink>(
     alloc: Global,
@@ -70,7 +71,8 @@ fn write_report<R: Source, W: Sink>(
 {
     let (answer, _gsi) = report_of(alloc, gsi, name, limits, head);
     let text = answer?;
-    write_whole(writer, &text)?;
+    let printed = as_printed(alloc, head, text)?;
+    write_whole(writer, &printed)?;
     Ok(())
 }
 

@@ -4,10 +4,13 @@ ghost use Rattle.std.specs.Prelude.{⊤, MatchResult, option_map};
 ghost use Rattle.byte_ends.specs.Source.{UntilDropped, reader_change};
 ghost use Rattle.byte_ends.specs.Writers.{writer_change};
 ghost use Rattle.instrument_reports.specs.Answers.{SaysTableReportOf};
+ghost use Rattle.instrument_reports.specs.Printing.{IsNotedMade};
+ghost use Rattle.instrument_reports.specs.Printing as spec;
 ghost use Rattle.instrument_reports.specs.Runs.{IsTableReportRun};
 ghost use Rattle.instrument_reports.specs.Telling.{IsNotedWith};
 ghost use Rattle.station_compare.specs.Hints.{IsHinted};
 ghost use Rattle.station_compare.specs.Refusals.{by_fault};
+ghost use Rattle.station_report.specs.NoteTexts.{head_of};
 ghost use Rattle.table_answers.specs.Answers.{ReadsBoth, StatesBeside};
 ghost use Rattle.table_answers.specs.Noting.{Noting};
 ghost use Rattle.table_answers.specs.Refusing.{HasNoAnswer};
@@ -15,12 +18,14 @@ ghost use Rattle.table_answers.specs.Runs.{IsOfPrinting};
 ghost use Rattle.table_answers.specs.Telling.{RunTold};
 ghost use Rattle.table_report.specs.Values.{asked_of, value_of};
 
+use crate::printing::as_printed;
 use crate::telling::text_with;
 use byte_ends::{Sink, Source};
 use instrument_words::Rereading;
 use report_phrases::Language;
 use station_book::ResultLimits;
 use station_compare::{CompareFault, Refusal};
+use station_report::Head;
 use std::alloc::Global;
 use table_answers::{Noted, TableAnswer, table_answer_of, tell};
 use table_report::{Asked, TableReport};
@@ -54,7 +59,8 @@ pub fn table_report_of<R: Source, Q: Source>(
     (noted_with(alloc, asked.head.language(), answer, kept), gsi)
 }
 
-/// The answer of a report with a table in a language, with what these bytes of its field file recorded.
+/// The answer of a report with a table in a language, with what these bytes of its field file
+/// recorded.
 fn noted_with(
     alloc: Global,
     language: Language,
@@ -66,6 +72,23 @@ fn noted_with(
     let noted = answer?;
     let text = text_with(alloc, language, &noted.answer.text, &kept)?;
     let beyond = noted.answer.beyond;
+    Ok(Noted {
+        answer: TableReport { text, beyond },
+        note: noted.note,
+    })
+}
+
+/// A report with a table and this head, as it is printed.
+fn noted_as_printed(
+    alloc: Global,
+    head: Head<'_, '_>,
+    answer: Result<Noted<TableReport>, Refusal>,
+) -> Result<Noted<TableReport>, Refusal>
+    ensures { IsNotedMade (spec.as_printed (head_of head.entry).notes) answer result }
+{
+    let noted = answer?;
+    let beyond = noted.answer.beyond;
+    let text = as_printed(alloc, head, noted.answer.text)?;
     Ok(Noted {
         answer: TableReport { text, beyond },
         note: noted.note,
@@ -93,7 +116,7 @@ fn write_table_report<R: Source, Q: Source, W: Sink>(
         (writer_change W.Sink writer.old writer.new)) }
 {
     let (answered, _gsi) = table_report_of(alloc, gsi, table, name, limits, asked);
-    match answered {
+    match noted_as_printed(alloc, asked.head, answered) {
         Ok(noted) => (unhinted(Asked::print(noted.answer, writer)), noted.note),
         Err(refusal) => (Err(refusal), Vec::new(alloc)),
     }

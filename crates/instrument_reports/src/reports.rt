@@ -15,6 +15,7 @@ ghost use Rattle.station_compare.specs.Runs.{ReadsFieldFile};
 ghost use Rattle.station_compare.specs.declared.fault.CompareFault.TheVariants.{Memory};
 ghost use Rattle.station_report.specs.NoteTexts.{head_of};
 
+use crate::printing::as_printed;
 use crate::telling::text_with;
 use book_answers::{Arrangement, StationRefusal, answer_of_all, refusal_text};
 use byte_ends::{Sink, Source};
@@ -84,7 +85,8 @@ fn write_reports<R: Source, W: Sink>(
 {
     let (answer, _gsi) = reports_of(alloc, gsi, limits, head);
     let text = answer?;
-    write_whole(writer, &text)?;
+    let printed = as_printed(alloc, head, text)?;
+    write_whole(writer, &printed)?;
     Ok(())
 }
 

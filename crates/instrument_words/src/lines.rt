@@ -50,8 +50,8 @@ fn push_varying(
     label: Phrase,
     told: Option<Contents<'_>>,
 ) -> Result<(), AllocError>
-    ensures { OnOk result (text.new.items ≡ text.old.items
-        ++ spec.line_text (said language label) (spec.and_others language) (told_value told.entry)) }
+    ensures { OnOk result (text.new.items ≡ text.old.items ++ spec.line_text
+        (said language label) (spec.and_others language) (told_value told.entry)) }
 {
     let Some(told) = told else {
         return Ok(());

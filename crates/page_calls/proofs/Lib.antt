@@ -1,1 +1,2 @@
 mod Comparisons
+pub mod NamedFaults

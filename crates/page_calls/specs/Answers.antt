@@ -64,6 +64,8 @@ use Rattle.page_calls.specs.HandedOut.{copy_or_refusal_line, listed_or_refusal, 
 use Rattle.page_calls.specs.HandedOut.{rows_told}
 use Rattle.page_calls.specs.Limits.{States, stated_limit}
 use Rattle.page_calls.specs.Listed.{TellsListed}
+use Rattle.page_calls.specs.Placed.{TellsPlace}
+use Rattle.page_calls.specs.Recorded.{TellsRecorded}
 use Rattle.page_calls.specs.declared.explain.Unexplained.{Unexplained}
 use Rattle.page_calls.specs.declared.hand_out.TheConstants.{OUT_OF_RANGE}
 
@@ -328,6 +330,20 @@ pub record IsExplanationOf (line : List ℕ) (room answered : ℕ) (shown : List
   pub table : List (Bor (List Explanation))
   pub is_the_table : IsTheTable table
   pub explains : IsExplanationFrom table line room answered shown
+
+-- The status and the text are those of where the line of a refusal stands in these bytes of a field
+-- file and of another file; or memory ran out.
+pub record IsPlaceOf (line gsi other : List ℕ) (room answered : ℕ) (shown : List ℕ) : Type 0 where
+  pub answer : Result (List ℕ) Fault
+  pub tells : TellsPlace line gsi other answer
+  pub hands_out : HandsOut (status_of answer) (listed_or_refusal answer) room answered shown
+
+-- The status and the text are those of what these bytes recorded of instrument and time; or memory
+-- ran out.
+pub record IsInstrumentOf (gsi : List ℕ) (room answered : ℕ) (shown : List ℕ) : Type 0 where
+  pub answer : Result (List ℕ) Fault
+  pub tells : TellsRecorded gsi answer
+  pub hands_out : HandsOut (status_of answer) (listed_or_refusal answer) room answered shown
 
 -- What comes of these changes of a field file: the copy, or the fault.
 abbrev pub Changes : List ℕ → List Change → Result (List ℕ) ChangeFault → Type 0

@@ -6,6 +6,8 @@ pub mod Asked
 pub mod Statements
 pub mod Changes
 pub mod Listed
+pub mod Placed
+pub mod Recorded
 pub mod Answers
 pub mod HandedOut
 pub mod Explained

@@ -21,7 +21,9 @@
 //! | `page_mark_rows` | the same copy, and what was recognized as rows |
 //! | `page_change` | hands out a copy with lines left out, or their points renamed |
 //! | `page_digest` | hands out the line of a file's SHA-256 digest |
+//! | `page_instrument` | hands out what a field file recorded of instrument and time |
 //! | `page_explain` | hands out what the fault means that a text names |
+//! | `page_place` | hands out where the line of a refusal stands, as a row |
 //!
 //! Each is given whole files as slices, and numbers in the place of options. It hands out its text
 //! at the front of a slice, and how long that is. Its answer is the status of the program's
@@ -43,12 +45,14 @@ mod directions;
 mod explain;
 mod form;
 mod hand_out;
+mod instrument;
 pub mod laws;
 mod list;
 mod listed_rows;
 mod mark;
 mod mark_rows;
 mod means;
+mod place;
 mod report;
 mod residuals;
 mod statement;
@@ -68,11 +72,13 @@ pub use directions::page_directions;
 pub use explain::page_explain;
 pub use form::{LARGEST_COLUMN, LARGEST_UNIT};
 pub use hand_out::{OUT_OF_RANGE, TOO_LITTLE_ROOM};
+pub use instrument::page_instrument;
 pub use list::page_list;
 pub use listed_rows::page_list_rows;
 pub use mark::page_mark;
 pub use mark_rows::page_mark_rows;
 pub use means::page_means;
+pub use place::page_place;
 pub use report::page_report;
 pub use residuals::page_residuals;
 pub use table::page_table;

@@ -10,7 +10,7 @@ ghost use Rattle.page_calls.specs.Answers.{IsDirectionsOf, IsResidualsOf, IsRepo
 ghost use Rattle.page_calls.specs.Answers.{IsComparisonOf, IsDifferencesOf, IsTableOf};
 ghost use Rattle.page_calls.specs.Answers.{IsMarkAnswer, IsMarkRowsAnswer};
 ghost use Rattle.page_calls.specs.Answers.{IsChangeAnswer, IsDigestOf};
-ghost use Rattle.page_calls.specs.Answers.{IsExplanationOf};
+ghost use Rattle.page_calls.specs.Answers.{IsExplanationOf, IsInstrumentOf, IsPlaceOf};
 ghost use Rattle.page_calls.specs.Asked.{asked_with};
 ghost use Rattle.page_calls.specs.Forms.{IsForm, stated_form};
 ghost use Rattle.page_calls.specs.HandedOut.{Leaves, LeavesInRange, Shows, ShowsInRange};
@@ -20,9 +20,9 @@ ghost use Rattle.page_calls.specs.Statements.{StatesBeginnings, StatesFile};
 
 use page_calls::{
     page_change, page_check, page_comma_differences, page_comma_directions, page_comma_rows,
-    page_compare, page_differences, page_digest, page_directions, page_explain, page_list,
-    page_list_rows, page_mark, page_mark_rows, page_means, page_report, page_residuals,
-    page_station, page_table, page_words,
+    page_compare, page_differences, page_digest, page_directions, page_explain, page_instrument,
+    page_list, page_list_rows, page_mark, page_mark_rows, page_means, page_place, page_report,
+    page_residuals, page_station, page_table, page_words,
 };
 use std::alloc::Global;
 
@@ -521,4 +521,32 @@ pub extern "C" fn station_page_explain(
     ensures { Shows (IsExplanationOf line.now) out.old out.new written.new result }
 {
     page_explain(alloc, line, out, written)
+}
+
+/// [`page_place`], exported.
+#[unsafe(no_mangle)]
+pub extern "C" fn station_page_place(
+    alloc: Global,
+    line: &[u8],
+    gsi: &[u8],
+    other: &[u8],
+    out: &mut [u8],
+    written: &mut usize,
+) -> u8
+    ensures { Shows (IsPlaceOf line.now gsi.now other.now) out.old out.new written.new result }
+{
+    page_place(alloc, line, gsi, other, out, written)
+}
+
+/// [`page_instrument`], exported.
+#[unsafe(no_mangle)]
+pub extern "C" fn station_page_instrument(
+    alloc: Global,
+    gsi: &[u8],
+    out: &mut [u8],
+    written: &mut usize,
+) -> u8
+    ensures { Shows (IsInstrumentOf gsi.now) out.old out.new written.new result }
+{
+    page_instrument(alloc, gsi, out, written)
 }

@@ -1,5 +1,5 @@
 -- What the report promises of digesting readers, of the readers that they ask.
-use Rattle.std.proofs.Common.{◌≡◌, ℕ, List, [], Option, Bool, Result, Ok, Err, ap, refl, subst}
+use Rattle.std.proofs.Common.{◌≡◌, ◌∙◌, ℕ, List, [], Option, Bool, Result, Ok, Err, ap, refl, subst}
 use Rattle.std.specs.Prelude.{MatchResult}
 use Rattle.byte_digests.proofs.Histories.{digested}
 use Rattle.byte_digests.specs.Digesting.{reader_of, hasher_of, histories}
@@ -7,7 +7,8 @@ use Rattle.byte_digests.specs.declared.digesting.Digesting.{Digesting}
 use Rattle.byte_ends.specs.Sink.{WriterChange}
 use Rattle.byte_ends.specs.Source.{Told, ReaderChange, reader_change}
 use Rattle.gsi_file.specs.FileAnswers.{FileAnswers}
-use Rattle.instrument_reports.specs.Answers.{SaysReportOf}
+use Rattle.instrument_reports.specs.Answers.{SaysReportOf, SaysTableReportOf}
+use Rattle.instrument_reports.specs.Printing.{IsNotedMade, as_printed}
 use Rattle.sha2.specs.Hashers.{Holds256}
 use Rattle.sha2.specs.Sha256.{sha256}
 use Rattle.station_answers.specs.Answers.{HasNone, StatesOf}
@@ -20,17 +21,25 @@ use Rattle.station_compare.specs.Hints.{IsHinted}
 use Rattle.station_compare.specs.Refusals.{by_fault, unhinted}
 use Rattle.station_compare.specs.Runs.{ReadsFieldFile}
 use Rattle.station_compare.specs.declared.fault.CompareFault.{CompareFault}
-use Rattle.station_compare.specs.declared.fault.CompareFault.TheVariants.{Write}
+use Rattle.station_compare.specs.declared.fault.CompareFault.TheVariants.{Memory, Write}
+use Rattle.station_compare.specs.declared.how_far.HowFar.{HowFar}
 use Rattle.station_compare.specs.declared.refusal.Refusal.{Refusal}
 use Rattle.instrument_words.proofs.Alike.{leaves_too}
+use Rattle.station_record.proofs.Printed.{printed_alike, printed_of}
+use Rattle.station_record.specs.Made.{IsMadeOf}
 use Rattle.station_record.specs.Parts.{ArePartsOf}
-use Rattle.station_record.specs.Recorded.{IsRecordedBoth, IsRecordedReport, recorded_report_text}
+use Rattle.station_record.specs.Recorded.{IsRecordedBoth, IsRecordedReport, IsRecordedTableReport}
+use Rattle.station_record.specs.Recorded.{recorded_both_text, recorded_report_text}
 use Rattle.station_report.specs.NoteTexts.{ReportHead}
 use Rattle.table_answers.specs.Answers.{ReadsBoth, StatesBeside}
 use Rattle.table_answers.specs.Noting.{Noting}
+use Rattle.table_answers.specs.Printing.{PrintsReport, PrintsVerdict}
 use Rattle.table_answers.specs.Refusing.{HasNoAnswer}
 use Rattle.table_answers.specs.Runs.{PrintsBeside}
 use Rattle.table_answers.specs.declared.noted.Noted.{Noted}
+use Rattle.table_report.specs.Stating.{ReportAsked}
+use Rattle.table_report.specs.Values.{value_of}
+use Rattle.table_report.specs.declared.beside.TableReport.{TableReport}
 
 -- What is so of a digesting reader of a field file is so of the reader that it asks, of the same
 -- bytes.
@@ -86,38 +95,46 @@ both_of told failed gave told_q failed_q gave_q d d' e e' r So none none_q a = r
   }) a.table_reader;
 }
 
--- What is printed of a text is so, however it lies in memory.
-printed_too : {T A : Type 0} (items : T → List ℕ) (print : List ℕ → List ℕ) (text : T)
-    (r : Result A Refusal) (out : WriterChange)
-    → PrintsAnswer (λ text. print (items text)) (unhinted Write) (Ok text) r out
-    → PrintsAnswer print (unhinted Write) (Ok (items text)) r out
-printed_too items print text (Ok x) out p = p
-printed_too items print text (Err fault) out p = p
-
--- What was printed with a digest, where it is that of the bytes that the promise speaks of.
+-- What was printed of a report with a digest, where it is that of the bytes that the promise speaks
+-- of.
 pub recorded_report : {T A : Type 0} (items : T → List ℕ) (head : ReportHead) (limits : ResultLimits)
-    (gsi : ReaderChange) (station : List ℕ) (answer : Result T Refusal)
+    (gsi : ReaderChange) (station : List ℕ) (answer all : Result T Refusal)
     (a : ReadsFieldFile gsi (by_fault answer) (λ file. MatchResult (by_fault answer)
     (λ text. StatesOf (SaysReportOf file head limits) limits file station (items text))
     (HasNone limits file station) × IsHinted limits file station answer)) (d : List ℕ)
     → d ≡ sha256 a.came.given
+    → IsMadeOf items (λ text. as_printed head.notes
+    (recorded_report_text head.notes.language text d head.path)) answer all
     → (r : Result A Refusal) (out : WriterChange)
-    → PrintsAnswer (λ text. recorded_report_text head.notes.language (items text) d head.path)
-    (unhinted Write) answer r out
+    → PrintsAnswer items (unhinted Write) all r out
     → IsRecordedReport head limits gsi station r out
-recorded_report items head limits gsi station (Ok text) a d is_d r out p = record {
-  answer = Ok (items text);
+recorded_report items head limits gsi station (Ok own) (Ok whole) a d is_d made r out p = record {
+  answer = Ok (items own);
   tells = record { came = a.came; left = a.left };
-  printed = subst (λ (t : List ℕ). PrintsAnswer
-      (λ text. recorded_report_text head.notes.language text t head.path)
-      (unhinted Write) (Ok (items text)) r out) is_d
-      (printed_too items (λ text. recorded_report_text head.notes.language text d head.path) text
-      r out p);
+  printed = printed_of
+      (λ text. as_printed head.notes
+      (recorded_report_text head.notes.language text (sha256 a.came.given) head.path))
+      (items own) (items whole)
+      (subst (λ (t : List ℕ). items whole ≡ as_printed head.notes
+      (recorded_report_text head.notes.language (items own) t head.path)) is_d made)
+      r out (printed_alike items whole (items whole) refl r out p);
 }
-recorded_report items head limits gsi station (Err refusal) a d is_d r out p = record {
+recorded_report items head limits gsi station (Ok own) (Err refusal) a d is_d made r out p = record {
+  answer = Err (unhinted Memory);
+  tells = record {
+    came = record {
+      given = a.came.given;
+      by_reads = a.came.by_reads;
+      so = λ left may. (tt, refl);
+    };
+    left = a.left.unfailed;
+  };
+  printed = rw made at p;
+}
+recorded_report items head limits gsi station (Err refusal) all a d is_d made r out p = record {
   answer = Err refusal;
   tells = record { came = a.came; left = a.left };
-  printed = p;
+  printed = rw made at p;
 }
 
 -- The same of an answer of both and its note, printed with two digests.
@@ -174,4 +191,85 @@ recorded_both value Says Prints form limits gsi table station (Err refusal) answ
       };
       printed = rw parts.0 at p;
       noted = parts.1;
+    }
+
+-- The same of a report with a table that was printed with two digests.
+pub recorded_table : {A : Type 0} (asked : ReportAsked) (limits : ResultLimits)
+    (gsi table : ReaderChange) (station : List ℕ) (noted all : Result (Noted TableReport) Refusal)
+    (a : ReadsBoth gsi table (by_fault noted) (λ file stated. MatchResult (by_fault noted)
+    (λ noted. StatesBeside (Noting (SaysTableReportOf file asked limits) asked.form) limits file
+    stated station (value_of noted.answer, noted.note.items))
+    (HasNoAnswer asked.form limits file stated station)
+    × IsHinted limits file station noted)) (d e : List ℕ)
+    → d ≡ sha256 a.gsi_bytes → e ≡ sha256 a.table_bytes
+    → IsNotedMade (λ text. as_printed asked.head.notes (recorded_both_text
+    asked.head.notes.language text d asked.head.path e asked.table_path)) noted all
+    → (report : Result TableReport Refusal) (note : List ℕ) → ArePartsOf all report note
+    → (r : Result A Refusal) (out : WriterChange)
+    → PrintsBeside (λ (t : TableReport). PrintsReport (value_of t)) report r out
+    → IsRecordedTableReport asked limits gsi table station r note out
+recorded_table asked limits gsi table station (Ok own) (Ok whole) a d e is_d is_e made report note
+    parts r out p =
+    let text = own.answer.text.items in
+    let with_both : List ℕ → List ℕ → List ℕ = λ d e. as_printed asked.head.notes
+    (recorded_both_text asked.head.notes.language text d asked.head.path e asked.table_path) in
+    let is_text : whole.answer.text.items
+    ≡ with_both (sha256 a.gsi_bytes) (sha256 a.table_bytes) =
+    subst (λ (t : List ℕ). whole.answer.text.items ≡ with_both (sha256 a.gsi_bytes) t) is_e
+    (subst (λ (t : List ℕ). whole.answer.text.items ≡ with_both t e) is_d made.0) in
+    let printed : PrintsBeside (λ (t : TableReport). PrintsReport (value_of t)) (Ok whole.answer) r
+    out = rw parts.0 at p in
+    record {
+      answer = Ok (value_of own.answer, own.note.items);
+      tells = record {
+        gsi_bytes = a.gsi_bytes;
+        gsi_reads = a.gsi_reads;
+        table_bytes = a.table_bytes;
+        table_reads = a.table_reads;
+        so = a.so;
+        gsi_reader = a.gsi_reader;
+        table_reader = a.table_reader;
+      };
+      printed = (
+        subst (λ (t : List ℕ). PrintsVerdict t own.answer.beyond (by_fault r) out) is_text
+            (subst (λ (b : Option HowFar). PrintsVerdict whole.answer.text.items b (by_fault r) out)
+            made.1 printed.0),
+        printed.1,
+      );
+      noted = parts.1 ∙ made.2;
+    }
+recorded_table asked limits gsi table station (Ok own) (Err refusal) a d e is_d is_e made report
+    note parts r out p =
+    let printed : PrintsBeside (λ (t : TableReport). PrintsReport (value_of t)) (Err refusal) r
+    out = rw parts.0 at p in
+    record {
+      answer = Err (unhinted Memory);
+      tells = record {
+        gsi_bytes = a.gsi_bytes;
+        gsi_reads = a.gsi_reads;
+        table_bytes = a.table_bytes;
+        table_reads = a.table_reads;
+        so = λ left table_left may table_may. (λ within. tt, refl);
+        gsi_reader = a.gsi_reader.unfailed;
+        table_reader = a.table_reader.unfailed;
+      };
+      printed = rw made at printed;
+      noted = parts.1;
+    }
+recorded_table asked limits gsi table station (Err refusal) all a d e is_d is_e made report note
+    parts r out p =
+    let apart : ArePartsOf {T = TableReport} (Err refusal) report note = rw made at parts in
+    record {
+      answer = Err refusal;
+      tells = record {
+        gsi_bytes = a.gsi_bytes;
+        gsi_reads = a.gsi_reads;
+        table_bytes = a.table_bytes;
+        table_reads = a.table_reads;
+        so = a.so;
+        gsi_reader = a.gsi_reader;
+        table_reader = a.table_reader;
+      };
+      printed = rw apart.0 at p;
+      noted = apart.1;
     }

@@ -3,4 +3,4 @@ pub mod Recorded
 pub mod Rows
 -- The inside.
 pub mod Parts
-pub mod AddedRow
+pub mod Made

@@ -7,6 +7,7 @@ use Rattle.byte_ends.specs.Source.{ReaderChange}
 use Rattle.direction_table.specs.declared.form.TableForm.{TableForm}
 use Rattle.gsi_file.specs.FileAnswers.{FileAnswers}
 use Rattle.instrument_reports.specs.Answers.{SaysReportOf, SaysTableReportOf}
+use Rattle.instrument_reports.specs.Printing.{as_printed}
 use Rattle.report_phrases.specs.Phrases.{said}
 use Rattle.report_phrases.specs.declared.language.Language.{Language}
 use Rattle.report_phrases.specs.declared.phrase.Phrase.TheVariants as phrase
@@ -105,15 +106,16 @@ pub record IsRecordedReport {A : Type 0} (head : ReportHead) (limits : ResultLim
   pub tells : ReadsFieldFile gsi (by_fault answer)
       (λ file. TellsOf (SaysReportOf file head limits) limits file station (by_fault answer)
       × IsHinted limits file station answer)
-  pub printed : PrintsAnswer (λ text. recorded_report_text head.notes.language text
-      (sha256 tells.came.given) head.path) (unhinted compare.Write) answer r out
+  pub printed : PrintsAnswer (λ text. as_printed head.notes (recorded_report_text
+      head.notes.language text (sha256 tells.came.given) head.path))
+      (unhinted compare.Write) answer r out
 
 -- What is made of a report with a table: its text and the digests, and its verdict.
 abbrev pub PrintsRecordedReport : {A : Type 0} → ReportAsked → List ℕ → List ℕ → ReportValue
     → Result A CompareFault → WriterChange → Type 0
 PrintsRecordedReport asked gsi table report r out =
-    PrintsVerdict (recorded_both_text asked.head.notes.language report.text gsi asked.head.path
-    table asked.table_path) report.beyond r out
+    PrintsVerdict (as_printed asked.head.notes (recorded_both_text asked.head.notes.language
+    report.text gsi asked.head.path table asked.table_path)) report.beyond r out
 
 -- A recorded run of the report with a table.
 abbrev pub IsRecordedTableReport : {A : Type 0} → ReportAsked → ResultLimits → ReaderChange

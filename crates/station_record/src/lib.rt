@@ -14,6 +14,7 @@ mod named;
 mod report;
 mod report_with_table;
 mod rows;
+mod texts;
 
 pub use check::run_check_recorded;
 pub use compare::run_compare_recorded;

@@ -3,12 +3,10 @@
 ghost use Rattle.std.specs.Prelude.{◌≡◌, true, OnOk, OnErr};
 ghost use Rattle.std.specs.Io.KnownBytes.{Appends};
 ghost use Rattle.byte_ends.specs.Sink.{AppendsSome, failed_after};
-ghost use Rattle.station_record.specs.Recorded.{recorded_both_text, recorded_report_text};
 ghost use Rattle.station_record.specs.Recorded.{recorded_text};
 
 use byte_digests::write_digest_line;
 use byte_ends::{Failed, Sink};
-use report_phrases::{Language, Phrase};
 
 /// Writes the line of an answer and those of its two files, and flushes once.
 pub(crate) fn write_recorded<W: Sink>(
@@ -30,47 +28,4 @@ pub(crate) fn write_recorded<W: Sink>(
     write_digest_line(gsi, gsi_name, out)?;
     write_digest_line(other, other_name, out)?;
     out.flush()
-}
-
-/// Writes the text of a report in a language and the line of its file, and flushes once.
-pub(crate) fn write_recorded_report<W: Sink>(
-    language: Language,
-    text: &[u8],
-    gsi: &[u8; 32],
-    gsi_name: &[u8],
-    out: &mut W,
-) -> Result<(), Failed>
-    ensures failed { W.failed out.new ≡ failed_after (W.failed out.old) result }
-    ensures ok { OnOk result (Appends (W.holds out.old) (W.holds out.new)
-        (recorded_report_text language text.now gsi.now gsi_name.now)) }
-    ensures flushed { OnOk result (W.flushed out.new ≡ true) }
-    ensures cut_short { OnErr result (AppendsSome (W.holds out.old) (W.holds out.new)
-        (recorded_report_text language text.now gsi.now gsi_name.now)) }
-{
-    out.write_all(text)?;
-    out.write_all(Phrase::Digests.said(language))?;
-    write_digest_line(gsi, gsi_name, out)?;
-    out.flush()
-}
-
-/// Writes the text of a report in a language and the lines of its two files, and flushes once.
-pub(crate) fn write_recorded_both<W: Sink>(
-    language: Language,
-    text: &[u8],
-    gsi: &[u8; 32],
-    gsi_name: &[u8],
-    table: &[u8; 32],
-    table_name: &[u8],
-    out: &mut W,
-) -> Result<(), Failed>
-    ensures failed { W.failed out.new ≡ failed_after (W.failed out.old) result }
-    ensures ok { OnOk result (Appends (W.holds out.old) (W.holds out.new)
-        (recorded_both_text language text.now gsi.now gsi_name.now table.now table_name.now)) }
-    ensures flushed { OnOk result (W.flushed out.new ≡ true) }
-    ensures cut_short { OnErr result (AppendsSome (W.holds out.old) (W.holds out.new)
-        (recorded_both_text language text.now gsi.now gsi_name.now table.now table_name.now)) }
-{
-    out.write_all(text)?;
-    let title = Phrase::Digests.said(language);
-    write_recorded(title, gsi, gsi_name, table, table_name, out)
 }

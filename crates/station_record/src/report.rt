@@ -1,17 +1,18 @@
 //! The report, with the digest of what was read.
 
-ghost use Rattle.std.specs.Prelude.{◌≡◌, ⊤};
+ghost use Rattle.std.specs.Prelude.{⊤};
 ghost use Rattle.byte_ends.specs.Writers.{writer_change};
 ghost use Rattle.byte_ends.specs.Source.{UntilDropped};
-ghost use Rattle.station_check.specs.RunEndings.{PrintsAnswer, Run};
-ghost use Rattle.station_compare.specs.Refusals.{refusal_text, unhinted};
-ghost use Rattle.station_compare.specs.declared.fault.CompareFault.TheVariants.{Write};
+ghost use Rattle.instrument_reports.specs.Printing.{as_printed};
+ghost use Rattle.station_check.specs.RunEndings.{Run};
+ghost use Rattle.station_compare.specs.Refusals.{refusal_text};
 ghost use Rattle.station_report.specs.NoteTexts.{head_of};
+ghost use Rattle.station_record.specs.Made.{IsMadeOf};
 ghost use Rattle.station_record.specs.Recorded.{IsRecordedReport, recorded_report_text};
 
 use crate::compare::report;
-use crate::lines::write_recorded_report;
 use crate::named::HeadedReader;
+use crate::texts::{print_text, with_digest};
 use byte_digests::Digesting;
 use byte_ends::{Sink, Source};
 use instrument_reports::report_of;
@@ -42,22 +43,22 @@ pub fn run_report_recorded<R: Source, W: Sink, E: Sink>(
     let digested = Digesting::new(gsi.reader);
     let (answer, digested) = report_of(alloc, digested, station, limits, gsi.head);
     let digest = digested.digest();
-    let printed = print_report(answer, digest, gsi.head, out);
+    let recorded = recorded_report(alloc, answer, &digest, gsi.head);
+    let printed = print_text(recorded, out);
     report(printed, err)
 }
 
-/// Prints a report and the digest of its field file, and passes on a refusal.
-fn print_report<W: Sink>(
+/// A report as it is printed, with the digest of its field file; or the refusal.
+fn recorded_report(
+    alloc: Global,
     answer: Result<Vec<u8>, Refusal>,
-    gsi: [u8; 32],
+    gsi: &[u8; 32],
     head: Head<'_, '_>,
-    out: &mut W,
-) -> Result<(), Refusal>
-    ensures { PrintsAnswer (λ text. recorded_report_text (head_of head.entry).notes.language
-        text.items gsi head.entry.path.now)
-        (unhinted Write) answer result (writer_change W.Sink out.old out.new) }
+) -> Result<Vec<u8>, Refusal>
+    ensures { IsMadeOf (λ text. text.items) (λ text. as_printed (head_of head.entry).notes
+        (recorded_report_text (head_of head.entry).notes.language text gsi.now
+        head.entry.path.now)) answer result }
 {
     let text = answer?;
-    write_recorded_report(head.language(), &text, &gsi, head.path, out)?;
-    Ok(())
+    Ok(with_digest(alloc, text, gsi, head)?)
 }

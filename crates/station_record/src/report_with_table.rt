@@ -3,22 +3,22 @@
 ghost use Rattle.std.specs.Prelude.{⊤};
 ghost use Rattle.byte_ends.specs.Writers.{writer_change};
 ghost use Rattle.byte_ends.specs.Source.{UntilDropped};
+ghost use Rattle.instrument_reports.specs.Printing.{IsNotedMade, as_printed};
 ghost use Rattle.station_record.specs.Recorded.{IsRecordedTableReport, recorded_both_text};
-ghost use Rattle.station_report.specs.NoteTexts.{head_of};
-ghost use Rattle.table_answers.specs.Printing.{PrintsVerdict};
+ghost use Rattle.table_answers.specs.Printing.{PrintsReport};
 ghost use Rattle.table_answers.specs.Runs.{PrintsBeside};
 ghost use Rattle.table_answers.specs.Telling.{RunTold};
-ghost use Rattle.table_report.specs.Values.{asked_of};
+ghost use Rattle.table_report.specs.Values.{asked_of, value_of};
 
 use crate::compare::parts_of;
-use crate::lines::write_recorded_both;
+use crate::texts::with_digests;
 use byte_digests::Digesting;
 use byte_ends::{Sink, Source};
 use instrument_reports::table_report_of;
 use station_book::ResultLimits;
 use station_compare::Refusal;
 use std::alloc::Global;
-use table_answers::{tell, verdict};
+use table_answers::{Noted, TableAnswer, tell};
 use table_report::{Asked, TableReport};
 
 /// Writes the report of a station with a table as `run_table_report` does, and answers its exit
@@ -55,34 +55,39 @@ pub fn run_table_report_recorded<R: Source, Q: Source, W: Sink, E: Sink>(
     );
     let gsi_digest = digested_gsi.digest();
     let table_digest = digested_table.digest();
-    let (report, note) = parts_of(alloc, answer);
-    let printed = print_report(report, gsi_digest, table_digest, asked, out);
+    let recorded = recorded_both(alloc, answer, &gsi_digest, &table_digest, asked);
+    let (report, note) = parts_of(alloc, recorded);
+    let printed = print_report(report, out);
     tell(printed, &note, err)
 }
 
-/// Prints a report and the digests of its two files, and answers its verdict; or passes on a
-/// refusal.
-fn print_report<W: Sink>(
-    answer: Result<TableReport, Refusal>,
-    gsi: [u8; 32],
-    table: [u8; 32],
+/// A report with a table as it is printed, with the digests of its two files; or the refusal.
+fn recorded_both(
+    alloc: Global,
+    answer: Result<Noted<TableReport>, Refusal>,
+    gsi: &[u8; 32],
+    table: &[u8; 32],
     asked: &Asked<'_, '_>,
-    out: &mut W,
-) -> Result<(), Refusal>
-    ensures { PrintsBeside (λ report. PrintsVerdict
-        (recorded_both_text (head_of asked.now.head).notes.language report.text.items gsi
-        asked.now.head.path.now table asked.now.table_path.now)
-        report.beyond) answer result (writer_change W.Sink out.old out.new) }
+) -> Result<Noted<TableReport>, Refusal>
+    ensures { IsNotedMade (λ text. as_printed (asked_of asked.now).head.notes
+        (recorded_both_text (asked_of asked.now).head.notes.language text gsi.now
+        (asked_of asked.now).head.path table.now (asked_of asked.now).table_path))
+        answer result }
+{
+    let noted = answer?;
+    let beyond = noted.answer.beyond;
+    let text = with_digests(alloc, noted.answer.text, gsi, table, asked)?;
+    Ok(Noted {
+        answer: TableReport { text, beyond },
+        note: noted.note,
+    })
+}
+
+/// Prints a report, and answers its verdict; or passes on a refusal.
+fn print_report<W: Sink>(answer: Result<TableReport, Refusal>, out: &mut W) -> Result<(), Refusal>
+    ensures { PrintsBeside (λ report. PrintsReport (value_of report)) answer result
+        (writer_change W.Sink out.old out.new) }
 {
     let report = answer?;
-    write_recorded_both(
-        asked.head.language(),
-        &report.text,
-        &gsi,
-        asked.head.path,
-        &table,
-        asked.table_path,
-        out,
-    )?;
-    Ok(verdict(report.beyond)?)
+    Ok(Asked::print(report, out)?)
 }

@@ -1,27 +1,31 @@
 //! The rows of the report, with the digest of what was read.
 
-ghost use Rattle.std.specs.Prelude.{◌≡◌, ◌++◌, ⊤, IfOk};
+ghost use Rattle.std.specs.Prelude.{◌≡◌, ◌++◌, ⊤, IfOk, OnOk};
 ghost use Rattle.byte_ends.specs.Source.{UntilDropped};
 ghost use Rattle.byte_ends.specs.Writers.{writer_change};
 ghost use Rattle.csv.specs.Writing.{row_text};
+ghost use Rattle.hex.specs.Hex.{encode_lower};
 ghost use Rattle.row_forms.specs.Forms.{writer_of};
-ghost use Rattle.station_check.specs.RunEndings.{PrintsAnswer, Run};
-ghost use Rattle.station_compare.specs.Refusals.{refusal_text, unhinted};
-ghost use Rattle.station_compare.specs.declared.fault.CompareFault.TheVariants.{Write};
-ghost use Rattle.station_record.specs.AddedRow.{GetsRow};
+ghost use Rattle.row_forms.specs.Writing.{Writes};
+ghost use Rattle.row_forms.specs.declared.form.RowForm.{RowForm as Form};
+ghost use Rattle.station_check.specs.RunEndings.{Run};
+ghost use Rattle.station_compare.specs.Refusals.{refusal_text};
+ghost use Rattle.station_record.specs.Made.{IsMadeOf};
 ghost use Rattle.station_record.specs.Rows.{AreRecordedRows};
 ghost use Rattle.station_record.specs.Rows as spec;
 
 use crate::compare::report;
 use crate::named::NamedReader;
+use crate::texts::print_text;
 use byte_digests::Digesting;
 use byte_ends::{Sink, Source};
+use csv::Writer;
 use row_forms::{RowForm, rows_in, write_row};
 use station_answers::{ReportRows, answer_of};
 use station_book::ResultLimits;
-use station_check::write_whole;
 use station_compare::{CompareFault, Refusal};
 use std::alloc::{AllocError, Global};
+use std::io::Write;
 
 /// Writes the rows of the report of the station of this name as `run_answer` does of
 /// [`ReportRows`], and answers the exit status. After them it writes the row of the field file: the
@@ -48,7 +52,7 @@ pub fn run_rows_recorded<R: Source, W: Sink, E: Sink>(
     let (answer, digested) = answer_of(alloc, digested, station, limits, &asked);
     let digest = digested.digest();
     let recorded = with_file_row(alloc, answer, form, gsi.name, &digest);
-    let printed = print_rows(recorded, out);
+    let printed = print_text(recorded, out);
     report(printed, err)
 }
 
@@ -60,8 +64,8 @@ fn with_file_row(
     path: &[u8],
     digest: &[u8; 32],
 ) -> Result<Vec<u8>, Refusal>
-    ensures { GetsRow (λ text. text.items)
-        (row_text (writer_of form) (spec.file_row path.now digest.now)) answer result }
+    ensures { IsMadeOf (λ text. text.items)
+        (λ rows. spec.recorded_rows_text form rows path.now digest.now) answer result }
 {
     let mut rows = answer?;
     match push_file_row(alloc, &mut rows, form, path, digest) {
@@ -78,14 +82,24 @@ fn push_file_row(
     path: &[u8],
     digest: &[u8; 32],
 ) -> Result<(), AllocError>
-    ensures { IfOk result (λ _. rows.new.items
+    ensures { OnOk result (rows.new.items
         ≡ rows.old.items ++ row_text (writer_of form) (spec.file_row path.now digest.now)) }
 {
     let row = file_row(alloc, form, path, digest)?;
-    rows.extend_from_slice(&row)
+    rows.extend_from_slice(&row)?;
+    Ok(())
 }
 
-/// The row of a field file, as text: as wide as the others, with no byte in its further cells.
+/// The digits of a digest.
+fn digits_of(digest: &[u8; 32]) -> [u8; 64]
+    ensures { result ≡ encode_lower digest.now }
+{
+    let mut digits = [0; 64];
+    hex::encode_to_slice(digest, &mut digits).unwrap();
+    digits
+}
+
+/// The row of a field file, as text.
 fn file_row(
     alloc: Global,
     form: RowForm,
@@ -95,35 +109,38 @@ fn file_row(
     ensures { IfOk result (λ row. row.items
         ≡ row_text (writer_of form) (spec.file_row path.now digest.now)) }
 {
-    let mut digits = [0; 64];
-    hex::encode_to_slice(digest, &mut digits).unwrap();
-    let none = b"".as_slice();
-    let cells = [
-        b"file".as_slice(),
-        path,
-        &digits,
-        none,
-        none,
-        none,
-        none,
-        none,
-        none,
-        none,
-        none,
-        none,
-        none,
-    ];
     let mut writer = rows_in(form, Vec::new(alloc));
-    write_row(&mut writer, &cells)?;
+    write_file_row(&mut writer, path, digest)?;
     writer.into_inner().map_err(|_| AllocError)
 }
 
-/// Prints rows, and passes on a refusal.
-fn print_rows<W: Sink>(recorded: Result<Vec<u8>, Refusal>, out: &mut W) -> Result<(), Refusal>
-    ensures { PrintsAnswer (λ text. text.items) (unhinted Write) recorded result
-        (writer_change W.Sink out.old out.new) }
+/// Writes the row of a field file: as wide as the others, with no byte in its further cells.
+fn write_file_row<W: Write + Drop>(
+    writer: &mut Writer<W>,
+    path: &[u8],
+    digest: &[u8; 32],
+) -> Result<(), AllocError>
+    ensures { (form : Form) → OnOk result (Writes form W.contents writer.old writer.new
+        (row_text (writer_of form) (spec.file_row path.now digest.now))) }
 {
-    let text = recorded?;
-    write_whole(out, &text)?;
-    Ok(())
+    let digits = digits_of(digest);
+    let none = b"".as_slice();
+    write_row(
+        writer,
+        &[
+            b"file".as_slice(),
+            path,
+            digits.as_slice(),
+            none,
+            none,
+            none,
+            none,
+            none,
+            none,
+            none,
+            none,
+            none,
+            none,
+        ],
+    )
 }

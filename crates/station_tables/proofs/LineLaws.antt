@@ -1,12 +1,12 @@
 -- The lines of a text, byte by byte.
-use Rattle.std.proofs.Common.{◌≡◌, ◌∙◌, ◌++◌, ◌∷◌, ◌+◌, ◌-◌, ◌<◌, ◌≤◌, ◌==◌, List, ℕ, [], Bool, true}
+use Rattle.std.proofs.Common.{◌≡◌, ◌∙◌, ◌++◌, ◌∷◌, ◌+◌, ◌-◌, ◌<◌, ◌≤◌, List, ℕ, [], Bool, true}
 use Rattle.std.proofs.Common.{false, add-one, ap, append_assoc, arith, drop, drop-cons, get_or, length}
 use Rattle.std.proofs.Common.{length-drop, refl, sym, take}
 use Rattle.std.specs.Borrow.{Bor}
 use Rattle.std.specs.Prelude.{if◌then◌else◌}
 use Rattle.std.proofs.lemmas.List.{append-nil, drop_all, get_or-drop, map-append}
 use Rattle.std.proofs.lemmas.List.{take_more}
-use Rattle.station_tables.specs.Lines.{begun, lines_in, of_lines}
+use Rattle.station_tables.specs.Lines.{begun, ends_line, lines_in, of_lines}
 
 -- A list from a place is what stands at this place, and what comes after it.
 pub from_here : {X : Type 0} (xs : List X) (d : X) (i : ℕ) → i < length xs
@@ -20,12 +20,13 @@ begun_more f g [] = refl
 begun_more f g (line ∷ others) =
     ap (λ (l : List ℕ). l ∷ others) (sym (append_assoc f g line))
 
--- A line feed ends a line; no other byte does.
-ended : (b : ℕ) (text : List ℕ) → (b == 10) ≡ true → lines_in (b ∷ text) ≡ [] ∷ lines_in text
+-- A byte that ends a line does so; no other does.
+ended : (b : ℕ) (text : List ℕ) → ends_line b text ≡ true
+    → lines_in (b ∷ text) ≡ [] ∷ lines_in text
 unfolding lines_in
 ended b text e = rw e refl
 
-not_ended : (b : ℕ) (text : List ℕ) → (b == 10) ≡ false
+not_ended : (b : ℕ) (text : List ℕ) → ends_line b text ≡ false
     → lines_in (b ∷ text) ≡ begun (b ∷ []) (lines_in text)
 unfolding lines_in
 not_ended b text e = rw e refl
@@ -40,11 +41,11 @@ none_before false b lines = begun_more [] (b ∷ []) lines
 pub begun_none : (text : List ℕ) → begun [] (lines_in text) ≡ lines_in text
 unfolding lines_in
 begun_none [] = refl
-begun_none (b ∷ text) = none_before (b == 10) b (lines_in text)
+begun_none (b ∷ text) = none_before (ends_line b text) b (lines_in text)
 
 -- Where no line ends, the line that has begun has one more byte.
 pub goes_on : (text : List ℕ) (start place : ℕ) → start ≤ place → place < length text
-    → (get_or text place 0 == 10) ≡ false
+    → ends_line (get_or text place 0) (drop (place + 1) text) ≡ false
     → begun (take (place + 1 - start) (drop start text)) (lines_in (drop (place + 1) text))
     ≡ begun (take (place - start) (drop start text)) (lines_in (drop place text))
 goes_on text start place from inside e =
@@ -67,7 +68,8 @@ goes_on text start place from inside e =
 
 -- Where one ends, it is one of the lines, and the next has no byte yet.
 pub ends : (text piece : List ℕ) (before new : List (List ℕ)) (place : ℕ) → place < length text
-    → (get_or text place 0 == 10) ≡ true → new ≡ before ++ (piece ∷ [])
+    → ends_line (get_or text place 0) (drop (place + 1) text) ≡ true
+    → new ≡ before ++ (piece ∷ [])
     → new ++ begun (take (place + 1 - (place + 1)) (drop (place + 1) text))
     (lines_in (drop (place + 1) text))
     ≡ before ++ begun piece (lines_in (drop place text))

@@ -3,15 +3,16 @@ use Rattle.std.proofs.Common.{◌≡◌, ◌≢◌, ◌∙◌, ◌++◌, ◌∷�
 use Rattle.std.proofs.Common.{false, Option, Some, None, zero, suc, ap, append_assoc, arith, drop}
 use Rattle.std.proofs.Common.{get_or, length, refl, sym}
 use Rattle.std.specs.Borrow.{Bor}
-use Rattle.std.specs.Prelude.{◌||◌, Bool, is_some, option_map, slice_get, slice_index_or}
+use Rattle.std.specs.Prelude.{Bool, if◌then◌else◌, is_some, option_map, slice_get}
+use Rattle.std.specs.Prelude.{slice_index_or}
 use Rattle.std.proofs.lemmas.Option.{get_or_from_slice_get, slice_get_within}
 use Rattle.std.proofs.lemmas.List.{append-nil, drop-map, drop_all}
 use Rattle.station_book.specs.Stations.{SurveyedStation}
 use Rattle.station_tables.proofs.LineLaws.{from_here}
 use Rattle.station_tables.specs.Lines.{of_lines}
 use Rattle.station_tables.specs.Parts.{as_line, has_row, part_of, row_numbers}
-use Rattle.station_tables.specs.Said.{said_of}
-use Rattle.station_tables.specs.Strays.{is_of_any, is_stray, stray_from}
+use Rattle.station_tables.specs.Said.{is_of, said_of}
+use Rattle.station_tables.specs.Strays.{is_stray, of_how_many, stray_from}
 
 -- what stands where no line is
 abbrev pub no_line : Bor (List ℕ)
@@ -127,25 +128,34 @@ pub no_strays : (stations : List SurveyedStation) (n : ℕ) → stray_from stati
 unfolding stray_from
 no_strays stations n = refl
 
--- What is said of one of the stations that come is said of the one at the place or of another.
+-- Of as many of the stations that come a line is as of those after the one at the place, and of this
+-- one, where it is of that.
 module _ (line : List ℕ) (stations : List SurveyedStation) (place : ℕ) (its : SurveyedStation)
     (here : slice_get stations place ≡ Some its) where
-  any_from : is_of_any (drop place stations) line
-      ≡ (is_some (said_of its.station.name line) || is_of_any (drop (place + 1) stations) line)
-  any_from =
-      ap (λ (xs : List SurveyedStation). is_of_any xs line)
+  count_first : (own : Bool) (xs : List SurveyedStation) → is_of its.station.name line ≡ own
+      → of_how_many (its ∷ xs) line ≡ (if own then 1 else 0) + of_how_many xs line
+  count_first true xs e = rw e (omega arith)
+  count_first false xs e = rw e (omega arith)
+
+  count_from : (own : Bool) → is_of its.station.name line ≡ own
+      → of_how_many (drop place stations) line
+      ≡ (if own then 1 else 0) + of_how_many (drop (place + 1) stations) line
+  count_from own e =
+      ap (λ (xs : List SurveyedStation). of_how_many xs line)
       (from_here stations its place (slice_get_within stations place its here)
       ∙ ap (λ (s : SurveyedStation). s ∷ drop (place + 1) stations)
       (get_or_from_slice_get stations place its its here))
+      ∙ count_first own (drop (place + 1) stations) e
 
-  pub any_here : is_some (said_of its.station.name line) ≡ true
-      → is_of_any (drop place stations) line ≡ true
-  any_here e = any_from ∙ ap (λ (b : Bool). b || is_of_any (drop (place + 1) stations) line) e
+  pub count_here : (count : ℕ) → is_of its.station.name line ≡ true
+      → count + 1 + of_how_many (drop (place + 1) stations) line
+      ≡ count + of_how_many (drop place stations) line
+  count_here count e = omega (arith, count_from true e)
 
-  pub any_later : is_some (said_of its.station.name line) ≡ false
-      → is_of_any (drop (place + 1) stations) line ≡ is_of_any (drop place stations) line
-  any_later e =
-      sym (any_from ∙ ap (λ (b : Bool). b || is_of_any (drop (place + 1) stations) line) e)
+  pub count_later : (count : ℕ) → is_of its.station.name line ≡ false
+      → count + of_how_many (drop (place + 1) stations) line
+      ≡ count + of_how_many (drop place stations) line
+  count_later count e = omega (arith, count_from false e)
 
 -- Whether there is something doesn't hang on what is made of it.
 pub some_made : (said : Option (Bor (List ℕ))) (o : Option (List ℕ))

@@ -1,6 +1,6 @@
 -- What a line of a table says of a station.
 use Rattle.std.specs.Prelude.{◌==◌, ◌||◌, ℕ, Bool, List, [], ◌∷◌, ◌++◌, drop, length}
-use Rattle.std.specs.Prelude.{Option, Some, None, nat_eq, if◌then◌else◌}
+use Rattle.std.specs.Prelude.{Option, Some, None, is_some, nat_eq, if◌then◌else◌}
 use Rattle.std.specs.List.{starts_with}
 
 -- A comma, a semicolon or a tab stands between the name of a station and what is said of it.
@@ -37,6 +37,10 @@ first_there None second = second
 first_there (Some first) second = Some first
 
 -- What a line says of the station of this name: what stands after the name, which may be in double
--- quotes, and a separator. Of no other station it says anything.
+-- quotes, and a separator. `S,T,0` says something of `S`, and of `S,T` if that is a name too.
 abbrev pub said_of : List ℕ → List ℕ → Option (List ℕ)
 said_of name line = first_there (after_front name line) (after_front (quoted name) line)
+
+-- A line is of the station of this name where it says something of it.
+abbrev pub is_of : List ℕ → List ℕ → Bool
+is_of name line = is_some (said_of name line)

@@ -1,6 +1,6 @@
 //! The lines of a table.
 
-ghost use Rattle.std.specs.Prelude.{◌≡◌, ◌≤◌, ◌+◌, ◌==◌, IfOk, length};
+ghost use Rattle.std.specs.Prelude.{◌≡◌, ◌≤◌, ◌+◌, IfOk, length};
 ghost use Rattle.station_tables.specs.Lines as spec;
 ghost use Rattle.station_tables.specs.Lines.{of_lines};
 
@@ -24,7 +24,28 @@ fn without_mark(text: &[u8]) -> &[u8]
     }
 }
 
-/// The lines of a table, each without its line feed; a byte order mark is passed over.
+/// The byte of a carriage return.
+const CARRIAGE_RETURN: u8 = b'\r';
+
+/// Whether a text begins with a line feed.
+fn feeds(text: &[u8]) -> bool
+    ensures { result ≡ spec.feeds text.now }
+{
+    match text {
+        [] => false,
+        [byte, ..] => *byte == b'\n',
+    }
+}
+
+/// Whether a line ends with this byte before this text: a line feed, or a carriage return that none
+/// follows.
+fn ends_line(byte: u8, after: &[u8]) -> bool
+    ensures { result ≡ spec.ends_line byte after.now }
+{
+    byte == b'\n' || (byte == CARRIAGE_RETURN && !feeds(after))
+}
+
+/// The lines of a table, each without the byte that ends it; a byte order mark is passed over.
 ///
 /// The only error is that memory was refused.
 pub fn lines_of(alloc: Global, table: &[u8]) -> Result<Vec<&[u8]>, AllocError>
@@ -35,7 +56,7 @@ pub fn lines_of(alloc: Global, table: &[u8]) -> Result<Vec<&[u8]>, AllocError>
     let mut lines = Vec::new(alloc);
     let mut start = 0;
     'bytes: for place in 0..text.len() {
-        if text[place] == b'\n' {
+        if ends_line(text[place], &text[place + 1..]) {
             lines.push(&text[start..place])?;
             start = place + 1;
         }
@@ -44,13 +65,13 @@ pub fn lines_of(alloc: Global, table: &[u8]) -> Result<Vec<&[u8]>, AllocError>
     Ok(lines)
 }
 
-/// Whether something stands in a line: more than the carriage return that may end it.
+/// Whether something stands in a line: more than the carriage return before its line feed.
 pub(crate) fn has_text(line: &[u8]) -> bool
     ensures { result ≡ spec.has_text line.now }
 {
     match line {
         [] => false,
-        [byte] => *byte != b'\r',
+        [byte] => *byte != CARRIAGE_RETURN,
         _ => true,
     }
 }

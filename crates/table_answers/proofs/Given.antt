@@ -1,6 +1,6 @@
 -- From what is said of a station and a table's input to what is answered, and how the readers are
 -- left.
-use Rattle.std.proofs.Common.{◌≡◌, inl, inr, ℕ, List, Some, None, Result, Ok, Err, refl, subst}
+use Rattle.std.proofs.Common.{◌≡◌, inl, inr, ℕ, List, Some, None, Result, Ok, Err, refl, subst, sym}
 use Rattle.std.specs.Prelude.{MatchResult, OnOk}
 use Rattle.adjust_kernel.specs.Stations.{StationValue}
 use Rattle.byte_ends.proofs.Coming.{given_as_told, some_left}
@@ -128,6 +128,17 @@ left_by_input form So station residual input (Err (Adjust fault)) gsi h out = ou
 left_by_input form So station residual input (Err (Apart apart)) gsi h out = out
 left_by_input form So station residual input (Err Write) gsi h out = out
 left_by_input form So station residual input (Err Memory) gsi h out = out.unfailed
+
+-- What is answered of bytes is answered of an input that ended with them.
+pub by_ended : {T V : Type 0} (Says : List ℕ → V → Type 0) (value : T → V) (form : TableForm)
+    (station : StationValue) (residual : ℕ) (bytes : List ℕ) (input : Input)
+    (r : Result T CompareFault) → input ≡ Ended bytes
+    → MatchResult r (λ t. Says bytes (value t)) (HasNoAnswerOf form station residual bytes)
+    → MatchResult r (λ t. SaysOfInput Says input (value t))
+    (HasNoAnswerOfInput form station residual input)
+by_ended Says value form station residual bytes input r ended h =
+    subst (λ (i : Input). MatchResult r (λ t. SaysOfInput Says i (value t))
+    (HasNoAnswerOfInput form station residual i)) (sym ended) h
 
 -- How what is answered of a table's bytes leaves its reader, which has ended.
 pub left_by_bytes : (form : TableForm) {T : Type 0} (So : T → Type 0) (station : StationValue)

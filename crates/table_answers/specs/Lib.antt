@@ -2,6 +2,7 @@
 -- needs them.
 pub mod Saying
 pub mod Refusing
+pub mod OtherUnits
 pub mod Noting
 pub mod Answers
 pub mod Printing
@@ -13,5 +14,6 @@ pub mod Wholes
 pub mod WholeParts
 -- The inside.
 pub mod OfInput
+pub mod NearTables
 pub mod OneCompared
 pub mod OneWhole

@@ -16,7 +16,7 @@ ghost use Rattle.table_report.specs.Stating.{beyond_of};
 use crate::answer::TableAnswer;
 use crate::answering::{run_table_answer, table_answer_of};
 use crate::compared::Compared;
-use crate::noted::{Noted, note_text};
+use crate::noted::{Noted, note_of};
 use adjust_kernel::Station;
 use byte_ends::{Sink, Source};
 use direction_table::{TableForm, read_stated_table};
@@ -71,7 +71,7 @@ impl TableAnswer for Comparison {
         let apart = apart_by(station, &adjustment, &stated.directions, stated.most_off);
         let limit = self.within.unwrap_or(stated.usual_within);
         let how_far = HowFar { apart, limit };
-        let note = note_text(alloc, stated.by_columns)?;
+        let note = note_of(alloc, self.form, station, &adjustment, &stated, bytes)?;
         let answer = compared_by(alloc, station, &adjustment, how_far)?;
         Ok(Noted { answer, note })
     }

@@ -7,14 +7,15 @@ ghost use Rattle.table_answers.specs.Printing.{PrintsText};
 ghost use Rattle.table_answers.specs.Saying.{SaysDifferences};
 
 use crate::answer::TableAnswer;
-use crate::noted::{Noted, note_text};
+use crate::noted::{Noted, note_of};
 use byte_ends::Sink;
 use direction_table::{TableForm, read_stated_table};
+use exact_adjustment::adjust;
 use row_forms::RowForm;
 use station_book::{ResultLimits, Surveyed};
 use station_check::write_whole;
 use station_compare::CompareFault;
-use station_differences::{target_differences, text_of};
+use station_differences::{differences_by, text_of};
 use std::alloc::Global;
 
 /// The differences of a table from a station: a row of titles, and a row for each of its targets,
@@ -53,8 +54,10 @@ impl TableAnswer for Differences {
     ) -> Result<Noted<Vec<u8>>, CompareFault> {
         let station = surveyed.station();
         let stated = read_stated_table(alloc, self.form, station.targets(), bytes)?;
-        let note = note_text(alloc, stated.by_columns)?;
-        let rows = target_differences(alloc, station, &stated.directions, limits.residual)?;
+        let adjustment = adjust(alloc, station, limits.residual)?;
+        let note = note_of(alloc, self.form, station, &adjustment, &stated, bytes)?;
+        let targets = station.targets();
+        let rows = differences_by(alloc, targets, &adjustment, &stated.directions)?;
         let answer = text_of(alloc, &rows, self.rows)?;
         Ok(Noted { answer, note })
     }

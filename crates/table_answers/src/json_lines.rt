@@ -7,13 +7,14 @@ ghost use Rattle.table_answers.specs.Printing.{PrintsText};
 ghost use Rattle.table_answers.specs.Saying.{SaysJsonLines};
 
 use crate::answer::TableAnswer;
-use crate::noted::{Noted, note_text};
+use crate::noted::{Noted, note_of};
 use byte_ends::Sink;
 use direction_table::{TableForm, read_stated_table};
+use exact_adjustment::adjust;
 use station_book::{ResultLimits, Surveyed};
 use station_check::write_whole;
 use station_compare::CompareFault;
-use station_differences::{json_lines_of, target_differences};
+use station_differences::{differences_by, json_lines_of};
 use std::alloc::Global;
 
 /// What [`crate::Differences`] has in rows, as JSON lines: an object for each target.
@@ -45,8 +46,10 @@ impl TableAnswer for JsonLines {
     ) -> Result<Noted<Vec<u8>>, CompareFault> {
         let station = surveyed.station();
         let stated = read_stated_table(alloc, self.form, station.targets(), bytes)?;
-        let note = note_text(alloc, stated.by_columns)?;
-        let rows = target_differences(alloc, station, &stated.directions, limits.residual)?;
+        let adjustment = adjust(alloc, station, limits.residual)?;
+        let note = note_of(alloc, self.form, station, &adjustment, &stated, bytes)?;
+        let targets = station.targets();
+        let rows = differences_by(alloc, targets, &adjustment, &stated.directions)?;
         let answer = json_lines_of(alloc, &rows)?;
         Ok(Noted { answer, note })
     }

@@ -1,12 +1,15 @@
 //! Laws of the definitions that contracts cite. The functions do nothing.
 ghost use Rattle.std.specs.Prelude.{◌≡◌, ℕ, List, Result};
+ghost use Rattle.adjust_kernel.specs.Stations.{StationValue};
 ghost use Rattle.byte_ends.specs.Source.{Told};
+ghost use Rattle.direction_table.specs.declared.form.TableForm.{TableForm};
 ghost use Rattle.gsi_file.specs.FileAnswers.{FileAnswers};
 ghost use Rattle.station_book.specs.Limits.{AreLimits};
 ghost use Rattle.station_book.specs.declared.result_limits.ResultLimits.{ResultLimits};
 ghost use Rattle.station_compare.specs.OneAnswer.{IsSettled};
 ghost use Rattle.station_compare.specs.declared.fault.CompareFault.{CompareFault};
 ghost use Rattle.table_answers.specs.Answers.{StatesBeside, TellsBeside};
+ghost use Rattle.table_answers.specs.Noting.{IsNote};
 ghost use Rattle.table_answers.specs.WholeParts.{HasPartsBeside};
 ghost use Rattle.table_answers.specs.Wholes.{IsWhole, WholeValue};
 ghost use Rattle.table_report.specs.Stating.{ReportAsked};
@@ -32,4 +35,10 @@ pub fn parts_alone()
         (name : List ℕ) (whole : WholeValue)
         → StatesBeside (IsWhole asked limits) limits file stated name whole
         → HasPartsBeside asked limits file stated name whole }
+{}
+
+/// A table has one note beside a station, as it is read: which unit it names, if any, is settled.
+pub fn one_note()
+    ensures { (form : TableForm) (station : StationValue) (bytes a b : List ℕ)
+        → IsNote form station bytes a → IsNote form station bytes b → a ≡ b }
 {}

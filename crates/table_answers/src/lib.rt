@@ -16,6 +16,7 @@ mod differences;
 mod json_lines;
 pub mod laws;
 mod noted;
+mod other_unit;
 mod report;
 mod telling;
 mod verdict_row;

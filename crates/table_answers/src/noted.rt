@@ -1,8 +1,16 @@
 //! What is told of a table beside the answer.
-ghost use Rattle.std.specs.Prelude.{◌≡◌, IfOk};
-ghost use Rattle.direction_table.specs.TableNotes.{told_note};
+ghost use Rattle.std.specs.Prelude.{◌≡◌, ◌≤◌, IfOk, length};
+ghost use Rattle.adjust_kernel.specs.declared.bounds.TheConstants.{LARGEST_RESIDUAL_LIMIT};
+ghost use Rattle.direction_table.specs.TableNotes.{table_note, told_note};
+ghost use Rattle.exact_adjustment.specs.Exact.{IsExact, KeepsLimit};
+ghost use Rattle.exact_adjustment.specs.LeastOf.{AreTied};
+ghost use Rattle.table_answers.specs.NearTables.{IsReadAs};
+ghost use Rattle.table_answers.specs.Noting.{IsNote};
 
-use direction_table::{ByColumns, push_note};
+use crate::other_unit::{other_unit, unit_note};
+use adjust_kernel::Station;
+use direction_table::{ByColumns, DEGREE_PARTS, StatedTable, TableForm, push_note};
+use exact_adjustment::Adjustment;
 use std::alloc::{AllocError, Global};
 
 /// An answer, and what is told of the table.
@@ -10,12 +18,42 @@ use std::alloc::{AllocError, Global};
 pub struct Noted<T> {
     /// The answer.
     pub answer: T,
-    /// The line of the note of a table that was read by a pair of its columns; else no byte.
+    /// A line of a table that was read by a pair of its columns; and one that names the unit in
+    /// which it agrees, where it is apart as it was read; else no byte.
     pub note: Vec<u8>,
 }
 
-/// The note of a table that was read by a pair of its columns, or else no byte.
-pub(crate) fn note_text(alloc: Global, by_columns: Option<ByColumns>) -> Result<Vec<u8>, AllocError>
+/// The note of a table that states this: by which pair of its columns it was read, and in which
+/// unit it agrees, where it is apart as it is read.
+///
+/// The only error is that memory was refused.
+pub(crate) fn note_of(
+    alloc: Global,
+    form: TableForm,
+    station: &Station,
+    adjustment: &Adjustment,
+    stated: &StatedTable,
+    bytes: &[u8],
+) -> Result<Vec<u8>, AllocError>
+    requires exact { IsExact station.now adjustment.now }
+    requires limited { KeepsLimit station.now adjustment.now LARGEST_RESIDUAL_LIMIT }
+    requires tied { AreTied station.now }
+    requires each { length stated.now.directions.items ≡ length station.now.targets }
+    requires off { stated.now.most_off ≤ DEGREE_PARTS }
+    requires read { IsReadAs form station.now bytes.now stated.now.directions.items
+        stated.now.most_off stated.now.usual_within }
+    requires note { told_note stated.now.by_columns
+        ≡ table_note form station.now.targets bytes.now }
+    ensures { IfOk result (λ note. IsNote form station.now bytes.now note.items) }
+{
+    let other = other_unit(alloc, form, station, adjustment, stated, bytes)?;
+    let mut note = columns_note(alloc, stated.by_columns)?;
+    note.extend_from_slice(unit_note(other))?;
+    Ok(note)
+}
+
+/// The line of a table that was read by a pair of its columns, or else no byte.
+fn columns_note(alloc: Global, by_columns: Option<ByColumns>) -> Result<Vec<u8>, AllocError>
     ensures { IfOk result (λ note. note.items ≡ told_note by_columns) }
 {
     let mut note = Vec::new(alloc);

@@ -7,14 +7,16 @@ ghost use Rattle.table_report.specs.Stating.{ReportValue};
 ghost use Rattle.table_report.specs.Values.{asked_of, value_of};
 
 use crate::answer::TableAnswer;
-use crate::noted::{Noted, note_text};
+use crate::compared::beyond;
+use crate::noted::{Noted, note_of};
 use byte_ends::Sink;
 use direction_table::read_stated_table;
+use exact_adjustment::adjust;
 use station_book::{ResultLimits, Surveyed};
 use station_check::write_whole;
 use station_compare::{CompareFault, HowFar};
 use std::alloc::Global;
-use table_report::{Asked, StatedDirections, TableReport, report_beside};
+use table_report::{Asked, StatedDirections, TableReport, beside_by};
 
 impl<'a, 'n> TableAnswer for Asked<'a, 'n> {
     type Answer = TableReport;
@@ -36,15 +38,21 @@ impl<'a, 'n> TableAnswer for Asked<'a, 'n> {
         surveyed: &Surveyed,
         bytes: &[u8],
     ) -> Result<Noted<TableReport>, CompareFault> {
-        let table = read_stated_table(alloc, self.form, surveyed.station().targets(), bytes)?;
+        let station = surveyed.station();
+        let table = read_stated_table(alloc, self.form, station.targets(), bytes)?;
+        let adjustment = adjust(alloc, station, limits.residual)?;
+        let note = note_of(alloc, self.form, station, &adjustment, &table, bytes)?;
         let limit = self.within.unwrap_or(table.usual_within);
-        let note = note_text(alloc, table.by_columns)?;
         let stated = StatedDirections {
             directions: &table.directions,
             off: table.most_off,
             limit,
         };
-        let answer = report_beside(alloc, self, limits, surveyed, &stated)?;
+        let beside = beside_by(alloc, self, limits, surveyed, &adjustment, &stated)?;
+        let answer = TableReport {
+            beyond: beyond(beside.how_far),
+            text: beside.report,
+        };
         Ok(Noted { answer, note })
     }
 

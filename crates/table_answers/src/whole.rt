@@ -11,7 +11,7 @@ ghost use Rattle.table_report.specs.Values.{asked_of};
 use crate::answer::TableAnswer;
 use crate::compared::Compared;
 use crate::comparison::compared_by;
-use crate::noted::{Noted, note_text};
+use crate::noted::{Noted, note_of};
 use crate::report::verdict;
 use crate::verdict_row::{verdict_line, verdict_rows};
 use arrayvec::ArrayVec;
@@ -70,7 +70,6 @@ impl<'a, 'n> TableAnswer for Whole<'a, 'n> {
     ) -> Result<Noted<WholeTable>, CompareFault> {
         let (asked, station) = (&self.asked, surveyed.station());
         let table = read_stated_table(alloc, asked.form, station.targets(), bytes)?;
-        let note = note_text(alloc, table.by_columns)?;
         let limit = asked.within.unwrap_or(table.usual_within);
         let adjustment = adjust(alloc, station, limits.residual)?;
         let stated = StatedDirections {
@@ -82,6 +81,7 @@ impl<'a, 'n> TableAnswer for Whole<'a, 'n> {
         let compared = compared_by(alloc, station, &adjustment, beside.how_far)?;
         let differences = text_of(alloc, &beside.rows, RowForm::Commas)?;
         let text = whole_text(alloc, &compared, &differences, &beside.report)?;
+        let note = note_of(alloc, asked.form, station, &adjustment, &table, bytes)?;
         let answer = WholeTable { compared, text };
         Ok(Noted { answer, note })
     }

@@ -313,7 +313,7 @@ fn lines_are_as_the_formats_have_them(rt: HostRuntime) -> Result<(), Fail> {
 
 #[test]
 fn a_run_prints_its_line_and_answers_its_status(rt: HostRuntime) -> Result<(), Fail> {
-    let cases: [(&[u8], bool, u8, &[u8], &[u8]); 3] = [
+    let cases: [(&[u8], bool, u8, &[u8], &[u8]); 4] = [
         (
             b"A,0\nB,50.00003\n",
             false,
@@ -329,12 +329,20 @@ fn a_run_prints_its_line_and_answers_its_status(rt: HostRuntime) -> Result<(), F
             b"refused: table: Missing 2\nthe table lacks B\n",
         ),
         (b"A,0\n", true, 1, b"", b"refused: table: Read\n"),
+        (
+            b"A,0.0000\nB,45.0000\n",
+            false,
+            1,
+            b"",
+            b"note: read as degrees, with --degrees, the table agrees within its usual limit\n\
+            refused: compare: Apart 2500.015 mgon, limit 0.055 mgon\n",
+        ),
     ];
-    for (table, fails, status, printed, refused) in cases {
+    for (table, fails, status, printed, told) in cases {
         let gsi = Script::new(S1, usize::MAX, false);
         let mut table = Script::new(table, 1, fails);
         let mut out = Held::new(rt.alloc(), 100, 100, false).map_err(|_| "no memory")?;
-        let mut err = Held::new(rt.alloc(), 100, 100, false).map_err(|_| "no memory")?;
+        let mut err = Held::new(rt.alloc(), 200, 100, false).map_err(|_| "no memory")?;
         let limits = limits(&rt);
         let alloc = rt.alloc();
         let answer = run_compare(
@@ -350,7 +358,7 @@ fn a_run_prints_its_line_and_answers_its_status(rt: HostRuntime) -> Result<(), F
         );
         assert_eq!(rt; answer, status);
         assert_eq!(rt; out.bytes(), printed);
-        assert_eq!(rt; err.bytes(), refused);
+        assert_eq!(rt; err.bytes(), told);
     }
     Ok(())
 }

@@ -20,9 +20,9 @@ returns g c =
     let limits = c.args.limits in
     let arrangement = c.args.arrangement in
     let found = c.in-Ok.found in
-    let answer = c.text_of_stations-answer.result in
+    let answer = c.text_of_each_alone-answer.result in
     let file = rw c.in-Ok.is at c.noted_stations_of_file-noted.ensures.surveys in
-    let told = c.text_of_stations-answer.ensures in
+    let told = c.text_of_each_alone-answer.ensures in
     record {
       came = came_so _
           (λ (gsi : Told). NotesSurvey limits.faces (file_answers gsi) (Ok found))

@@ -3,7 +3,7 @@ use Rattle.byte_ends.proofs.Coming.{given_none, some_left}
 use Rattle.byte_ends.specs.Input.{input_within}
 use Rattle.byte_ends.specs.Source.{given_then}
 use Rattle.book_answers.proofs.FileLaws.{none_named}
-use Rattle.book_answers.proofs.TableLaws.{gsi_left, told_of_all, why_of_file}
+use Rattle.book_answers.proofs.TableLaws.{gsi_left, told_of_table, why_of_file}
 use Rattle.book_answers.specs.Refusals.{of_no_one}
 use Rattle.station_compare.proofs.Comparisons.{left_alone, left_by_file}
 use Rattle.station_compare.specs.Faults.{of_file}
@@ -26,9 +26,9 @@ returns g c =
       table_bytes = q.given;
       table_reads = q.by_reads;
       so = λ gsi_left table_left gsi_may table_may.
-          told_of_all c.args.asked limits found.0 found.1 (λ text. text.items) _
-          (s.so gsi_left gsi_may) c.recall.ensures some _ answer (q.so table_left table_may);
-      gsi_reader = gsi_left c.args.asked limits found.0 found.1 (λ text. text.items)
+          told_of_table c.args.asked limits _ found.0 found.1 (s.so gsi_left gsi_may)
+          c.recall.ensures some _ answer (q.so table_left table_may);
+      gsi_reader = gsi_left c.args.asked limits found.0 found.1
           (input_within LONGEST_TABLES (given_then q.given left.0)) answer _ file.left
           (q.so left.0 left.1);
       table_reader = c.text_of_input-answer.ensures.reader;

@@ -9,6 +9,6 @@ returns c =
     let lines = tables.of_lines c.deref-2.result.now in
     let is : lines ≡ tables.lines_of c.args.bytes.now = search rules in
     let none : first_stray c.args.stations.now lines ≡ None = search rules in
-    let told = rw c.arrangement_of.ensures at c.text_of_stations.ensures in
-    of_lines c.args.asked c.args.limits c.args.stations.now c.args.unchecked (λ text. text.items)
-    c.args.bytes.now lines is none c.text_of_stations.result told
+    let one = rw c.arrangement_of.ensures at c.text_of_stations.ensures.text in
+    of_lines c.args.asked c.args.limits c.args.stations.now c.args.unchecked c.args.bytes.now lines
+    is none c.text_of_stations.result one c.text_of_stations.ensures.noted

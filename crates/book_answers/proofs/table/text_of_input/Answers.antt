@@ -13,5 +13,5 @@ text_of_bytes-requires g c =
 
 pub returns-in-Ok-clause-reader : goal.returns-in-Ok-clause-reader
 returns-in-Ok-clause-reader g c =
-    bytes_left c.args.asked c.args.limits c.args.stations.now c.args.unchecked (λ text. text.items)
+    bytes_left c.args.asked c.args.limits c.args.stations.now c.args.unchecked
     c.deref.result.now c.text_of_bytes.result _ c.in-Ok.ensures.left c.text_of_bytes.ensures

@@ -19,7 +19,8 @@ returns g c =
     let held = (kept told failed gave old new a.came.given c.new-reading.ensures.nothing
     a.came.by_reads).1 in
     rw (sym c.new-reading.ensures.reader, c.into_parts-gsi.ensures.reader)
-    (all_answered (λ text. text.items) (head_of c.args.head) c.args.limits _ answer c.answers_with.result _ tells
+    (all_answered (λ text. text.items) (head_of c.args.head) c.args.limits _ answer
+    c.answers_with.result _ tells
     (subst (λ (b : Option (List ℕ)). IfSome b (λ bytes. a.came.given ≡ bytes))
     (sym c.into_parts-gsi.ensures.kept) held)
     (rw c.language.ensures at c.answers_with.ensures))

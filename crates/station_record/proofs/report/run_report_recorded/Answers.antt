@@ -16,16 +16,17 @@ returns g c =
     let answer = c.report_of-answer.result.0 in
     let a = c.report_of-answer.ensures in
     let out = writer_change g.W.Sink c.args.out.now
-    c.print_report-printed.new.out in
-    let printed = c.print_report-printed.result in
+    c.print_text-printed.new.out in
+    let printed = c.print_text-printed.result in
     let tells = field_file_of g.R.Source.told g.R.Source.failed g.R.Source.gave gsi gsi'
     (by_fault answer) _
     c.new-digested.ensures.nothing a in
     let held = (digested g.R.Source.told g.R.Source.failed g.R.Source.gave gsi gsi'
     a.came.given c.new-digested.ensures.nothing a.came.by_reads).1 in
     let run = recorded_report (λ text. text.items) (head_of c.args.gsi.head) c.args.limits _
-    c.args.station.now answer tells c.digest-digest.result
-    (c.digest-digest.ensures a.came.given held) printed out c.print_report-printed.ensures in
+    c.args.station.now answer c.recorded_report-recorded.result tells c.digest-digest.result
+    (c.digest-digest.ensures a.came.given held) c.recorded_report-recorded.ensures printed out
+    c.print_text-printed.ensures in
     let of_gsi = subst (λ (r : _). IsRecordedReport (head_of c.args.gsi.head) c.args.limits
     (reader_change g.R.Source.told g.R.Source.failed g.R.Source.gave r (reader_of gsi'))
     c.args.station.now printed out) c.new-digested.ensures.reader run in (

@@ -4,10 +4,9 @@ use Rattle.byte_digests.specs.Digesting.{reader_of}
 use Rattle.byte_ends.specs.Writers.{writer_change}
 use Rattle.byte_ends.specs.Source.{reader_change}
 use Rattle.station_compare.specs.Refusals.{by_fault}
-use Rattle.station_record.specs.Recorded.{IsRecordedTableReport, PrintsRecordedReport}
-use Rattle.station_record.proofs.ReportUndigested.{both_of, recorded_both}
-use Rattle.instrument_reports.specs.Answers.{SaysTableReportOf}
-use Rattle.table_report.specs.Values.{asked_of, value_of}
+use Rattle.station_record.specs.Recorded.{IsRecordedTableReport}
+use Rattle.station_record.proofs.ReportUndigested.{both_of, recorded_table}
+use Rattle.table_report.specs.Values.{asked_of}
 use Rattle.station_record.proofs.report_with_table.run_table_report_recorded.Goals as goal
 
 pub returns : goal.returns
@@ -30,12 +29,12 @@ returns g c =
     a.gsi_bytes c.new-digested_gsi.ensures.nothing a.gsi_reads).1 in
     let table_held = (digested g.Q.Source.told g.Q.Source.failed g.Q.Source.gave table table'
     a.table_bytes c.new-digested_table.ensures.nothing a.table_reads).1 in
-    let run = recorded_both value_of (λ file. SaysTableReportOf file asked c.args.limits)
-    (PrintsRecordedReport asked) asked.form c.args.limits _ _ c.args.station.now answer
-    parts.result.0 parts.result.1.items parts.ensures tells
-    c.digest-gsi_digest.result c.digest-table_digest.result
+    let run = recorded_table asked c.args.limits _ _ c.args.station.now answer
+    c.recorded_both-recorded.result tells c.digest-gsi_digest.result c.digest-table_digest.result
     (c.digest-gsi_digest.ensures a.gsi_bytes gsi_held)
-    (c.digest-table_digest.ensures a.table_bytes table_held) printed out
+    (c.digest-table_digest.ensures a.table_bytes table_held)
+    c.recorded_both-recorded.ensures
+    parts.result.0 parts.result.1.items parts.ensures printed out
     c.print_report-printed.ensures in
     let of_gsi = subst (λ (r : _). IsRecordedTableReport asked c.args.limits
     (reader_change g.R.Source.told g.R.Source.failed g.R.Source.gave r (reader_of gsi'))

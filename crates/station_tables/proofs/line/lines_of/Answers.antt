@@ -1,10 +1,11 @@
-use Rattle.std.proofs.Common.{◌≡◌, ◌-◌, ◌∙◌, ◌++◌, ◌∷◌, List, ℕ, [], ap, arith, drop}
-use Rattle.std.proofs.Common.{rules, take}
+use Rattle.std.proofs.Common.{◌≡◌, ◌-◌, ◌+◌, ◌∙◌, ◌++◌, ◌∷◌, List, ℕ, [], ap, arith, drop, get_or}
+use Rattle.std.proofs.Common.{length, length-drop, rules, sym, take}
+use Rattle.std.proofs.lemmas.List.{take_all}
 use Rattle.station_tables.proofs.LineLaws.{all_held, begun_none, ends, goes_on, held_more}
-use Rattle.station_tables.specs.Lines.{lines_in, of_lines}
+use Rattle.station_tables.specs.Lines.{ends_line, lines_in, of_lines}
 use Rattle.station_tables.proofs.line.lines_of.Goals as goal
-use Rattle.station_tables.proofs.line.lines_of.Goals.{then-text-place-eq10+in_ok-push}
-use Rattle.station_tables.proofs.line.lines_of.Goals.{else-text-place-eq10}
+use Rattle.station_tables.proofs.line.lines_of.Goals.{then-ends_line+in_ok-push}
+use Rattle.station_tables.proofs.line.lines_of.Goals.{else-ends_line}
 
 pub bytes-init : goal.bytes-init
 bytes-init c = record {
@@ -20,20 +21,26 @@ bytes-preserved c =
     let start = c.bytes.start in
     let before = of_lines c.bytes.lines.items in
     let piece = take (place - start) (drop start text) in
-    elim c.if-text-place-eq10.branch [
-      | then-text-place-eq10+in_ok-push w ↦
+    let after = drop (place + 1) text in
+    let cut : take (length text - (place + 1)) after ≡ after =
+    take_all (length text - (place + 1)) after (omega (arith, length-drop (place + 1) text)) in
+    let told : ends_line (get_or text place 0) after ≡ c.ends_line.result =
+    ap (ends_line (get_or text place 0)) (sym cut) ∙ sym c.ends_line.ensures in
+    elim c.if-ends_line.branch [
+      | then-ends_line+in_ok-push w ↦
           let more : of_lines w.push.new.self.items ≡ before ++ (piece ∷ []) =
           held_more c.bytes.lines.items w.push.new.self.items _ w.in_ok-push.ensures.items in
           rw (w.lines-is, w.start-is) (record {
             whole = ends text piece before (of_lines w.push.new.self.items) place (search rules)
-                (search rules) more ∙ c.bytes.invariant.whole;
+                (told ∙ w.if-ends_line.true) more ∙ c.bytes.invariant.whole;
             begins = omega arith;
             few = omega (arith, w.in_ok-push.ensures.len, c.bytes.invariant.few, c.bytes.invariant.begins);
           })
-      | else-text-place-eq10 w ↦
+      | else-ends_line w ↦
           rw (w.lines-is, w.start-is) (record {
             whole = ap (λ (ls : List (List ℕ)). before ++ ls)
-                (goes_on text start place c.bytes.invariant.begins (search rules) (search rules))
+                (goes_on text start place c.bytes.invariant.begins (search rules)
+                (told ∙ w.if-ends_line.false))
                 ∙ c.bytes.invariant.whole;
             begins = omega (arith, c.bytes.invariant.begins);
             few = c.bytes.invariant.few;

@@ -1,6 +1,8 @@
-use Rattle.std.proofs.Common.{rules}
+use Rattle.std.proofs.Common.{rules, ap, sym, ◌∙◌}
 use Rattle.byte_ends.proofs.Coming.{came_so}
-use Rattle.table_answers.proofs.Given.{left_by_bytes}
+use Rattle.byte_ends.specs.Input.{Ended, input_within}
+use Rattle.direction_table.specs.declared.reading.TheConstants.{LONGEST_TABLE}
+use Rattle.table_answers.proofs.Given.{by_ended, left_by_bytes}
 use Rattle.table_answers.specs.Noting.{Noting}
 use Rattle.table_answers.proofs.answering.answer_of_input.Goals as goal
 
@@ -10,7 +12,13 @@ returns-in_err-bytes-clause-tells g c =
 
 pub returns-clause-tells : goal.returns-clause-tells
 returns-clause-tells g c =
-    came_so _ _ _ c.in_ok-bytes.ensures.came (λ stated came. search rules)
+    let form = g.A.TableAnswer.form_of c.args.asked.now in
+    came_so _ _ _ c.in_ok-bytes.ensures.came (λ stated came.
+    by_ended (Noting (g.A.TableAnswer.says c.args.asked.now c.args.limits) form
+    c.args.surveyed.now) (λ noted. (g.A.TableAnswer.value noted.answer, noted.note.items)) form
+    c.args.surveyed.now.station c.args.limits.residual c.deref.result.now
+    (input_within LONGEST_TABLE stated) c.of_table.result
+    (came ∙ ap Ended (sym c.deref.ensures.value)) c.of_table.ensures.tells)
 
 pub returns-clause-reader : goal.returns-clause-reader
 returns-clause-reader g c =

@@ -19,5 +19,5 @@ returns-clause-tells c =
             };
             limit = search rules;
           }),
-      search rules,
+      rw c.station-station.ensures at c.in_ok-note.ensures,
     )

@@ -17,7 +17,7 @@ returns-clause-tells c =
         compares = by_how_far asked.form its.station c.args.limits.residual bytes asked.within
             beside.how_far compared
             (rw c.station-station.ensures at c.in_ok-compared.ensures.compared) (record {
-              held = search rules;
+              held = rw c.station-station.ensures at c.in_ok-adjustment.ensures.held;
               compared = record {
                 directions = directions;
                 states = search rules;
@@ -43,5 +43,8 @@ returns-clause-tells c =
         text_is = c.in_ok-text.ensures
             ∙ (λ i. whole_text compared (c.deref-3.ensures.value i) (c.deref-4.ensures.value i));
       },
-      search rules,
+      rw c.station-station.ensures at c.in_ok-note.ensures,
     )
+
+pub returns-clause-held : goal.returns-clause-held
+returns-clause-held c = rw c.station-station.ensures at c.in_ok-adjustment.ensures.held

@@ -1,0 +1,4 @@
+pub mod LineWalks
+pub mod RowWalks
+pub mod FirstFields
+pub mod NamedNumbers

@@ -1,0 +1,11 @@
+-- The public definitions, in the order in which a reader needs them.
+pub mod Numbers
+pub mod NamedPlaces
+pub mod Lines
+pub mod Rows
+pub mod Kinds
+pub mod Places
+pub mod PlaceTexts
+-- The inside: what each byte does while rows are found, and which are left.
+pub mod ByteSteps
+pub mod RowsLeft

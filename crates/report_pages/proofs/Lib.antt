@@ -1,0 +1,3 @@
+pub mod Heads
+pub mod LinesRead
+pub mod PageLaws

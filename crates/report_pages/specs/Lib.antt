@@ -1,0 +1,3 @@
+-- The public definitions, which public contracts cite, in the order in which a reader needs them.
+pub mod Lines
+pub mod Pages

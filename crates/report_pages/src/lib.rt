@@ -1,0 +1,13 @@
+//! Reports divided into pages, for paper.
+//!
+//! A page has at most 60 lines. Each but the first of a report begins with a form feed, the head of
+//! the report down to the line of its station, and an empty line: so who holds a page knows of which
+//! file and station it is. A section's title does not stand at the foot of a page without a row.
+#![tactic(auto)]
+
+mod head;
+pub mod laws;
+mod lines;
+mod pages;
+
+pub use pages::paged;

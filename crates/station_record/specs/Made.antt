@@ -1,0 +1,12 @@
+-- An answer of which another text is made.
+use Rattle.std.specs.Prelude.{◌≡◌, ℕ, List, Result, Ok, Err}
+use Rattle.station_compare.specs.Refusals.{unhinted}
+use Rattle.station_compare.specs.declared.fault.CompareFault.TheVariants.{Memory}
+use Rattle.station_compare.specs.declared.refusal.Refusal.{Refusal}
+
+-- What is made of the text; or that there was no memory for it; and a refusal stays.
+abbrev pub IsMadeOf : {T : Type 0} → (T → List ℕ) → (List ℕ → List ℕ) → Result T Refusal
+    → Result T Refusal → Type 0
+IsMadeOf items make (Ok own) (Ok whole) = items whole ≡ make (items own)
+IsMadeOf items make (Ok own) (Err refusal) = refusal ≡ unhinted Memory
+IsMadeOf items make (Err refusal) r = r ≡ Err refusal
