@@ -7,16 +7,18 @@ returns-in-Ok-clause-titled g c = (
   c.in_ok-file.file,
   c.titled_columns.new.table,
   c.in_ok-file.ensures.opened,
-  rw c.in-Ok.is at c.titled_columns.ensures.tells,
+  rw (c.in-Ok.is, c.as_bytes.ensures.value, c.as_bytes-2.ensures.value)
+  at c.titled_columns.ensures.tells,
 )
 
 -- The table is refused.
-pub returns-in-Err-clause-hindered : goal.returns-in-Err-clause-hindered
-returns-in-Err-clause-hindered g c = inr (
+pub returns-clause-hindered : goal.returns-clause-hindered
+returns-clause-hindered g c = inr (
   c.in_ok-file.file,
   c.titled_columns.new.table,
   c.in_ok-file.ensures.opened,
-  rw c.in-Err.is at c.titled_columns.ensures.tells,
+  rw (c.in-Err.is, c.as_bytes.ensures.value, c.as_bytes-2.ensures.value)
+  at c.titled_columns.ensures.tells,
 )
 
 -- It can't be opened.

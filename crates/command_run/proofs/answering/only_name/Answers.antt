@@ -13,9 +13,7 @@ returns-in-Ok-clause-named g c = (
 pub returns-in-Err-clause-hindered : goal.returns-in-Err-clause-hindered
 returns-in-Err-clause-hindered g c = inr (
   refl,
-  c.in_ok-file.file,
-  c.in_ok-file.ensures.opened,
-  rw c.in-Err.is at c.only_station.ensures,
+  (c.in_ok-file.file, c.in_ok-file.ensures.opened, rw c.in-Err.is at c.only_station.ensures),
 )
 
 -- It can't be opened.

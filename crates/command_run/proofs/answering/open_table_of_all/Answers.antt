@@ -8,11 +8,11 @@ returns-in_err-stations-clause-hindered g c =
     rw is_its (inl c.in_err-stations.ensures.hindered)
 
 -- The table is hindered, and the field file was opened.
-pub returns-in_err-open_table-clause-hindered : goal.returns-in_err-open_table-clause-hindered
-returns-in_err-open_table-clause-hindered g c =
-    let is_its : c.from_residual-in_err-open_table.result ≡ Err c.in_err-open_table.field-0.0 =
+pub returns-in_err-file-clause-hindered : goal.returns-in_err-file-clause-hindered
+returns-in_err-file-clause-hindered g c =
+    let is_its : c.from_residual-in_err-file.result ≡ Err c.in_err-file.field-0.0 =
     search rules in
     rw is_its (inr (
       (c.in_ok-stations.stations.gsi, c.in_ok-stations.ensures.opened.0),
-      c.in_err-open_table.ensures.hindered,
+      c.in_err-file.ensures.hindered,
     ))
