@@ -20,11 +20,7 @@ pub(crate) fn column_in_whole(column: u32) -> u32
 fn column_in_part(column: u32) -> u32
     ensures { result ≡ spec.column_in_part column }
 {
-    if column == 0 {
-        u32::MAX
-    } else {
-        column - 1
-    }
+    if column == 0 { u32::MAX } else { column - 1 }
 }
 
 /// Columns of a part, by the whole.

@@ -60,11 +60,7 @@ fn columns_line(alloc: Global, pair: ColumnPair, passed: Passed) -> Result<Vec<u
 
 /// The line of the columns by which a part was read, with the name of its station, by the columns of
 /// the whole table.
-fn named_columns(
-    alloc: Global,
-    name: Name,
-    by: Option<ByColumns>,
-) -> Result<Vec<u8>, AllocError>
+fn named_columns(alloc: Global, name: Name, by: Option<ByColumns>) -> Result<Vec<u8>, AllocError>
     ensures { IfOk result (λ note. note.items ≡ spec.named_columns name by) }
 {
     match by {

@@ -45,13 +45,7 @@ fn title_lines(lines: &[&[u8]]) -> usize
 {
     match lines {
         [] => 0,
-        [line, ..] => {
-            if has_digit(line) {
-                0
-            } else {
-                1
-            }
-        }
+        [line, ..] => { if has_digit(line) { 0 } else { 1 } }
     }
 }
 

@@ -8,7 +8,7 @@ returns-in-Ok-clause-titled g c = (
   c.titled_columns.new.table,
   c.in_ok-file.ensures.opened,
   rw (c.in-Ok.is, c.as_bytes.ensures.value, c.as_bytes-2.ensures.value)
-  at c.titled_columns.ensures.tells,
+      at c.titled_columns.ensures.tells,
 )
 
 -- The table is refused.
@@ -18,7 +18,7 @@ returns-clause-hindered g c = inr (
   c.titled_columns.new.table,
   c.in_ok-file.ensures.opened,
   rw (c.in-Err.is, c.as_bytes.ensures.value, c.as_bytes-2.ensures.value)
-  at c.titled_columns.ensures.tells,
+      at c.titled_columns.ensures.tells,
 )
 
 -- It can't be opened.

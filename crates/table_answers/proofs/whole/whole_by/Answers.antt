@@ -8,6 +8,6 @@ pub returns-clause-text : goal.returns-clause-text
 returns-clause-text c =
     let compared = c.in_ok-compared.compared in
     let differences = c.in_ok-differences.ensures
-        ∙ ap (differences_text Commas) c.deref.ensures.value in
+    ∙ ap (differences_text Commas) c.deref.ensures.value in
     c.in_ok-text.ensures ∙ (λ i. whole_text compared
-        ((c.deref-2.ensures.value ∙ differences) i) (c.deref-3.ensures.value i))
+    ((c.deref-2.ensures.value ∙ differences) i) (c.deref-3.ensures.value i))
