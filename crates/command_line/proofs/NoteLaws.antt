@@ -1,9 +1,8 @@
 -- What is known of the stated language and of the notes in it.
 use Rattle.std.proofs.Common.{◌≡◌, ◌∙◌, ℕ, List, None, Some, codes, subst, sym}
 use Rattle.clap.specs.declared.parser.matches.Found.{Found}
-use Rattle.command_line.specs.Mistakes.{IsWrongLanguage, IsWrongNote}
-use Rattle.command_line.specs.Stated.{IsGiven}
-use Rattle.command_line.specs.StatedNotes.{StatesLines, language_named, language_stated}
+use Rattle.command_line.specs.Mistakes.{IsWrongNote}
+use Rattle.command_line.specs.StatedNotes.{StatesLines, language_stated}
 use Rattle.command_line.specs.StatedNumbers.{texts_of}
 use Rattle.report_notes.proofs.Stating.{no_notes}
 use Rattle.report_notes.specs.Stated.{IsFirstUnnoted}
@@ -30,14 +29,3 @@ pub no_language : (found : Found) → language_stated found ≡ None
     → (text : List ℕ) → ¬ (IsWrongNote found text)
 no_language found none text wrong =
     let both : None ≡ Some wrong.language = sym none ∙ wrong.stated in absurd (cc)
-
--- The text of a language is no wrong one.
-pub right_language : (found : Found) (code : List ℕ) (language : Language)
-    → IsGiven found (codes "language") code → language_named code ≡ Some language
-    → (text : List ℕ) → ¬ (IsWrongLanguage found text)
-right_language found code language given named text wrong =
-    let same : Some code ≡ Some text = sym given ∙ wrong.given in
-    let its : code ≡ text = cc in
-    let both : None ≡ Some language =
-    sym (subst (λ (t : List ℕ). language_named t ≡ None) (sym its) wrong.unnamed) ∙ named in
-    absurd (cc)
