@@ -398,8 +398,8 @@ typed. It may be stated several times, and the lines stand in this order:
 =, with blanks one at a time and none at an end, and no label that the head has of its own";
 
 pub const PAGES_LONG_HELP: &str = "\
-Divide the report into pages of 60 lines. Each begins with a form feed, and says again of
-what it is";
+Divide the report into pages of 60 lines at most. Each but the first begins with a form feed,
+and says again of what it is";
 
 /// What may be stated as the language of a report.
 pub const LANGUAGES: &str = "state en for English, de for German or fr for French";
