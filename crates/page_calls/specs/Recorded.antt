@@ -4,6 +4,7 @@ use Rattle.gsi_file.specs.FileAnswers.{file_answers}
 use Rattle.gsi_word.specs.Blocks.{GsiBlock}
 use Rattle.instrument_words.specs.Instrument.{AreBlocksOf, instrument_of}
 use Rattle.instrument_words.specs.Texts.{instrument_text}
+use Rattle.report_phrases.specs.declared.language.Language.TheVariants.{English}
 use Rattle.station_check.specs.declared.fault.Fault.{Fault}
 use Rattle.station_check.specs.declared.fault.Fault.TheVariants.{Memory}
 
@@ -12,7 +13,7 @@ abbrev pub IsRecorded : List ℕ → List ℕ → Type 0
 IsRecorded gsi text =
     (blocks : List GsiBlock)
     → AreBlocksOf (file_answers (record { bytes = gsi; fails = false })) blocks
-    → text ≡ instrument_text (instrument_of blocks)
+    → text ≡ instrument_text English (instrument_of blocks)
 
 -- The answer is that, or that memory ran out.
 abbrev pub TellsRecorded : List ℕ → Result (List ℕ) Fault → Type 0
