@@ -5,6 +5,7 @@ use Rattle.std.specs.Borrow.{Bor}
 use Rattle.book_answers.specs.Refusals.{named_refusal_text}
 use Rattle.book_answers.specs.Runs.{IsRunOfAll}
 use Rattle.book_answers.specs.Tables.{IsRunOfTable}
+use Rattle.book_answers.specs.Tables as of_all
 use Rattle.book_answers.specs.declared.arrangement.Arrangement.TheVariants as arrangement
 use Rattle.book_answers.specs.declared.part.PartAsked.{PartAsked}
 use Rattle.book_answers.specs.declared.part.PartText.{PartText}
@@ -199,8 +200,8 @@ part_asked its text = record { form = its.form; text = part_text text }
 abbrev pub PrintsTableOfAll : {F : Type 0} → Readers F → WriterChange → WriterChange
     → StationsBeside (NamedReader F) TableForm → AllTableText → ℕ → Type 0
 PrintsTableOfAll {F} files out err its text status =
-    (table' : F) × IsTakenIn files its.stations.gsi.reader (λ gsi. Run {A = ⊤} named_refusal_text
-    (IsRunOfTable (part_asked its text) its.stations.limits gsi
+    (table' : F) × IsTakenIn files its.stations.gsi.reader (λ gsi. RunWithNotes of_all.notes_of
+    named_refusal_text (IsRunOfTable (part_asked its text) its.stations.limits gsi
     (change_of files its.file.reader table')) status out err)
 
 -- A copy with codes was made of a field file with this exit status: it went to `out`; or to a new
