@@ -7,6 +7,7 @@ the library; the heads of tests. And that the proof of `find` alone opens the se
 said."""
 
 import ast
+import csv
 import importlib
 import math
 import re
@@ -50,6 +51,9 @@ ROUNDED = re.compile(r"^\| (.*?) \| ([\d.]+) \| ([\d.]+) mgon \| `--within ([\d.
 DEGREE = Fraction(400_000, 360)
 SECOND = DEGREE / 3600
 ARCHITECTURE = ROOT / "docs" / "ARCHITECTURE.md"
+
+# The phrases of reports in each language.
+PHRASES = ROOT / "docs" / "phrases.csv"
 
 # Sentences of other pages that have bounds too, in units of their own; of the residual limit, 200 half
 # units are 1 mgon.
@@ -213,7 +217,9 @@ class PagesTest(TimedTest):
 
     def test_the_formats_or_a_case_have_each_text_that_is_printed(self):
         cases = [path.read_text(errors="replace") for path in ROOT.glob("conformance/*/**/std[eo]*")]
-        known = "".join([FORMATS.read_text(), *cases])
+        with PHRASES.open(encoding="utf-8", newline="") as rows:
+            phrases = [cell for row in csv.reader(rows) for cell in row]
+        known = "".join([FORMATS.read_text(), *cases, *phrases])
         texts = set()
         for path in ROOT.glob("crates/*/specs/**/*.antt"):
             if path.relative_to(ROOT / "crates").parts[0] not in OF_NO_RUN:
