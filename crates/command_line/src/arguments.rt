@@ -304,9 +304,7 @@ impl Argument {
             Argument::MinutesAfterPoint => {
                 "Read degrees with minutes and seconds after the point, as 59.040918"
             }
-            Argument::Columns => {
-                "Read these columns of the table, by number or title, as 2,6 or Target,Hz"
-            }
+            Argument::Columns => "Read these columns, by number or title, as 2,6 or Target,Hz",
             Argument::Decimals => "How many decimals of a gon a direction is written with: 1 to 8",
             Argument::Digests => "Print the SHA-256 digests of what was read, after the answer",
             Argument::Rows => "Print rows for other programs, as CSV",

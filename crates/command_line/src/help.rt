@@ -293,11 +293,11 @@ first that has none, and 'note: station NAME' names it";
 pub const STATION_HELP: &str = "The name of the station [default: the only one of the file]";
 
 pub const STATION_OR_TABLE_HELP: &str = "\
-The name of the station, where it is not the only one of the file; else the path of the table";
+The name of the station, if the file has several; else the path of the table";
 
 pub const STATION_OR_TABLE_LONG_HELP: &str = "\
-The name of the station. Where no word follows it is the path of the table, and the station
-is the only one of the file; with --all it is the path of one table of all stations";
+The name of the station. Where no word follows it is the path of the table, and the
+station is the only one of the file; with --all it is that of one table of all stations";
 
 pub const COPY_LONG_HELP: &str = "\
 The file that the copy goes to, in the place of standard output. It is made only where
@@ -388,8 +388,8 @@ pub const DATE_LONG_HELP: &str = "\
 Print this date in the head of the report, as it is typed. The program asks no clock";
 
 pub const LANGUAGE_LONG_HELP: &str = "\
-Write the report in English (en), in German (de) or in French (fr). The line of a verdict is
-in English in all of them, and numbers have points";
+Write the report in English (en), in German (de) or in French (fr). The line of a verdict
+is in English in all of them, and numbers have points";
 
 pub const NOTE_LONG_HELP: &str = "\
 Print a line in the head of the report: KEY, and in the column of the head TEXT, as it is
@@ -398,8 +398,8 @@ typed. It may be stated several times, and the lines stand in this order:
 =, with blanks one at a time and none at an end, and no label that the head has of its own";
 
 pub const PAGES_LONG_HELP: &str = "\
-Divide the report into pages of 60 lines at most. Each but the first begins with a form feed,
-and says again of what it is";
+Divide the report into pages of 60 lines at most. Each but the first begins with a form
+feed, and says again of what it is";
 
 /// What may be stated as the language of a report.
 pub const LANGUAGES: &str = "state en for English, de for German or fr for French";
@@ -571,10 +571,10 @@ Read the directions of the table in degrees with two digits of minutes and two o
 after the point: 59.040918 is 59-04-09.18";
 
 pub const COLUMNS_LONG_HELP: &str = "\
-Read these columns of the table: that of the targets and that of their directions, by their
-numbers from 1, as 2,6, or by their titles in its first row, as Target,Hz. A title that is a
-whole number can't be stated. Where no columns are stated, a table of more than two is read
-by the one pair of them that fits, and a note tells which";
+Read these columns of the table: that of the targets and that of their directions, by
+their numbers from 1, as 2,6, or by their titles in the first row that has them, as
+Target,Hz. A title that is a whole number can't be stated. Where no columns are stated, a
+table of more than two is read by the one pair of them that fits, and a note tells which";
 
 /// What may be stated as a limit of face differences.
 pub const FACE_LIMITS: &str = "\
