@@ -418,7 +418,7 @@ class CommandLineTest(ProgramTest):
             place = words.index("S1")
             left_out = [*words[:place], *words[place + 1 :]]
             for file, answer in [
-                (EXAMPLE, (0, OF_EXAMPLE[name], b"")),
+                (EXAMPLE, (0, printed(name, EXAMPLE), b"")),
                 (two, (1, b"", refused("no station", "the file has S1, S2"))),
                 (bad, answer_of(["list", bad])),
             ]:

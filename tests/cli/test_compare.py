@@ -13,6 +13,7 @@ from generated import SEED, station_to_adjust, table_of_station
 from program import (
     EXAMPLE,
     EXAMPLE_TABLE,
+    PROGRAM,
     ROOT,
     SWEEP,
     ProgramTest,
@@ -517,9 +518,11 @@ class CompareTest(ProgramTest):
 
     def test_a_text_that_states_no_columns_is_explained(self):
         """By each command that reads a table, whatever else is stated."""
-        why = "two columns by their numbers from 1, with a comma between, as 2,6"
+        why = "two columns by their numbers from 1 or by their titles, with a comma between, as 2,6 or Target,Hz"
         files = [EXAMPLE, "S1", EXAMPLE_TABLE]
-        for text in ["", "xx", "1", "1,", "0,1", "1,2,3", "1;2", "1000000,1", "2,2", "02,2"]:
+        no_numbers = ["1", "1,", ",1", "0,1", "1,2,3", "1;2", "1000000,1", "2,2", "02,2"]
+        for text in ["", "xx", ",", "x,", ",x", "2,x", "x,6", "x,y,z", "x,6,", *no_numbers]:
+            self.assertIsNone(model.columns_in(text.encode()))
             said = f"error: invalid value '{text}' for '--columns <TARGET,DIRECTION>': {why}\n".encode()
             for args in [
                 ["compare", *files],
@@ -532,6 +535,8 @@ class CompareTest(ProgramTest):
                     status, stdout, stderr = answer_of([args[0], f"--columns={text}", *args[1:]])
                     self.assertEqual((2, b""), (status, stdout))
                     self.assertTrue(stderr.startswith(said), stderr)
+                    usage = stderr.removeprefix(said).splitlines()[1]
+                    self.assertTrue(usage.startswith(f"Usage: {PROGRAM.name} {args[0]} ".encode()), usage)
 
     def test_both_files_may_be_pipes(self):
         files = f"<(cat '{EXAMPLE}') S1 <(cat '{EXAMPLE_TABLE}')"

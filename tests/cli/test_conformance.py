@@ -61,9 +61,11 @@ def numbers(texts, most):
 
 
 def columns(text):
-    """The columns of targets and of directions that are stated."""
-    names, directions = text.encode().split(b",")
-    return names, directions
+    """The columns of targets and of directions that are stated, by numbers or by titles."""
+    stated = model.columns_in(text.encode())
+    if stated is None:
+        raise Mistake(text)
+    return stated
 
 
 def line_number(text):
@@ -128,8 +130,18 @@ def command_line():
     return parser
 
 
-# Of each command, which of its operands are files.
-FILES = {"check": [0, 1], "compare": [0, 2], "differences": [0, 2]}
+# The commands that are of one station, whose name may be left out, or of all; and those of them whose
+# last word is the path of a table.
+OF_STATION = ["means", "directions", "report", "compare", "differences"]
+OF_TABLE = ["compare", "differences"]
+
+
+def places_of_files(asked):
+    """Which of the operands are files."""
+    if asked.command in OF_TABLE:
+        return [0, len(asked.operands) - 1]
+    return [0, 1] if asked.command == "check" else [0]
+
 
 def answer_of_all(asked, data, limits, fails, held, formed, notes):
     """What the model answers of all stations of a file, which nothing that is of one may stand
@@ -168,6 +180,15 @@ def answer_of_table(asked, files, limits, fails, held, formed):
     return model.written(found, model.NAMES_OF_ALL, **formed)
 
 
+def station_of(asked, data, limits, fails):
+    """The name of the station: the only one of the file, where none is stated and not all are asked
+    for."""
+    stated = asked.operands[1 : len(asked.operands) - (asked.command in OF_TABLE)]
+    if asked.all or asked.command not in OF_STATION or stated:
+        return b"".join(name.encode() for name in stated[:1])
+    return model.only_station(data, limits, fails)
+
+
 # The commands that take a limit of residuals.
 HELD = ["check", "compare", "differences", "directions", "report"]
 
@@ -193,10 +214,12 @@ def model_answer(case):
         return (2, b"", b"")
     limits, held = model.Limits(asked.two_c, asked.two_i), {"residual": asked.residual}
     formed = {"decimal_comma": asked.decimal_comma}
-    reads_table = asked.command in ["compare", "differences"]
-    if reads_table and len(asked.operands) < (2 if asked.all else 3):
+    reads_table = asked.command in OF_TABLE
+    if asked.command and len(asked.operands) < 1 + reads_table:
         return (2, b"", b"")
-    places = [0, 1] if asked.all and reads_table else FILES.get(asked.command, [0])
+    if asked.columns and not (reads_table or asked.table):
+        return (2, b"", b"")
+    places = places_of_files(asked)
     paths = [case.folder / name for place, name in enumerate(asked.operands) if place in places]
     paths += [case.folder / asked.table] if asked.table else []
     for path in paths:
@@ -224,13 +247,16 @@ def model_answer(case):
         own = own_sets, own_targets
         stated = model.StatedSets(sets, targets, asked.others, *own, **begins)
         return model.marked(files[0], asked.station, fails[0], stated)
+    try:
+        station = station_of(asked, files[0], limits, fails[0])
+        if asked.columns:
+            asked.columns = model.numbered_columns(files[-1], asked.columns, fails[-1])
+    except model.Refusal as refusal:
+        return model.refused_with(refusal)
     if asked.all and reads_table:
         return answer_of_table(asked, files, limits, fails, held, formed)
     if asked.all:
         return answer_of_all(asked, files[0], limits, fails[0], held, formed, notes)
-    if len(asked.operands) < 2:
-        return (2, b"", b"")
-    station = asked.operands[1].encode()
     form = model.TableForm(asked.unit, asked.columns)
     if asked.command == "means":
         return model.means(files[0], station, limits, fails[0])

@@ -249,13 +249,13 @@ def choices_of(command):
 
 
 def is_mistake(command, given):
-    """Whether options don't go together: the rows of a report stand alone, and what is said of a
-    table needs one."""
+    """Whether options don't go together: the rows of a report stand alone but for a digest, and what
+    is said of a table needs one."""
     of_table = {"--within", "--degrees"} & set(given)
     if command != "report":
         return False
     if "--csv" in given:
-        return bool(of_table) or "--table" in given or DIGESTS in given
+        return bool(of_table) or "--table" in given
     return bool(of_table) and "--table" not in given
 
 
@@ -281,6 +281,8 @@ def answer_by_model(command, given, table):
     if DIGESTS not in given or not text:
         return status, text, said
     files = [(bytes(EXAMPLE), STATION), (bytes(path), case.sheet)]
+    if command == "report" and "--csv" in given:
+        return model.with_file_row((status, text, said), *files[0])
     if command == "report":
         return model.with_digests((status, text, said), *files[: 1 + ("--table" in given)])
     return status, text + b"".join(model.digest_line(*file) for file in files), said

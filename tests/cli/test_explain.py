@@ -115,8 +115,13 @@ class ExplainTest(ProgramTest):
                 self.assertEqual(f"{example}\n".encode(), self.refusal_like(example))
 
     def refusal_like(self, example):
-        """The refusal of a run that no case can be: too large, or of a failing output or memory."""
+        """The refusal of a run that no case is: too large, of a failing output or memory, or of the
+        title of targets where the case is of that of directions."""
         long_sheet = self.folder / "sheet.csv"
+        if example.endswith("TwiceTitled 1"):
+            table = self.folder / "table.csv"
+            table.write_bytes(b"Target;Target;Hz\nA;A;0\nB;B;50.00003\n")
+            return answer_of(["compare", "--columns=Target,Hz", EXAMPLE, "S1", table])[2]
         if example.endswith("FileTooLong"):
             return answer_of(["list", "/dev/stdin"], TOO_LONG_FILE)[2]
         if example.endswith("TooLong"):

@@ -22,7 +22,7 @@ DOCUMENT_FOLDER = "share/doc/station_check"
 
 DOCUMENTS = [
     *["README.md", "CHANGELOG.md", "capi/example.c"],
-    *[f"docs/{path.name}" for kind in ("md", "png") for path in (ROOT / "docs").glob(f"*.{kind}")],
+    *[f"docs/{path.name}" for kind in ("md", "png", "csv") for path in (ROOT / "docs").glob(f"*.{kind}")],
     *[f"examples/{path.name}" for path in (ROOT / "examples").glob("*.*")],
 ]
 

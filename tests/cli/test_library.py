@@ -26,7 +26,7 @@ import model
 from generated import SEED, station_to_adjust
 from kinds import refusal_in, without_hint
 from program import EXAMPLE, PROGRAM, ROOT, SWEEP, Answer, ProgramTest, answer_of, answer_to
-from rows import answer_of_residuals, as_call
+from rows import answer_of_residuals, as_call, has_titles
 
 sys.path.insert(0, str(ROOT / "conformance"))
 import run  # noqa: E402
@@ -342,8 +342,9 @@ def loaded() -> Any:
 def call_of(case: run.Case) -> Call | None:
     """The call of the module that a case is; none where it is of the command line alone."""
     command, *words = case.args or ["words"]
-    # (limits in mgon are texts, which the program reads)
-    if command not in OPERANDS or case.expected[0] > 1 or any(word.endswith("mgon") for word in words):
+    # (limits in mgon are texts, and so are titles, which the program reads)
+    is_read = has_titles(words) or any(word.endswith("mgon") for word in words)
+    if command not in OPERANDS or case.expected[0] > 1 or is_read:
         return None
     operands, options = list[str](), dict[str, Any]()
     while words:
@@ -695,7 +696,7 @@ class LibraryTest(ProgramTest):
             )
             self.assertEqual(plain, parameters)
         of_files = {*OPERANDS, "change", "digest", "explain", "report", "list_rows", "station", "table"}
-        of_files |= {"comma_rows", "mark_rows"}
+        of_files |= {"comma_rows", "mark_rows", "place", "instrument"}
         of_rows = {name for name in vars(self.module) if re.fullmatch("[a-z]+_(rows|numbers)", name)} - of_files
         self.assertEqual(6, len(of_rows))
         self.assertEqual(of_files | of_rows, {name for name, _ in rows})

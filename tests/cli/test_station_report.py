@@ -215,7 +215,7 @@ class ReportTest(ProgramTest):
 
     def test_a_language_is_of_a_report_to_read(self):
         for args, said in [
-            (["report", "--language=it", EXAMPLE, "S1"], b"[possible values: en, de, fr]"),
+            (["report", "--language=it", EXAMPLE, "S1"], b"state en for English, de for German or fr for French\n"),
             (["report", "--csv", "--language=de", EXAMPLE, "S1"], b"'--csv' prints rows alone"),
             (["list", "--language=de", EXAMPLE], b"unexpected argument '--language'"),
         ]:
@@ -319,10 +319,34 @@ class ReportTest(ProgramTest):
             self.check([Run(name, args, file=file, stderr=refused(fault), status=1)])
 
     def test_rows_beside_something_else_are_a_mistake(self):
-        for more in [["--table", EXAMPLE], ["--sha256"], ["--degrees"], ["--within=10"], ["--table=a", "--within=10"]]:
-            status, printed, said = answer_of(["report", "--csv", *more, EXAMPLE, "S1"])
-            self.assertEqual((2, b""), (status, printed))
-            self.assertIn(b"'--csv' prints rows alone", said)
+        """All but limits and digests, whose row is the last: the message names each of these."""
+        of_table = ["'--table'", "how it is read", "'--within'"]
+        named = [*of_table, "'--language'", "'--pages'", "or what a report notes"]
+        said = f"error: '--csv' prints rows alone: not with {', '.join(named)}\n".encode()
+        for more in [
+            *[["--table", EXAMPLE], ["--degrees"], ["--dmmss"], ["--columns=1,2"], ["--columns=Target,Hz"]],
+            *[["--within=10"], ["--table=a", "--within=10"], ["--pages"], ["--signature"]],
+            *[["--language=de"], ["--language=en"], ["--date=today"], ["--note=a=b"], ["--sha256", "--pages"]],
+        ]:
+            for station in [["S1"], []]:
+                with self.subTest(more, station=station):
+                    found = answer_of(["report", "--csv", *more, EXAMPLE, *station])
+                    self.assertEqual((2, b"", said), (*found[:2], found[2][: len(said)]))
+
+    def test_rows_with_digests_end_with_that_of_the_file(self):
+        """In the form of all rows, of a path that has to be quoted too; a refusal has none."""
+        for name in ["field.gsi", "a,b", "a;b", 'a"b']:
+            (self.folder / name).write_bytes(STATION)
+            for is_comma, form in [(False, []), (True, ["--decimal-comma"])]:
+                rows = model.reported_rows(STATION, b"S1", decimal_comma=is_comma)
+                expected = model.with_file_row(rows, name.encode(), STATION, is_comma)
+                for station in [["S1"], []]:
+                    args = ["report", "--csv", "--sha256", *form, "--", name, *station]
+                    with self.subTest(args):
+                        self.assertEqual(expected, answer_of(args, cwd=self.folder))
+                        self.assertTrue(expected[1].startswith(rows[1]))
+        args = ["report", "--csv", "--sha256", EXAMPLE, "S2"]
+        self.assertEqual((1, b"", refused("no station", "the file has S1")), answer_of(args))
 
     def test_a_limit_without_a_table_is_a_mistake(self):
         status, printed, said = answer_of(["report", "--within=10", EXAMPLE, "S1"])

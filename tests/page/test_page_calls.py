@@ -24,7 +24,7 @@ from pathlib import Path
 import model
 from kinds import refusal_in, without_hint
 from program import EXAMPLE, PROGRAM, ROOT, SWEEP, TimedTest, answer_to
-from rows import answer_of_residuals, as_call, residuals_in
+from rows import answer_of_residuals, as_call, has_titles, residuals_in
 
 sys.path[:0] = [str(ROOT / name) for name in ("conformance", "page")]
 import build  # noqa: E402
@@ -176,21 +176,33 @@ def node():
 
 
 # What the program alone can be told: flags, and the beginnings of options with a text.
-OF_PROGRAM = "--csv", "--json", "--all", "--signature"
-NAMED_BY_PROGRAM = "--table", "--note", "--date"
+OF_PROGRAM = "--csv", "--json", "--all", "--signature", "--sha256", "--pages"
+NAMED_BY_PROGRAM = "--table", "--note", "--date", "--language"
+
+# The commands of a station, whose name a call is always told.
+OF_STATIONS = {"compare", "differences", "directions", "means", "report", "residuals"}
+
+
+def is_nameless(case):
+    """Whether a command of a station is told none: behind the field file stand files and options alone."""
+    if not OF_STATIONS.intersection(case.args[:1]):
+        return False
+    first = next((place for place, word in enumerate(case.args) if (case.folder / word).is_file()), 0)
+    return all("." in word or word.startswith("--") for word in case.args[first + 1 :])
 
 
 def is_of_page(case):
     """Whether the files of a case can be handed in: they are there, and none is a folder. What the
-    program notes beside an empty list is its own, and so are rows, all stations at once, reports with
-    a table or with notes, how changes of lines are stated and told, limits in mgon, and a limit of residuals but of a
-    sheet."""
+    program notes beside an empty list is its own, and so are rows, digests, all stations at once, a
+    station that is left out, columns by their titles, reports with a table, with notes, in pages or in
+    a language, how changes of lines are stated and told, limits in mgon, and a limit of residuals but
+    of a sheet."""
     paths = [case.folder / word for word in case.args if "." in word]
     is_noted = case.args[:1] == ["list"] and case.expected[0] == 0 and case.expected[2]
     is_stated = any(word in OF_PROGRAM or word.startswith(NAMED_BY_PROGRAM) for word in case.args)
     is_held = case.args[:1] != ["check"] and any(word.startswith("--residual") for word in case.args)
     is_own = is_noted or is_stated or is_held or any(word.endswith("mgon") for word in case.args)
-    is_own = is_own or case.args[:1] == ["change"]
+    is_own = is_own or case.args[:1] == ["change"] or has_titles(case.args) or is_nameless(case)
     return not is_own and case.expected[0] < 2 and all(path.is_file() for path in paths)
 
 

@@ -3,6 +3,7 @@ out so many of the columns that `report --csv` prints."""
 
 import csv
 import io
+import re
 from pathlib import Path
 from typing import Any
 
@@ -12,6 +13,9 @@ from program import Answer, answer_of
 PLACES = [1, 2, 5, 8, 9]
 
 AS_ROWS = ["report", "--csv"]
+
+# What is told in other rows, or beside them, than those whose columns the calls hand out.
+OF_OTHER_ROWS = {"--decimal-comma", "--sha256"}
 
 
 def residuals_in(rows: bytes) -> bytes:
@@ -36,6 +40,11 @@ def answer_of_residuals(field: str | Path, *words: str) -> Answer:
 
 def as_call(case: Any) -> Any:
     """A case as the page and the library have it: that of a report as rows is one of their residuals."""
-    if case.args[:2] != AS_ROWS:
+    if case.args[:2] != AS_ROWS or OF_OTHER_ROWS.intersection(case.args):
         return case
     return case._replace(args=["residuals", *case.args[2:]], expected=of_residuals(case.expected))
+
+
+def has_titles(words: list[str]) -> bool:
+    """Whether columns are stated by their titles: the calls take their numbers alone."""
+    return re.search(r"--columns[= ](?!\d+,\d+( |$))", " ".join(words)) is not None
