@@ -22,6 +22,9 @@ FISH = SHARE / "fish" / "vendor_completions.d" / "station_check.fish"
 # The operands that are paths, and what stands for the value of an option that is one.
 PATHS = {"GSI", "SHEET", "TABLE"}
 
+# The operand that is the name of a fault, or the line of a refusal.
+FAULT = "FAULT"
+
 # The parts of a help text: what stands before its first heading, and what stands below each.
 HEADING = re.compile(r"^(Usage|Commands|Arguments|Options|Exit status):", re.MULTILINE)
 
@@ -71,7 +74,12 @@ class Command(NamedTuple):
 
     def places_of_paths(self) -> list[int]:
         """At which of its operands a path stands, counted from 0."""
-        return [place for place, (name, _) in enumerate(self.operands) if name in PATHS]
+        return [place for place, (name, _) in enumerate(self.operands) if plain(name) in PATHS]
+
+
+def plain(operand: str) -> str:
+    """The name of an operand, also of one that may be left out."""
+    return operand.strip("[].")
 
 
 def first_sentence(text: str) -> str:
@@ -129,7 +137,7 @@ def lowered(text: str) -> str:
 
 def shown(operand: str) -> str:
     """An operand as the manual page names it."""
-    return f"[{operand.strip('[].')} ...]" if operand.startswith("[") else operand
+    return f"[{plain(operand)} ...]" if operand.endswith("...") else operand
 
 
 def synopsis(found: list[Command]) -> Iterator[str]:
@@ -215,7 +223,8 @@ def zsh_option(option: Option) -> str:
 
 
 def zsh_operand(place: int, name: str, text: str) -> str:
-    action = "_files" if name in PATHS else "_station_check_faults" if name.startswith("[") else ""
+    actions = {FAULT: "_station_check_faults", **{path: "_files" for path in PATHS}}
+    action = actions.get(plain(name), "")
     return f"'{place}:{lowered(text)}:{action}'"
 
 

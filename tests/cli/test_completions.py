@@ -163,7 +163,7 @@ class CompletionsTest(ProgramTest):
             (
                 "station_check compare --",
                 [
-                    *["--columns", "--degrees", "--dmmss", "--help", "--residual", "--sha256"],
+                    *["--all", "--columns", "--degrees", "--dmmss", "--help", "--residual", "--sha256"],
                     *[*FACE_LIMITS, "--within"],
                 ],
             ),
@@ -175,7 +175,8 @@ class CompletionsTest(ProgramTest):
                 "station_check report --",
                 [
                     *["--all", "--columns", "--csv", "--date", "--decimal-comma", "--degrees", "--dmmss"],
-                    *["--help", "--note", "--residual", "--sha256", "--signature", "--table"],
+                    *["--help", "--language", "--note", "--pages", "--residual", "--sha256", "--signature"],
+                    "--table",
                     *[*FACE_LIMITS, "--within"],
                 ],
             ),
