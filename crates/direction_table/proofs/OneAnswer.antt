@@ -1,5 +1,5 @@
 -- Bytes are a table of one list of directions, or have one fault, and never both.
-use Rattle.std.specs.Prelude.{◌⊎◌, ◌≤◌}
+use Rattle.std.specs.Prelude.{◌⊎◌, ◌≢◌, ◌≤◌}
 use Rattle.std.proofs.Common.{◌≡◌, ◌∙◌, ℕ, suc, ◌+◌, ◌<◌, List, [], ◌∷◌, map, length, get_or}
 use Rattle.std.proofs.Common.{Option, Some, None, refl, ap, sym, subst, arith, inl, inr, ℤ}
 use Rattle.std.proofs.lemmas.Bool.{cases_lt}
@@ -8,8 +8,8 @@ use Rattle.adjust_kernel.proofs.FirstLaws.{none_or_first, one_first}
 use Rattle.sheet_format.specs.RowFaults.{IsFirstFault, RowRules, fault_at}
 use Rattle.sheet_format.proofs.RowFaultLaws.{past-end, same-kind, same-place}
 use Rattle.direction_table.specs.TableRows.{IsOneWay, rows_read, rules_read, way_of}
-use Rattle.direction_table.specs.Tables.{HasNoRowFault, IsNoneAt, IsTableFault, IsTableText}
-use Rattle.direction_table.specs.Tables.{stated_in_table}
+use Rattle.direction_table.specs.Tables.{HasNoRowFault, IsNoneAt, IsPartText, IsTableFault}
+use Rattle.direction_table.specs.Tables.{IsTableText, stated_in_table}
 use Rattle.direction_table.specs.declared.fault.RowKind.{RowKind}
 use Rattle.direction_table.specs.declared.fault.TableFault.{TableFault}
 use Rattle.direction_table.specs.declared.fault.TableFault.TheVariants.{TooLong, Columns, Row}
@@ -118,21 +118,39 @@ module _ (form : TableForm) (targets : List (List ℕ)) (bytes : List ℕ) where
       → IsTableText form targets bytes b → a ≡ b
   one-table a b s t = same-directions a b (sym s.stated ∙ t.stated)
 
+  -- Of a part they state one list too,
+  pub one-part : (a b : List (Option ℤ)) → IsPartText form targets bytes a
+      → IsPartText form targets bytes b → a ≡ b
+  one-part a b s t = sym s.stated ∙ t.stated
+
+  -- and have no fault but a missing target.
+  pub part-or-fault : (directions : List (Option ℤ)) (fault : TableFault)
+      → IsPartText form targets bytes directions → IsTableFault form targets bytes fault
+      → ((number : ℕ) → fault ≢ Missing number) → ⊥
+  part-or-fault directions TooLong text fault other = omega (arith, text.short, fault)
+  part-or-fault directions (Columns first second) text fault other =
+      let (short, a, b, of_first, of_second, more) = fault in
+      not-one way a b more text.one_way
+  part-or-fault directions (Row number kind) text fault other =
+      let (short, place, counted, found) = fault in
+      none-some kind (sym (text.faultless place) ∙ found.here)
+  part-or-fault directions (Missing number) text fault other = other number refl
+  part-or-fault directions Memory text fault other = fault
+
   -- Bytes that are a table have no fault.
   pub never-both : (directions : List ℤ) (fault : TableFault)
       → IsTableText form targets bytes directions → IsTableFault form targets bytes fault → ⊥
-  never-both directions TooLong text fault = omega (arith, text.short, fault)
-  never-both directions (Columns first second) text fault =
-      let (short, a, b, of_first, of_second, more) = fault in
-      not-one way a b more text.one_way
-  never-both directions (Row number kind) text fault =
-      let (short, place, counted, found) = fault in
-      none-some kind (sym (text.faultless place) ∙ found.here)
   never-both directions (Missing number) text fault =
       let (short, one, clean, absent) = fault in
       let (place, counted, first) = absent in
       let missing = rw text.stated at first in
       not-missing directions place missing.inside missing.here
+  never-both directions TooLong text fault =
+      part-or-fault (map Some directions) TooLong text fault (λ n e. cc e)
+  never-both directions (Columns first second) text fault =
+      part-or-fault (map Some directions) (Columns first second) text fault (λ n e. cc e)
+  never-both directions (Row number kind) text fault =
+      part-or-fault (map Some directions) (Row number kind) text fault (λ n e. cc e)
   never-both directions Memory text fault = fault
 
   -- Bytes have one fault at most.

@@ -1,13 +1,14 @@
 -- What is read of bytes in the way in which they are read.
-use Rattle.std.proofs.Common.{◌≡◌, ℕ, ◌≤◌, true, false, List, length, refl, sym}
+use Rattle.std.proofs.Common.{◌≡◌, ◌≢◌, ℕ, ◌≤◌, true, false, List, length, refl, sym}
 use Rattle.std.proofs.Common.{subst, None, Some, IfErr, IfOk, Result, Ok, Err, inl, inr}
 use Rattle.direction_table.specs.Faults.{table_rules}
 use Rattle.direction_table.specs.FoundColumns.{found_way, is_table, separator_by}
 use Rattle.direction_table.specs.Separators.{rows_of}
 use Rattle.direction_table.specs.TableRows.{unstated_way, way_of}
-use Rattle.direction_table.specs.Tables.{IsTableFaultOrMemory}
+use Rattle.direction_table.specs.Tables.{IsPartFaultOrMemory, IsTableFaultOrMemory}
 use Rattle.direction_table.specs.WaysRead.{IsReadIn, IsWayFaultOrMemory}
 use Rattle.direction_table.specs.declared.fault.TableFault.{TableFault}
+use Rattle.direction_table.specs.declared.fault.TableFault.TheVariants.{Missing}
 use Rattle.direction_table.specs.declared.form.ColumnPair.{ColumnPair}
 use Rattle.direction_table.specs.declared.form.TableForm.{TableForm}
 use Rattle.direction_table.specs.declared.reading.ReadTable.{ReadTable}
@@ -55,6 +56,16 @@ pub none-stated-way : (form : TableForm) (targets : List (List ℕ)) (bytes : Li
 unfolding way_of
 none-stated-way form targets bytes e = rw e refl
 
+-- Those faults name no missing target.
+not-missed : (unit : AngleUnit) (targets : List (List ℕ)) (bytes : List ℕ) (way : Way)
+    (fault : TableFault) → IsWayFaultOrMemory unit targets bytes way fault
+    → (number : ℕ) → fault ≢ Missing number
+not-missed unit targets bytes way fault (inr memory) number is = cc (memory, is)
+not-missed unit targets bytes TwoColumns fault (inl found) number is = cc (found.is_row, is)
+not-missed unit targets bytes (ByColumns separator pair) fault (inl found) number is =
+    cc (found.is_row, is)
+not-missed unit targets bytes (MoreFit first second) fault (inl found) number is = cc (found, is)
+
 -- The fault of bytes that are not too many, in the way in which a form is read.
 pub fault-of : (form : TableForm) (targets : List (List ℕ)) (bytes : List ℕ) (way : Way)
     (fault : TableFault) → length bytes ≤ LONGEST_TABLE → way_of form targets bytes ≡ way
@@ -73,7 +84,9 @@ pub refused-in : (form : TableForm) (targets : List (List ℕ)) (bytes : List �
     (r : Result ReadTable TableFault) → length bytes ≤ LONGEST_TABLE
     → way ≡ way_of form targets bytes
     → IfErr r (IsWayFaultOrMemory form.unit targets bytes way)
-    → IfErr r (IsTableFaultOrMemory form targets bytes)
+    → IfErr r (IsPartFaultOrMemory form targets bytes)
 refused-in form targets bytes way (Ok read) short is fault = fault
-refused-in form targets bytes way (Err k) short is fault =
-    fault-of form targets bytes way k short (sym is) fault
+refused-in form targets bytes way (Err k) short is fault = (
+  fault-of form targets bytes way k short (sym is) fault,
+  not-missed form.unit targets bytes way k fault,
+)

@@ -1,5 +1,5 @@
 -- A table of directions: a row for each target, with its name and its direction, in any order.
-use Rattle.std.specs.Prelude.{◌≡◌, ◌⊎◌, ℕ, ◌≤◌, ◌<◌, ◌+◌, List, length, map, slice_index_or, ℤ}
+use Rattle.std.specs.Prelude.{◌≡◌, ◌≢◌, ◌⊎◌, ℕ, ◌≤◌, ◌<◌, ◌+◌, List, length, map, slice_index_or, ℤ}
 use Rattle.std.specs.Prelude.{Option, Some, None}
 use Rattle.adjust_kernel.specs.Firsts.{IsFirstWhere}
 use Rattle.sheet_format.specs.RowFaults.{IsFirstFault, fault_at}
@@ -27,15 +27,19 @@ HasNoRowFault form targets bytes =
 abbrev pub stated_in_table : TableForm → List (List ℕ) → List ℕ → List (Option ℤ)
 stated_in_table form targets bytes = stated_by form.unit (table_rows form targets bytes) targets
 
--- Bytes are a table, in this form, of these targets and directions: they are not too many, one pair
--- of columns is read, no row has a fault, and of each target a row states its direction, in parts,
--- 81 of which are 0.000000001 gon.
-pub record IsTableText (form : TableForm) (targets : List (List ℕ)) (bytes : List ℕ)
-    (directions : List ℤ) : Type 0 where
+-- Bytes are a table, in this form, of a part of these targets: they are not too many, one pair of
+-- columns is read, no row has a fault, and of each target a row states this direction, in parts, 81
+-- of which are 0.000000001 gon, or none does.
+pub record IsPartText (form : TableForm) (targets : List (List ℕ)) (bytes : List ℕ)
+    (directions : List (Option ℤ)) : Type 0 where
   pub short : length bytes ≤ LONGEST_TABLE
   pub one_way : IsOneWay (way_of form targets bytes)
   pub faultless : HasNoRowFault form targets bytes
-  pub stated : stated_in_table form targets bytes ≡ map Some directions
+  pub stated : stated_in_table form targets bytes ≡ directions
+
+-- Bytes are a table of these targets and directions: of each target a row states its direction.
+abbrev pub IsTableText : TableForm → List (List ℕ) → List ℕ → List ℤ → Type 0
+IsTableText form targets bytes directions = IsPartText form targets bytes (map Some directions)
 
 -- No direction is stated at this place.
 abbrev pub IsNoneAt : List (Option ℤ) → ℕ → Type 0
@@ -73,3 +77,8 @@ IsTableFaultOrMemory form targets bytes fault =
 abbrev pub IsMissingOrMemory : List (Option ℤ) → TableFault → Type 0
 IsMissingOrMemory stated fault =
     ((number : ℕ) × (fault ≡ Missing number) × IsFirstMissing stated number) ⊎ (fault ≡ Memory)
+
+-- A refusal where rows may lack: it names no missing target.
+abbrev pub IsPartFaultOrMemory : TableForm → List (List ℕ) → List ℕ → TableFault → Type 0
+IsPartFaultOrMemory form targets bytes fault =
+    IsTableFaultOrMemory form targets bytes fault × ((number : ℕ) → fault ≢ Missing number)

@@ -1,7 +1,8 @@
 //! Laws of the definitions that contracts cite. The functions do nothing.
 
-ghost use Rattle.std.specs.Prelude.{◌≡◌, ◌⊎◌, ◌≤◌, ◌+◌, ◌*◌, ◌^◌, ◌++◌, ◌∷◌, [], All, List, ℕ, ℤ};
-ghost use Rattle.std.specs.Prelude.{Some, codes, false, length, map, neg_ℤ, pos, true};
+ghost use Rattle.std.specs.Prelude.{◌≡◌, ◌≢◌, ◌⊎◌, ◌≤◌, ◌+◌, ◌*◌, ◌^◌, ◌++◌, ◌∷◌, [], All, List};
+ghost use Rattle.std.specs.Prelude.{ℕ, ℤ, Option, Some, codes, false, length, map, neg_ℤ, pos};
+ghost use Rattle.std.specs.Prelude.{true};
 ghost use Rattle.adjust_kernel.specs.Stations.{AreTargets};
 ghost use Rattle.sheet_format.specs.RowFaults.{IsFirstFault};
 ghost use Rattle.adjust_kernel.specs.declared.units.TheConstants.{CIRCLE, PARTS};
@@ -18,7 +19,7 @@ ghost use Rattle.direction_table.specs.Faults.{HasNoFault, table_rules};
 ghost use Rattle.direction_table.specs.NumberColumns.{is_naming};
 ghost use Rattle.direction_table.specs.Separators.{rows_by, rows_of};
 ghost use Rattle.direction_table.specs.TableRows.{unstated, way_of};
-ghost use Rattle.direction_table.specs.Tables.{IsTableFault, IsTableText, stated_by};
+ghost use Rattle.direction_table.specs.Tables.{IsPartText, IsTableFault, IsTableText, stated_by};
 ghost use Rattle.direction_table.specs.Texts as spec;
 ghost use Rattle.direction_table.specs.UsualLimits.{finer, limit_of_step};
 ghost use Rattle.direction_table.specs.declared.decimals.TheConstants.{MOST_WRITTEN};
@@ -26,7 +27,7 @@ ghost use Rattle.direction_table.specs.declared.degrees.TheConstants.{DEGREE};
 ghost use Rattle.direction_table.specs.declared.direction.TheConstants.{CIRCLE_PARTS, DEGREE_PARTS};
 ghost use Rattle.direction_table.specs.declared.fault.RowKind.{RowKind};
 ghost use Rattle.direction_table.specs.declared.fault.TableFault.{TableFault};
-ghost use Rattle.direction_table.specs.declared.fault.TableFault.TheVariants.{Row};
+ghost use Rattle.direction_table.specs.declared.fault.TableFault.TheVariants.{Missing, Row};
 ghost use Rattle.direction_table.specs.declared.form.ColumnPair.{ColumnPair};
 ghost use Rattle.direction_table.specs.declared.form.TableForm.{TableForm};
 ghost use Rattle.direction_table.specs.declared.limit.TheConstants.{LARGEST_WITHIN, USUAL_WITHIN};
@@ -44,6 +45,18 @@ ghost use Rattle.direction_table.specs.declared.unit.AngleUnit.TheVariants.{Pack
 pub fn one_table()
     ensures { (form : TableForm) (targets : List (List ℕ)) (bytes : List ℕ) (a b : List ℤ)
         → IsTableText form targets bytes a → IsTableText form targets bytes b → a ≡ b }
+{}
+
+/// Bytes that are a table of a part of the targets state one list, and have no fault but that a
+/// target is missing.
+pub fn one_part()
+    ensures stated { (form : TableForm) (targets : List (List ℕ)) (bytes : List ℕ)
+        (a b : List (Option ℤ)) → IsPartText form targets bytes a
+        → IsPartText form targets bytes b → a ≡ b }
+    ensures no_fault { (form : TableForm) (targets : List (List ℕ)) (bytes : List ℕ)
+        (directions : List (Option ℤ)) (fault : TableFault)
+        → IsPartText form targets bytes directions → IsTableFault form targets bytes fault
+        → ¬ ((number : ℕ) → fault ≢ Missing number) }
 {}
 
 /// Bytes have one first fault at most.

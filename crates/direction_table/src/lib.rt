@@ -42,7 +42,10 @@ pub use form::{ColumnPair, TableForm, stated_columns};
 pub use gon::GON;
 pub use limit::{LARGEST_WITHIN, USUAL_WITHIN};
 pub use note::{Passed, push_note};
-pub use reading::{ByColumns, LONGEST_TABLE, StatedTable, read_stated_table, read_table};
+pub use reading::{
+    ByColumns, LONGEST_TABLE, PartTable, StatedTable, read_part_table, read_stated_table,
+    read_table,
+};
 pub use table::{TargetDirection, table_text};
 pub use text::push_direction;
 pub use unit::AngleUnit;

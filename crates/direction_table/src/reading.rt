@@ -21,8 +21,9 @@ ghost use Rattle.direction_table.specs.TableNotes.{table_note, told_note};
 ghost use Rattle.direction_table.specs.TableRows.{table_rows, unstated_way, way_of};
 ghost use Rattle.direction_table.specs.WaysRead.{IsReadIn, IsWayFaultOrMemory};
 ghost use Rattle.direction_table.specs.declared.way.Way.TheVariants as way;
-ghost use Rattle.direction_table.specs.Tables.{IsMissingOrMemory, IsTableFault};
-ghost use Rattle.direction_table.specs.Tables.{IsTableFaultOrMemory, IsTableText, stated_by};
+ghost use Rattle.direction_table.specs.Tables.{IsMissingOrMemory, IsPartFaultOrMemory, IsPartText};
+ghost use Rattle.direction_table.specs.Tables.{IsTableFault, IsTableFaultOrMemory, IsTableText};
+ghost use Rattle.direction_table.specs.Tables.{stated_by};
 ghost use Rattle.direction_table.specs.UsualLimits as spec;
 ghost use Rattle.direction_table.specs.declared.fault.TableFault.{TableFault};
 ghost use Rattle.direction_table.specs.declared.fault.TableFault.TheVariants.{Memory, TooLong};
@@ -123,15 +124,58 @@ pub fn read_stated_table(
     ensures fault { IfErr result (IsTableFaultOrMemory form targets.now bytes.now) }
     ensures too_long { LONGEST_TABLE < length bytes.now → result ≡ Err TooLong }
 {
+    let part = read_part_table(alloc, form, targets, bytes)?;
+    Ok(StatedTable {
+        directions: all_stated(alloc, &part.directions)?,
+        usual_within: part.usual_within,
+        most_off: part.most_off,
+        by_columns: part.by_columns,
+    })
+}
+
+/// What a table states of a part of the targets, or of all.
+#[derive(Debug, Drop)]
+pub struct PartTable {
+    /// The direction of each target, in their order, in parts, 81 of which are 0.000000001 gon; none
+    /// where no row states it.
+    pub directions: Vec<Option<i64>>,
+    /// The usual limit of a comparison, as [`StatedTable`] has it.
+    pub usual_within: u32,
+    /// By how many parts the numbers that the rows write may be off, as there.
+    pub most_off: u64,
+    /// How the table was read, where that is by a pair of its columns.
+    pub by_columns: Option<ByColumns>,
+}
+
+/// The same as [`read_stated_table`] gives, where rows may lack: no target is missed.
+pub fn read_part_table(
+    alloc: Global,
+    form: TableForm,
+    targets: &[Name],
+    bytes: &[u8],
+) -> Result<PartTable, TableFault>
+    requires { AreTargets targets.now }
+    ensures table { IfOk result (λ part.
+        IsPartText form targets.now bytes.now part.directions.items) }
+    ensures usual_within { IfOk result (λ part.
+        part.usual_within ≡ spec.usual_within form.unit (table_rows form targets.now bytes.now)) }
+    ensures most_off { IfOk result (λ part.
+        part.most_off ≡ spec.most_off form.unit (table_rows form targets.now bytes.now)) }
+    ensures note { IfOk result (λ part.
+        told_note part.by_columns ≡ table_note form targets.now bytes.now) }
+    ensures small_off { IfOk result (λ part. part.most_off ≤ DEGREE_PARTS) }
+    ensures fault { IfErr result (IsPartFaultOrMemory form targets.now bytes.now) }
+    ensures too_long { LONGEST_TABLE < length bytes.now → result ≡ Err TooLong }
+{
     if bytes.len() > LONGEST_TABLE {
         return Err(TableFault::TooLong);
     }
-    let read = read_as(alloc, form, targets, bytes)?;
-    Ok(StatedTable {
-        directions: all_stated(alloc, &read.stated.directions)?,
-        usual_within: usual_within(read.stated.finest_step),
-        most_off: most_off(read.stated.finest_step),
-        by_columns: read.by_columns,
+    let ReadTable { stated, by_columns } = read_as(alloc, form, targets, bytes)?;
+    Ok(PartTable {
+        usual_within: usual_within(stated.finest_step),
+        most_off: most_off(stated.finest_step),
+        directions: stated.directions,
+        by_columns,
     })
 }
 
@@ -153,7 +197,7 @@ fn read_as(
     requires short { length bytes.now ≤ LONGEST_TABLE }
     ensures read { IfOk result (IsReadIn form.unit targets.now bytes.now
         (way_of form targets.now bytes.now)) }
-    ensures fault { IfErr result (IsTableFaultOrMemory form targets.now bytes.now) }
+    ensures fault { IfErr result (IsPartFaultOrMemory form targets.now bytes.now) }
 {
     match form.columns {
         Some(pair) => read_stated_columns(alloc, form.unit, targets, pair, bytes),
