@@ -1,5 +1,6 @@
 pub mod Fractions
 pub mod ResidualLaws
+pub mod ReadLaws
 pub mod RowLaws
 pub mod LeastLaws
 pub mod GreatestLaws

@@ -1,54 +1,28 @@
-use Rattle.std.proofs.Common.{◌≡◌, ◌++◌, ◌∙◌, List, ℕ, Result, Ok, Err, OnOk, ap}
-use Rattle.std.proofs.Common.{append_assoc, rules, subst}
+use Rattle.std.proofs.Common.{rules}
 use Rattle.std.specs.Prelude.{unsigned_abs}
-use Rattle.direction_table.specs.Beginnings.{IsBegun}
-use Rattle.direction_table.proofs.Begun.{of_first, of_second}
-use Rattle.direction_table.proofs.FirstDecimals.{in_any_case, so_err}
-use Rattle.angle_texts.specs.MgonTexts as spec
+use Rattle.direction_table.proofs.Begun.{of_first}
+use Rattle.direction_table.proofs.FirstDecimals.{in_any_case}
+use Rattle.angle_texts.proofs.Signed.{size_added, size_begun}
+use Rattle.angle_texts.specs.MgonTexts.{thousandths_text, sign_text}
 use Rattle.angle_texts.proofs.mgon.push_mgon.Goals as goal
-
--- What follows from what is so where there was memory.
-so_ok : {T E P Q : Type 0} (r : Result T E) → (P → Q) → OnOk r P → OnOk r Q
-so_ok (Ok x) next p = next p
-so_ok (Err e) next p = tt
 
 -- Memory was refused for the sign.
 pub returns-in_err-push_sign-clause-begun : goal.returns-in_err-push_sign-clause-begun
 returns-in_err-push_sign-clause-begun c =
-    let old = c.args.text.now.items in
-    let new = c.push_sign.new.text.items in
-    let sign = spec.sign_text c.args.units in
-    let begun : IsBegun sign old new = search rules in
-    in_any_case c.from_residual.result
-    (of_first sign (spec.thousandths_text (unsigned_abs c.args.units)) old new begun)
+    in_any_case c.from_residual.result (of_first (sign_text c.args.units)
+    (thousandths_text (unsigned_abs c.args.units)) c.args.text.now.items
+    c.push_sign.new.text.items (search rules))
 
 pub returns-clause-added : goal.returns-clause-added
 returns-clause-added c =
-    let old = c.args.text.now.items in
-    let signed = c.push_sign.new.text.items in
-    let new = c.push_thousandths.new.text.items in
-    let size = unsigned_abs c.args.units in
-    let sign = spec.sign_text c.args.units in
-    let is_size : c.unsigned_abs.result ≡ size = search rules in
-    let first : signed ≡ old ++ sign = search rules in
-    so_ok c.push_thousandths.result
-    (λ (rest : new ≡ signed ++ spec.thousandths_text c.unsigned_abs.result).
-    rest ∙ (ap (λ (n : ℕ). signed ++ spec.thousandths_text n) is_size
-    ∙ (ap (λ (text : List ℕ). text ++ spec.thousandths_text size) first
-    ∙ append_assoc old sign (spec.thousandths_text size))))
+    size_added thousandths_text (sign_text c.args.units) c.args.text.now.items
+    c.push_sign.new.text.items c.push_thousandths.new.text.items (unsigned_abs c.args.units)
+    c.unsigned_abs.result (search rules) (search rules) c.push_thousandths.result
     c.push_thousandths.ensures.added
 
 pub returns-clause-begun : goal.returns-clause-begun
 returns-clause-begun c =
-    let old = c.args.text.now.items in
-    let signed = c.push_sign.new.text.items in
-    let new = c.push_thousandths.new.text.items in
-    let size = unsigned_abs c.args.units in
-    let sign = spec.sign_text c.args.units in
-    let is_size : c.unsigned_abs.result ≡ size = search rules in
-    let first : signed ≡ old ++ sign = search rules in
-    so_err c.push_thousandths.result
-    (λ (rest : IsBegun (spec.thousandths_text c.unsigned_abs.result) signed new).
-    of_second sign (spec.thousandths_text size) old signed new first
-    (subst (λ (n : ℕ). IsBegun (spec.thousandths_text n) signed new) is_size rest))
+    size_begun thousandths_text (sign_text c.args.units) c.args.text.now.items
+    c.push_sign.new.text.items c.push_thousandths.new.text.items (unsigned_abs c.args.units)
+    c.unsigned_abs.result (search rules) (search rules) c.push_thousandths.result
     c.push_thousandths.ensures.begun
