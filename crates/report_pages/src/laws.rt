@@ -6,6 +6,7 @@ ghost use Rattle.std.specs.List.{All, flat_map, join_with_byte, slice_split};
 ghost use Rattle.report_pages.specs.Lines.{lines};
 ghost use Rattle.report_pages.specs.Pages.{head, pages_of, repeated, report_on_pages};
 ghost use Rattle.report_pages.specs.declared.head.TheConstants.{LINES_OF_HEAD};
+ghost use Rattle.report_pages.specs.declared.lines.TheConstants.{BLANK, LINE_FEED};
 ghost use Rattle.report_pages.specs.declared.pages.TheConstants.{FORM_FEED, LINES_OF_PAGE};
 ghost use Rattle.report_pages.specs.declared.pages.TheConstants.{LINES_OF_SECTION};
 
@@ -15,6 +16,8 @@ pub fn limits()
     ensures section { LINES_OF_SECTION ≡ 6 }
     ensures head { LINES_OF_HEAD ≡ 9 }
     ensures form_feed { FORM_FEED ≡ 12 }
+    ensures line_feed { LINE_FEED ≡ 10 }
+    ensures blank { BLANK ≡ 32 }
 {}
 
 /// Nothing is lost and nothing else comes in: the reports of a text, with form feeds between them,

@@ -158,13 +158,13 @@ french phrase.Readings =
     utf8 (codes "\nLectures en gon, moyenne CG/CD réduite au premier point visé de la série,\n")
     ++ utf8 (codes "2c et 2i en mgon\n\n")
 french phrase.ReadingColumns =
-    utf8 (codes "Série  Point visé               CG         CD      Moyenne        2c        2i\n")
+    utf8 (codes " Sér.  Point visé               CG         CD      Moyenne        2c        2i\n")
 french phrase.Mean = codes "Moyenne"
 french phrase.HalfOfMean = codes "Demi-moyenne : erreurs de collimation et d'index"
 french phrase.Spread = codes "Amplitude : maximum moins minimum"
 french phrase.ZenithAngles = utf8 (codes "\nAngles zénithaux en gon, moyenne CG/CD\n\n")
 french phrase.ZenithColumns =
-    utf8 (codes "Série  Point visé               CG         CD      Moyenne\n")
+    utf8 (codes " Sér.  Point visé               CG         CD      Moyenne\n")
 french phrase.ZenithMeans =
     utf8 (codes "\nMoyenne des séries par point visé en gon, écart-type de la moyenne en mgon\n\n")
 french phrase.ZenithMeanColumns =
@@ -174,7 +174,7 @@ french phrase.Directions =
 french phrase.DirectionColumns = utf8 (codes "  Point visé          Direction\n\n")
 french phrase.Residuals =
     utf8 (codes "\nRésidus en mgon : direction compensée moins direction moyenne\n")
-french phrase.ResidualColumns = utf8 (codes "\n  Point visé Série")
+french phrase.ResidualColumns = utf8 (codes "\n  Point visé Sér. ")
 french phrase.AndSet = utf8 (codes " mgon, série ")
 french phrase.AndTarget = utf8 (codes ", point visé ")
 french phrase.GreatestResidual = utf8 (codes "Plus grand résidu")

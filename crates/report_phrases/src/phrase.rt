@@ -353,13 +353,13 @@ fn french(phrase: Phrase) -> &'static str
              2c et 2i en mgon\n\n"
         }
         Phrase::ReadingColumns => {
-            "Série  Point visé               CG         CD      Moyenne        2c        2i\n"
+            " Sér.  Point visé               CG         CD      Moyenne        2c        2i\n"
         }
         Phrase::Mean => "Moyenne",
         Phrase::HalfOfMean => "Demi-moyenne : erreurs de collimation et d'index",
         Phrase::Spread => "Amplitude : maximum moins minimum",
         Phrase::ZenithAngles => "\nAngles zénithaux en gon, moyenne CG/CD\n\n",
-        Phrase::ZenithColumns => "Série  Point visé               CG         CD      Moyenne\n",
+        Phrase::ZenithColumns => " Sér.  Point visé               CG         CD      Moyenne\n",
         Phrase::ZenithMeans => {
             "\nMoyenne des séries par point visé en gon, écart-type de la moyenne en mgon\n\n"
         }
@@ -371,7 +371,7 @@ fn french(phrase: Phrase) -> &'static str
         }
         Phrase::DirectionColumns => "  Point visé          Direction\n\n",
         Phrase::Residuals => "\nRésidus en mgon : direction compensée moins direction moyenne\n",
-        Phrase::ResidualColumns => "\n  Point visé Série",
+        Phrase::ResidualColumns => "\n  Point visé Sér. ",
         Phrase::AndSet => " mgon, série ",
         Phrase::AndTarget => ", point visé ",
         Phrase::GreatestResidual => "Plus grand résidu",
