@@ -40,6 +40,11 @@ class Refused(Exception):
     """Why nothing is drawn."""
 
 
+def is_further(row: list[str]) -> bool:
+    """Whether a row is of no observation, but of the field file: it has three cells, and empty ones."""
+    return len(row) == len(TITLES) and not any(row[3:])
+
+
 def is_observation(row: list[str]) -> bool:
     """Whether a row may be that of an observation."""
     if len(row) != len(TITLES):
@@ -53,6 +58,7 @@ def residuals_in(printed: str) -> str:
     """The columns that the page has, of what 'station_check report --csv' printed; another text is
     refused."""
     titles, *rows = [row for row in csv.reader(io.StringIO(printed)) if row] or [[]]
+    rows = [row for row in rows if not is_further(row)]
     if not rows:
         raise Refused("standard input has no residuals: nothing is drawn")
     is_twice = len({tuple(row[:3]) for row in rows}) < len(rows)

@@ -6,25 +6,22 @@ use Rattle.std.specs.Prelude.{IfSome, MatchResult}
 use Rattle.std.proofs.lemmas.List.{append-nil}
 use Rattle.book_answers.specs.Answers.{IsRefusedOfAll, StatesAll}
 use Rattle.book_answers.specs.Refusals.{fault_of, of_no_one}
-use Rattle.book_answers.specs.declared.arrangement.Arrangement.TheVariants.{Pages}
+use Rattle.book_answers.specs.declared.arrangement.Arrangement.{Arrangement}
 use Rattle.book_answers.specs.declared.refusal.StationRefusal.{StationRefusal}
 use Rattle.byte_ends.specs.Source.{HasGiven, ReaderChange, Told, ended, given_then}
 use Rattle.byte_ends.specs.Source.{reader_change}
 use Rattle.gsi_file.specs.FileAnswers.{FileAnswers, file_answers}
 use Rattle.gsi_word.specs.Blocks.{GsiBlock}
 use Rattle.instrument_words.proofs.Alike.{leaves_too}
-use Rattle.instrument_reports.specs.Answers.{SaysTableReportOf}
+use Rattle.instrument_reports.specs.Answers.{Putting, SaysTableReportOf, TellsInstrument}
 use Rattle.instrument_reports.specs.Telling.{IsAnswerWith, IsNotedWith, IsWith}
-use Rattle.instrument_words.specs.Below.{TellsInstrument}
+use Rattle.instrument_words.specs.Below.{on_pages}
 use Rattle.instrument_words.specs.Instrument.{AreBlocksOf}
 use Rattle.instrument_words.specs.Rereading.{HasKept, histories, kept_by, reader_of}
 use Rattle.instrument_words.specs.declared.rereading.Rereading.{Rereading}
-use Rattle.report_phrases.specs.declared.language.Language.{Language}
 use Rattle.station_answers.specs.Answers.{HasNone, StatesOf}
-use Rattle.station_report.specs.NoteTexts.{ReportHead}
 use Rattle.station_book.specs.Stations.{SurveyedStation}
 use Rattle.station_book.specs.declared.result_limits.ResultLimits.{ResultLimits}
-use Rattle.station_answers.specs.Saying.{SaysReport}
 use Rattle.station_check.proofs.Acceptance.{came_well}
 use Rattle.station_compare.specs.Answers.{field_file_left}
 use Rattle.station_compare.specs.Hints.{IsHinted}
@@ -36,7 +33,7 @@ use Rattle.station_compare.specs.declared.how_far.HowFar.{HowFar}
 use Rattle.station_compare.specs.declared.refusal.Refusal.{Refusal}
 use Rattle.table_answers.specs.Answers.{ReadsBoth, StatesBeside}
 use Rattle.table_answers.specs.Noting.{IsNote, Noting}
-use Rattle.table_answers.specs.Refusing.{HasNoAnswer}
+use Rattle.table_answers.specs.Refusing.{HasNoAnswer, RefusesComparison}
 use Rattle.table_answers.specs.Saying.{SaysTableReport}
 use Rattle.table_answers.specs.declared.noted.Noted.{Noted}
 use Rattle.table_report.specs.Stating.{ReportAsked}
@@ -57,13 +54,13 @@ kept told failed gave old new bytes none p = (
 )
 
 -- Of bytes that were kept whole, a text with what they recorded tells it of their file.
-pub tells : (language : Language) (IsOwn : List ℕ → Type 0) (own whole given : List ℕ)
+pub tells : (put : Putting) (IsOwn : List ℕ → Type 0) (own whole given : List ℕ)
     (bytes : Option (List ℕ)) (left : Told) (blocks : List GsiBlock) → IsOwn own
-    → IfSome bytes (λ b. given ≡ b) → IsWith language bytes own whole → left ≡ ended
+    → IfSome bytes (λ b. given ≡ b) → IsWith put bytes own whole → left ≡ ended
     → AreBlocksOf (file_answers (given_then given left)) blocks
-    → TellsInstrument language (file_answers (given_then given left)) IsOwn whole
-tells language IsOwn own whole given None left blocks is_own same with over are = absurd with
-tells language IsOwn own whole given (Some bytes) left blocks is_own same with over are = record {
+    → TellsInstrument put (file_answers (given_then given left)) IsOwn whole
+tells put IsOwn own whole given None left blocks is_own same with over are = absurd with
+tells put IsOwn own whole given (Some bytes) left blocks is_own same with over are = record {
   own = own;
   is_own = is_own;
   blocks = blocks;
@@ -96,11 +93,11 @@ field_file_of told failed gave d d' r So none a = record {
   }) a.left;
 }
 
-module _ (language : Language) (Says : SurveyedStation → List ℕ → Type 0) (limits : ResultLimits)
+module _ (put : Putting) (Says : SurveyedStation → List ℕ → Type 0) (limits : ResultLimits)
     (name : List ℕ) where
   -- What is said of a file by an answer with what it recorded.
   abbrev With : FileAnswers → SurveyedStation → List ℕ → Type 0
-  With file = λ its text. TellsInstrument language file (Says its) text
+  With file = λ its text. TellsInstrument put file (Says its) text
 
   -- What was answered, and then told with what the bytes recorded, where those that came were kept.
   pub answered : {T : Type 0} (items : T → List ℕ) (gsi : ReaderChange) (answer r : Result T Refusal)
@@ -109,7 +106,7 @@ module _ (language : Language) (Says : SurveyedStation → List ℕ → Type 0) 
       (λ text. StatesOf Says limits file name (items text)) (HasNone limits file name)
       × IsHinted limits file name answer))
       → IfSome bytes (λ b. a.came.given ≡ b)
-      → IsAnswerWith language items (unhinted Memory) bytes answer r
+      → IsAnswerWith put items (unhinted Memory) bytes answer r
       → ReadsFieldFile gsi (by_fault r) (λ file. MatchResult (by_fault r)
       (λ text. StatesOf (With file) limits file name (items text)) (HasNone limits file name)
       × IsHinted limits file name r)
@@ -124,7 +121,7 @@ module _ (language : Language) (Says : SurveyedStation → List ℕ → Type 0) 
               its = st.its;
               station = st.station;
               held = st.held;
-              said = tells language (Says st.its) (items own) (items whole) a.came.given bytes left
+              said = tells put (Says st.its) (items own) (items whole) a.came.given bytes left
                   (reverse st.station.blocks) st.said same with over
                   (record { ended = st.station.ended; lines = st.station.lines });
             },
@@ -150,19 +147,19 @@ module _ (language : Language) (Says : SurveyedStation → List ℕ → Type 0) 
       (λ text. StatesOf (With file) limits file name (items text)) (HasNone limits file name)
       × IsHinted limits file name r)) (sym with) (record { came = a.came; left = a.left })
 
--- The same of the reports of all stations.
-pub all_answered : {T : Type 0} (items : T → List ℕ) (head : ReportHead) (limits : ResultLimits)
+-- The same of what is answered of all stations.
+pub all_answered : {T : Type 0} (items : T → List ℕ) (put : Putting)
+    (Says : SurveyedStation → List ℕ → Type 0) (limits : ResultLimits) (arrangement : Arrangement)
     (gsi : ReaderChange) (answer r : Result T StationRefusal) (bytes : Option (List ℕ))
     → (a : ReadsFieldFile gsi (fault_of answer) (λ file. MatchResult answer
-    (λ text. StatesAll (SaysReport head limits) limits Pages file (items text))
-    (IsRefusedOfAll (SaysReport head limits) limits file)))
+    (λ text. StatesAll Says limits arrangement file (items text))
+    (IsRefusedOfAll Says limits file)))
     → IfSome bytes (λ b. a.came.given ≡ b)
-    → IsAnswerWith head.notes.language items (of_no_one Memory) bytes answer r
+    → IsAnswerWith put items (of_no_one Memory) bytes answer r
     → ReadsFieldFile gsi (fault_of r) (λ file. MatchResult r
-    (λ text. TellsInstrument head.notes.language file
-    (StatesAll (SaysReport head limits) limits Pages file) (items text))
-    (IsRefusedOfAll (SaysReport head limits) limits file))
-all_answered items head limits gsi (Ok own) (Ok whole) bytes a same with = record {
+    (λ text. TellsInstrument put file (StatesAll Says limits arrangement file) (items text))
+    (IsRefusedOfAll Says limits file))
+all_answered items put Says limits arrangement gsi (Ok own) (Ok whole) bytes a same with = record {
   came = record {
     given = a.came.given;
     by_reads = a.came.by_reads;
@@ -172,15 +169,15 @@ all_answered items head limits gsi (Ok own) (Ok whole) bytes a same with = recor
         let file = file_answers (given_then a.came.given left) in
         let well = came_well limits.faces [] file.lines file.last st.survey.blocks tt
         st.survey.file in
-        tells head.notes.language (StatesAll (SaysReport head limits) limits Pages file) (items own)
+        tells put (StatesAll Says limits arrangement file) (items own)
         (items whole) a.came.given bytes left well.more st same with over
         (record { ended = well.ended; lines = well.each });
   };
   left = a.left;
 }
-all_answered {T} items head limits gsi (Ok own) (Err refused) bytes a same with =
+all_answered {T} items put Says limits arrangement gsi (Ok own) (Err refused) bytes a same with =
     subst (λ (e : StationRefusal). ReadsFieldFile {A = T} gsi (Err e.refusal.fault) (λ file.
-    IsRefusedOfAll (SaysReport head limits) limits file e)) (sym with)
+    IsRefusedOfAll Says limits file e)) (sym with)
     (record {
       came = record {
         given = a.came.given;
@@ -189,11 +186,10 @@ all_answered {T} items head limits gsi (Ok own) (Err refused) bytes a same with 
       };
       left = a.left.unfailed;
     })
-all_answered {T} items head limits gsi (Err refused) r bytes a same with =
+all_answered {T} items put Says limits arrangement gsi (Err refused) r bytes a same with =
     subst (λ (r : Result T StationRefusal). ReadsFieldFile gsi (fault_of r) (λ file. MatchResult r
-    (λ text. TellsInstrument head.notes.language file
-    (StatesAll (SaysReport head limits) limits Pages file) (items text))
-    (IsRefusedOfAll (SaysReport head limits) limits file))) (sym with)
+    (λ text. TellsInstrument put file (StatesAll Says limits arrangement file) (items text))
+    (IsRefusedOfAll Says limits file))) (sym with)
     (record { came = a.came; left = a.left })
 
 -- What is so of a rereading source of a field file and of a table is so of the reader that it asks,
@@ -226,12 +222,15 @@ pub table_answered : (asked : ReportAsked) (limits : ResultLimits) (name : List 
     → (a : ReadsBoth gsi table (by_fault answer) (λ file stated. MatchResult (by_fault answer)
     (λ noted. StatesBeside (Noting (SaysTableReport asked limits) asked.form) limits file stated
     name (value_of noted.answer, noted.note.items))
-    (HasNoAnswer asked.form limits file stated name) × IsHinted limits file name answer))
-    → IfSome bytes (λ b. a.gsi_bytes ≡ b) → IsNotedWith asked.head.notes.language bytes answer r
+    (HasNoAnswer (RefusesComparison asked.form limits) limits file stated name)
+    × IsHinted limits file name answer))
+    → IfSome bytes (λ b. a.gsi_bytes ≡ b)
+    → IsNotedWith (on_pages asked.head.notes.language) bytes answer r
     → ReadsBoth gsi table (by_fault r) (λ file stated. MatchResult (by_fault r)
     (λ noted. StatesBeside (Noting (SaysTableReportOf file asked limits) asked.form) limits file
     stated name (value_of noted.answer, noted.note.items))
-    (HasNoAnswer asked.form limits file stated name) × IsHinted limits file name r)
+    (HasNoAnswer (RefusesComparison asked.form limits) limits file stated name)
+    × IsHinted limits file name r)
 table_answered asked limits name gsi table (Ok own) (Ok whole) bytes a same with = record {
   gsi_bytes = a.gsi_bytes;
   gsi_reads = a.gsi_reads;
@@ -255,8 +254,8 @@ table_answered asked limits name gsi table (Ok own) (Ok whole) bytes a same with
           whole = st.whole;
           held = st.held;
           said = (
-            tells asked.head.notes.language IsOwn own.answer.text.items whole.answer.text.items
-                a.gsi_bytes bytes left (reverse st.station.blocks) is_own same with.0 over
+            tells (on_pages asked.head.notes.language) IsOwn own.answer.text.items
+                whole.answer.text.items a.gsi_bytes bytes left (reverse st.station.blocks) is_own same with.0 over
                 blocks_are,
             subst (IsNote asked.form st.its.station st.bytes) (sym with.2) st.said.1,
           );
@@ -268,14 +267,15 @@ table_answered asked limits name gsi table (Ok own) (Ok whole) bytes a same with
 }
 table_answered asked limits name gsi table (Ok own) (Err refusal) bytes a same with =
     subst (λ (e : Refusal). ReadsBoth {A = Noted TableReport} gsi table (Err e.fault)
-    (λ file stated. HasNoAnswer asked.form limits file stated name e.fault
+    (λ file stated.
+    HasNoAnswer (RefusesComparison asked.form limits) limits file stated name e.fault
     × IsHinted {A = Noted TableReport} limits file name (Err e))) (sym with)
     (record {
       gsi_bytes = a.gsi_bytes;
       gsi_reads = a.gsi_reads;
       table_bytes = a.table_bytes;
       table_reads = a.table_reads;
-      so = λ left table_left may table_may. (λ within. tt, refl);
+      so = λ left table_left may table_may. (tt, refl);
       gsi_reader = a.gsi_reader.unfailed;
       table_reader = a.table_reader.unfailed;
     })
@@ -284,7 +284,8 @@ table_answered asked limits name gsi table (Err refusal) r bytes a same with =
     (λ file stated. MatchResult (by_fault r)
     (λ noted. StatesBeside (Noting (SaysTableReportOf file asked limits) asked.form) limits file
     stated name (value_of noted.answer, noted.note.items))
-    (HasNoAnswer asked.form limits file stated name) × IsHinted limits file name r)) (sym with)
+    (HasNoAnswer (RefusesComparison asked.form limits) limits file stated name)
+    × IsHinted limits file name r)) (sym with)
     (record {
       gsi_bytes = a.gsi_bytes;
       gsi_reads = a.gsi_reads;

@@ -15,7 +15,7 @@ use Rattle.station_compare.specs.declared.refusal.Refusal.{Refusal}
 use Rattle.table_answers.specs.Answers.{ReadsBoth, StatesBeside}
 use Rattle.table_answers.specs.Noting.{Noting}
 use Rattle.table_answers.specs.Printing.{PrintsReport, PrintsVerdict}
-use Rattle.table_answers.specs.Refusing.{HasNoAnswer}
+use Rattle.table_answers.specs.Refusing.{HasNoAnswer, RefusesComparison}
 use Rattle.table_answers.specs.Runs.{PrintsBeside}
 use Rattle.table_answers.specs.declared.noted.Noted.{Noted}
 use Rattle.table_report.specs.Stating.{ReportAsked}
@@ -28,7 +28,8 @@ pub table_printed : {A : Type 0} (asked : ReportAsked) (limits : ResultLimits)
     → (a : ReadsBoth gsi table (by_fault answer) (λ file stated. MatchResult (by_fault answer)
     (λ noted. StatesBeside (Noting (SaysTableReportOf file asked limits) asked.form) limits file
     stated name (value_of noted.answer, noted.note.items))
-    (HasNoAnswer asked.form limits file stated name) × IsHinted limits file name answer))
+    (HasNoAnswer (RefusesComparison asked.form limits) limits file stated name)
+    × IsHinted limits file name answer))
     → IsNotedMade (as_printed asked.head.notes) answer all
     → (r : Result A Refusal) (note : List ℕ) (out : WriterChange)
     → PrintsBeside (λ (n : Noted TableReport). PrintsReport (value_of n.answer)) all r out
@@ -60,7 +61,7 @@ table_printed asked limits gsi table name (Ok own) (Err refusal) a made r note o
     gsi_reads = a.gsi_reads;
     table_bytes = a.table_bytes;
     table_reads = a.table_reads;
-    so = λ left table_left may table_may. (λ within. tt, refl);
+    so = λ left table_left may table_may. (tt, refl);
     gsi_reader = a.gsi_reader.unfailed;
     table_reader = a.table_reader.unfailed;
   };

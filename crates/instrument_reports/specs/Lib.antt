@@ -1,4 +1,5 @@
 -- The public definitions, which public contracts cite.
+pub mod Rows
 pub mod Answers
 pub mod Printing
 pub mod Runs

@@ -4,9 +4,13 @@ use Rattle.book_answers.specs.Refusals.{fault_of, of_no_one}
 use Rattle.book_answers.specs.declared.refusal.StationRefusal.{StationRefusal}
 use Rattle.byte_ends.specs.Sink.{WriterChange}
 use Rattle.byte_ends.specs.Source.{ReaderChange}
-use Rattle.instrument_reports.specs.Answers.{SaysReportOf, SaysTableReportOf, TellsReports}
+use Rattle.gsi_file.specs.FileAnswers.{FileAnswers}
+use Rattle.instrument_reports.specs.Answers.{SaysReportOf, SaysRowsOf, SaysTableReportOf}
+use Rattle.instrument_reports.specs.Answers.{TellsReports, TellsRows}
 use Rattle.instrument_reports.specs.Printing.{as_printed}
+use Rattle.row_forms.specs.declared.form.RowForm.{RowForm}
 use Rattle.station_answers.specs.Answers.{TellsOf}
+use Rattle.station_book.specs.Stations.{SurveyedStation}
 use Rattle.station_book.specs.declared.result_limits.ResultLimits.{ResultLimits}
 use Rattle.station_check.specs.RunEndings.{PrintsAnswer}
 use Rattle.station_compare.specs.Hints.{IsHinted}
@@ -18,36 +22,61 @@ use Rattle.station_report.specs.NoteTexts.{ReportHead}
 use Rattle.table_answers.specs.Answers.{ReadsBoth, TellsBeside}
 use Rattle.table_answers.specs.Noting.{Noting}
 use Rattle.table_answers.specs.Printing.{PrintsVerdict}
+use Rattle.table_answers.specs.Refusing.{RefusesComparison}
 use Rattle.table_answers.specs.Runs.{PrintsBeside}
 use Rattle.table_answers.specs.Telling.{note_of}
 use Rattle.table_report.specs.Stating.{ReportAsked, ReportValue}
 
--- A run of the report: all that it promises of its answer, with the hint of a refusal, and how the
--- text was printed.
-pub record IsReportRun {A : Type 0} (head : ReportHead) (limits : ResultLimits)
-    (gsi : ReaderChange) (name : List ℕ) (r : Result A Refusal) (out : WriterChange)
-    : Type 0 where
+-- A run of what is answered of one station: all that it promises of its answer, with the hint of a
+-- refusal, and how the text was printed.
+pub record IsRunOf {A : Type 0} (Says : FileAnswers → SurveyedStation → List ℕ → Type 0)
+    (print : List ℕ → List ℕ) (limits : ResultLimits) (gsi : ReaderChange) (name : List ℕ)
+    (r : Result A Refusal) (out : WriterChange) : Type 0 where
   pub answer : Result (List ℕ) Refusal
   pub tells : ReadsFieldFile gsi (by_fault answer) (λ file.
-      TellsOf (SaysReportOf file head limits) limits file name (by_fault answer)
-      × IsHinted limits file name answer)
-  pub printed : PrintsAnswer (as_printed head.notes) (unhinted Write) answer r out
+      TellsOf (Says file) limits file name (by_fault answer) × IsHinted limits file name answer)
+  pub printed : PrintsAnswer print (unhinted Write) answer r out
 
--- The same of the reports of all stations.
-pub record IsReportsRun {A : Type 0} (head : ReportHead) (limits : ResultLimits)
-    (gsi : ReaderChange) (r : Result A StationRefusal) (out : WriterChange) : Type 0 where
+-- A run of the report,
+abbrev pub IsReportRun : {A : Type 0} → ReportHead → ResultLimits → ReaderChange → List ℕ
+    → Result A Refusal → WriterChange → Type 0
+IsReportRun head limits gsi name r out =
+    IsRunOf (λ file. SaysReportOf file head limits) (as_printed head.notes) limits gsi name r out
+
+-- and of its rows.
+abbrev pub IsReportRowsRun : {A : Type 0} → RowForm → ResultLimits → ReaderChange → List ℕ
+    → Result A Refusal → WriterChange → Type 0
+IsReportRowsRun form limits gsi name r out =
+    IsRunOf (λ file. SaysRowsOf file form) (λ rows. rows) limits gsi name r out
+
+-- A run of what is answered of all stations.
+pub record IsRunOfEach {A : Type 0} (Tells : FileAnswers → Result (List ℕ) StationRefusal → Type 0)
+    (print : List ℕ → List ℕ) (gsi : ReaderChange) (r : Result A StationRefusal)
+    (out : WriterChange) : Type 0 where
   pub answer : Result (List ℕ) StationRefusal
-  pub tells : ReadsFieldFile gsi (fault_of answer) (λ file. TellsReports head limits file answer)
-  pub printed : PrintsAnswer (as_printed head.notes) (of_no_one Write) answer r out
+  pub tells : ReadsFieldFile gsi (fault_of answer) (λ file. Tells file answer)
+  pub printed : PrintsAnswer print (of_no_one Write) answer r out
 
--- The same of the report with a table, and the note of the table.
+-- A run of the reports of all stations,
+abbrev pub IsReportsRun : {A : Type 0} → ReportHead → ResultLimits → ReaderChange
+    → Result A StationRefusal → WriterChange → Type 0
+IsReportsRun head limits gsi r out =
+    IsRunOfEach (TellsReports head limits) (as_printed head.notes) gsi r out
+
+-- and of their rows.
+abbrev pub IsReportRowsRunOfAll : {A : Type 0} → RowForm → ResultLimits → ReaderChange
+    → Result A StationRefusal → WriterChange → Type 0
+IsReportRowsRunOfAll form limits gsi r out =
+    IsRunOfEach (TellsRows form limits) (λ rows. rows) gsi r out
+
+-- A run of the report with a table, and the note of the table.
 pub record IsTableReportRun {A : Type 0} (asked : ReportAsked) (limits : ResultLimits)
     (gsi table : ReaderChange) (name : List ℕ) (r : Result A Refusal) (note : List ℕ)
     (out : WriterChange) : Type 0 where
   pub answer : Result (ReportValue × List ℕ) Refusal
   pub tells : ReadsBoth gsi table (by_fault answer) (λ file stated.
-      TellsBeside (Noting (SaysTableReportOf file asked limits) asked.form) asked.form limits file
-      stated name (by_fault answer)
+      TellsBeside (Noting (SaysTableReportOf file asked limits) asked.form)
+      (RefusesComparison asked.form limits) limits file stated name (by_fault answer)
       × IsHinted limits file name answer)
   pub printed : PrintsBeside (λ noted.
       PrintsVerdict (as_printed asked.head.notes noted.0.text) noted.0.beyond) answer r out

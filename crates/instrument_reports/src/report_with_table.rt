@@ -8,12 +8,13 @@ ghost use Rattle.instrument_reports.specs.Printing.{IsNotedMade};
 ghost use Rattle.instrument_reports.specs.Printing as spec;
 ghost use Rattle.instrument_reports.specs.Runs.{IsTableReportRun};
 ghost use Rattle.instrument_reports.specs.Telling.{IsNotedWith};
+ghost use Rattle.instrument_words.specs.Below.{on_pages};
 ghost use Rattle.station_compare.specs.Hints.{IsHinted};
 ghost use Rattle.station_compare.specs.Refusals.{by_fault};
 ghost use Rattle.station_report.specs.NoteTexts.{head_of};
 ghost use Rattle.table_answers.specs.Answers.{ReadsBoth, StatesBeside};
 ghost use Rattle.table_answers.specs.Noting.{Noting};
-ghost use Rattle.table_answers.specs.Refusing.{HasNoAnswer};
+ghost use Rattle.table_answers.specs.Refusing.{HasNoAnswer, RefusesComparison};
 ghost use Rattle.table_answers.specs.Runs.{IsOfPrinting};
 ghost use Rattle.table_answers.specs.Telling.{RunTold};
 ghost use Rattle.table_report.specs.Values.{asked_of, value_of};
@@ -50,7 +51,7 @@ pub fn table_report_of<R: Source, Q: Source>(
         (λ noted. StatesBeside
         (Noting (SaysTableReportOf file (asked_of asked.now) limits) asked.now.form) limits file
         stated name.now (value_of noted.answer, noted.note.items))
-        (HasNoAnswer asked.now.form limits file stated name.now)
+        (HasNoAnswer (RefusesComparison asked.now.form limits) limits file stated name.now)
         × IsHinted limits file name.now result.0) }
 {
     let reading = Rereading::new(alloc, gsi);
@@ -67,7 +68,8 @@ fn noted_with(
     answer: Result<Noted<TableReport>, Refusal>,
     kept: Option<Vec<u8>>,
 ) -> Result<Noted<TableReport>, Refusal>
-    ensures { IsNotedWith language (option_map (λ bytes. bytes.items) kept) answer result }
+    ensures { IsNotedWith (on_pages language) (option_map (λ bytes. bytes.items) kept) answer
+        result }
 {
     let noted = answer?;
     let text = text_with(alloc, language, &noted.answer.text, &kept)?;

@@ -6,7 +6,8 @@ ghost use Rattle.book_answers.specs.Refusals.{fault_of, named_refusal_text, of_n
 ghost use Rattle.book_answers.specs.declared.arrangement.Arrangement.TheVariants.{Pages};
 ghost use Rattle.byte_ends.specs.Source.{UntilDropped, reader_change};
 ghost use Rattle.byte_ends.specs.Writers.{writer_change};
-ghost use Rattle.instrument_words.specs.Below.{TellsInstrument};
+ghost use Rattle.instrument_words.specs.Below.{on_pages};
+ghost use Rattle.instrument_reports.specs.Answers.{TellsInstrument};
 ghost use Rattle.instrument_reports.specs.Runs.{IsReportsRun};
 ghost use Rattle.instrument_reports.specs.Telling.{IsAnswerWith};
 ghost use Rattle.station_answers.specs.Saying.{SaysReport};
@@ -42,7 +43,7 @@ pub fn reports_of<R: Source>(
     ensures { ReadsFieldFile (reader_change R.told R.failed R.gave gsi result.1)
         (fault_of result.0)
         (λ file. MatchResult result.0
-        (λ text. TellsInstrument (head_of head.entry).notes.language file
+        (λ text. TellsInstrument (on_pages (head_of head.entry).notes.language) file
         (StatesAll (SaysReport (head_of head.entry) limits) limits Pages file) text.items)
         (IsRefusedOfAll (SaysReport (head_of head.entry) limits) limits file)) }
 {
@@ -60,7 +61,7 @@ fn answers_with(
     answer: Result<Vec<u8>, StationRefusal>,
     kept: Option<Vec<u8>>,
 ) -> Result<Vec<u8>, StationRefusal>
-    ensures { IsAnswerWith language (λ text. text.items) (of_no_one Memory)
+    ensures { IsAnswerWith (on_pages language) (λ text. text.items) (of_no_one Memory)
         (option_map (λ bytes. bytes.items) kept) answer result }
 {
     let text = answer?;

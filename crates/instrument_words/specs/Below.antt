@@ -1,8 +1,6 @@
 -- Lines that are put on each page of a text.
-use Rattle.std.specs.Prelude.{◌≡◌, ℕ, ◌==◌, ◌&&◌, ◌-◌, List, [], ◌∷◌, ◌++◌, if◌then◌else◌}
-use Rattle.gsi_file.specs.FileAnswers.{FileAnswers}
-use Rattle.gsi_word.specs.Blocks.{GsiBlock}
-use Rattle.instrument_words.specs.Instrument.{AreBlocksOf, instrument_of}
+use Rattle.std.specs.Prelude.{ℕ, ◌==◌, ◌&&◌, ◌-◌, List, [], ◌∷◌, ◌++◌, if◌then◌else◌}
+use Rattle.instrument_words.specs.Instrument.{InstrumentValue}
 use Rattle.instrument_words.specs.Texts.{instrument_text}
 use Rattle.instrument_words.specs.declared.below.TheConstants as byte
 use Rattle.instrument_words.specs.declared.below.TheConstants.{LINES_ABOVE}
@@ -25,13 +23,7 @@ put_on_pages above lines (b ∷ text) =
     b ∷ ((if above == 1 && b == LINE_FEED then lines else [])
     ++ put_on_pages (lines_above above b) lines text)
 
--- A text of which this is so, and on each page, below the third line, which names the field file,
--- what the file recorded of instrument and time, in a language.
-pub record TellsInstrument (language : Language) (file : FileAnswers) (IsOwn : List ℕ → Type 0)
-    (text : List ℕ) : Type 0 where
-  pub own : List ℕ
-  pub is_own : IsOwn own
-  pub blocks : List GsiBlock
-  pub of_file : AreBlocksOf file blocks
-  pub text_is : text
-      ≡ put_on_pages LINES_ABOVE (instrument_text language (instrument_of blocks)) own
+-- A text with the lines in a language of what was recorded on each of its pages, below the third
+-- line, which names the field file.
+abbrev pub on_pages : Language → InstrumentValue → List ℕ → List ℕ
+on_pages language recorded text = put_on_pages LINES_ABOVE (instrument_text language recorded) text

@@ -6,7 +6,6 @@ ghost use Rattle.gsi_file.specs.FileAnswers.{file_answers};
 ghost use Rattle.gsi_word.specs.Blocks.{GsiBlock};
 ghost use Rattle.instrument_words.specs.Below as spec;
 ghost use Rattle.instrument_words.specs.Instrument.{AreBlocksOf, instrument_of};
-ghost use Rattle.instrument_words.specs.Texts.{instrument_text};
 
 use crate::instrument::instrument_in;
 use crate::lines::push_instrument;
@@ -71,9 +70,7 @@ pub fn with_instrument(
 ) -> Result<Vec<u8>, AllocError>
     ensures { IfOk result (λ whole. (blocks : List GsiBlock)
         → AreBlocksOf (file_answers (record { bytes = bytes.now; fails = false })) blocks
-        → whole.items
-        ≡ spec.put_on_pages LINES_ABOVE (instrument_text language (instrument_of blocks))
-        text.now) }
+        → whole.items ≡ spec.on_pages language (instrument_of blocks) text.now) }
 {
     let mut lines = Vec::new(alloc);
     push_instrument(&mut lines, language, &instrument_in(bytes))?;

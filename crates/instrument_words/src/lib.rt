@@ -8,11 +8,14 @@
 mod below;
 mod contents;
 mod instrument;
+pub mod laws;
 mod lines;
 mod rereading;
 
 pub use below::{LINES_ABOVE, with_instrument};
 pub use contents::Contents;
-pub use instrument::{Instrument, instrument_in};
+pub use instrument::{
+    DATE, INSTRUMENT_TYPE, Instrument, SERIAL_NUMBER, TIME_FORMAT_1, TIME_FORMAT_2, instrument_in,
+};
 pub use lines::push_instrument;
 pub use rereading::Rereading;

@@ -34,7 +34,7 @@ use Rattle.station_report.specs.NoteTexts.{ReportHead}
 use Rattle.table_answers.specs.Answers.{ReadsBoth, StatesBeside}
 use Rattle.table_answers.specs.Noting.{Noting}
 use Rattle.table_answers.specs.Printing.{PrintsReport, PrintsVerdict}
-use Rattle.table_answers.specs.Refusing.{HasNoAnswer}
+use Rattle.table_answers.specs.Refusing.{HasNoAnswer, RefusesComparison}
 use Rattle.table_answers.specs.Runs.{PrintsBeside}
 use Rattle.table_answers.specs.declared.noted.Noted.{Noted}
 use Rattle.table_report.specs.Stating.{ReportAsked}
@@ -147,7 +147,7 @@ pub recorded_both : {T V A : Type 0} (value : T → V)
     → (a : ReadsBoth gsi table (by_fault noted) (λ file stated. MatchResult (by_fault noted)
     (λ noted. StatesBeside (Noting (Says file) form) limits file stated station
     (value noted.answer, noted.note.items))
-    (HasNoAnswer form limits file stated station)
+    (HasNoAnswer (RefusesComparison form limits) limits file stated station)
     × IsHinted limits file station noted)) (d e : List ℕ)
     → d ≡ sha256 a.gsi_bytes → e ≡ sha256 a.table_bytes
     → (r : Result A Refusal) (out : WriterChange)
@@ -199,7 +199,7 @@ pub recorded_table : {A : Type 0} (asked : ReportAsked) (limits : ResultLimits)
     (a : ReadsBoth gsi table (by_fault noted) (λ file stated. MatchResult (by_fault noted)
     (λ noted. StatesBeside (Noting (SaysTableReportOf file asked limits) asked.form) limits file
     stated station (value_of noted.answer, noted.note.items))
-    (HasNoAnswer asked.form limits file stated station)
+    (HasNoAnswer (RefusesComparison asked.form limits) limits file stated station)
     × IsHinted limits file station noted)) (d e : List ℕ)
     → d ≡ sha256 a.gsi_bytes → e ≡ sha256 a.table_bytes
     → IsNotedMade (λ text. as_printed asked.head.notes (recorded_both_text
@@ -249,7 +249,7 @@ recorded_table asked limits gsi table station (Ok own) (Err refusal) a d e is_d 
         gsi_reads = a.gsi_reads;
         table_bytes = a.table_bytes;
         table_reads = a.table_reads;
-        so = λ left table_left may table_may. (λ within. tt, refl);
+        so = λ left table_left may table_may. (tt, refl);
         gsi_reader = a.gsi_reader.unfailed;
         table_reader = a.table_reader.unfailed;
       };

@@ -3,7 +3,7 @@ use Rattle.std.proofs.Common.{◌≡◌, ℕ, List, Result, Ok, Err, refl, subst
 use Rattle.std.specs.Prelude.{MatchResult}
 use Rattle.byte_ends.specs.Sink.{WriterChange}
 use Rattle.byte_ends.specs.Source.{ReaderChange}
-use Rattle.report_rows.specs.Stating.{AreReportRows}
+use Rattle.instrument_reports.specs.Answers.{SaysRowsOf}
 use Rattle.row_forms.specs.declared.form.RowForm.{RowForm}
 use Rattle.sha2.specs.Sha256.{sha256}
 use Rattle.station_answers.specs.Answers.{HasNone, StatesOf}
@@ -22,7 +22,7 @@ use Rattle.station_record.specs.Rows.{AreRecordedRows, recorded_rows_text}
 pub recorded_rows : {T A : Type 0} (items : T → List ℕ) (form : RowForm) (path : List ℕ)
     (limits : ResultLimits) (gsi : ReaderChange) (station : List ℕ) (answer all : Result T Refusal)
     (a : ReadsFieldFile gsi (by_fault answer) (λ file. MatchResult (by_fault answer)
-    (λ text. StatesOf (AreReportRows form) limits file station (items text))
+    (λ text. StatesOf (SaysRowsOf file form) limits file station (items text))
     (HasNone limits file station) × IsHinted limits file station answer)) (d : List ℕ)
     → d ≡ sha256 a.came.given
     → IsMadeOf items (λ rows. recorded_rows_text form rows path d) answer all

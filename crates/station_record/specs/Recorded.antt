@@ -33,6 +33,7 @@ use Rattle.table_answers.specs.Answers.{ReadsBoth, TellsBeside}
 use Rattle.table_answers.specs.Comparisons.{SaysComparison, verdict}
 use Rattle.table_answers.specs.Noting.{Noting}
 use Rattle.table_answers.specs.Printing.{PrintsVerdict}
+use Rattle.table_answers.specs.Refusing.{RefusesComparison}
 use Rattle.table_answers.specs.Runs.{PrintsBeside}
 use Rattle.table_answers.specs.Telling.{note_of}
 use Rattle.table_answers.specs.declared.compared.Compared.{Compared}
@@ -65,7 +66,8 @@ pub record IsRecordedBoth {V A : Type 0}
     (r : Result A Refusal) (note : List ℕ) (out : WriterChange) : Type 0 where
   pub answer : Result (V × List ℕ) Refusal
   pub tells : ReadsBoth gsi table (by_fault answer) (λ file stated.
-      TellsBeside (Noting (Says file) form) form limits file stated station (by_fault answer)
+      TellsBeside (Noting (Says file) form) (RefusesComparison form limits) limits file stated
+      station (by_fault answer)
       × IsHinted limits file station answer)
   pub printed : PrintsBeside (λ noted. Prints (sha256 tells.gsi_bytes) (sha256 tells.table_bytes)
       noted.0) answer r out

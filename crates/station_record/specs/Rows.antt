@@ -1,10 +1,11 @@
 -- The rows of a report that say which bytes they were made of.
-use Rattle.std.specs.Prelude.{ℕ, List, [], ◌∷◌, ◌++◌, codes, Result}
+use Rattle.std.specs.Prelude.{ℕ, List, ◌++◌, codes, Result}
 use Rattle.byte_ends.specs.Sink.{WriterChange}
 use Rattle.byte_ends.specs.Source.{ReaderChange}
 use Rattle.csv.specs.Writing.{row_text}
 use Rattle.hex.specs.Hex.{encode_lower}
-use Rattle.report_rows.specs.Stating.{AreReportRows}
+use Rattle.instrument_reports.specs.Answers.{SaysRowsOf}
+use Rattle.instrument_reports.specs.Rows.{further_row}
 use Rattle.row_forms.specs.Forms.{writer_of}
 use Rattle.row_forms.specs.declared.form.RowForm.{RowForm}
 use Rattle.sha2.specs.Sha256.{sha256}
@@ -17,13 +18,9 @@ use Rattle.station_compare.specs.Runs.{ReadsFieldFile}
 use Rattle.station_compare.specs.declared.fault.CompareFault.TheVariants.{Write}
 use Rattle.station_compare.specs.declared.refusal.Refusal.{Refusal}
 
--- The row of a field file: `file`, its path as typed, its digest in 64 hexadecimal digits; and a
--- cell without a byte for each further title of the rows, which has this row as wide as the others.
--- No station's row is one like it: a target's name has no 64 bytes.
+-- The row of a field file: `file`, its path as typed, its digest in 64 hexadecimal digits.
 abbrev pub file_row : List ℕ → List ℕ → List (List ℕ)
-file_row path digest =
-    codes "file" ∷ path ∷ encode_lower digest
-    ∷ [] ∷ [] ∷ [] ∷ [] ∷ [] ∷ [] ∷ [] ∷ [] ∷ [] ∷ [] ∷ []
+file_row path digest = further_row (codes "file") path (encode_lower digest)
 
 -- The rows of a report in a form, and then that of their field file.
 abbrev pub recorded_rows_text : RowForm → List ℕ → List ℕ → List ℕ → List ℕ
@@ -37,7 +34,7 @@ pub record AreRecordedRows {A : Type 0} (form : RowForm) (path : List ℕ) (limi
     : Type 0 where
   pub answer : Result (List ℕ) Refusal
   pub tells : ReadsFieldFile gsi (by_fault answer)
-      (λ file. TellsOf (AreReportRows form) limits file station (by_fault answer)
+      (λ file. TellsOf (SaysRowsOf file form) limits file station (by_fault answer)
       × IsHinted limits file station answer)
   pub printed : PrintsAnswer (λ rows. recorded_rows_text form rows path
       (sha256 tells.came.given)) (unhinted Write) answer r out

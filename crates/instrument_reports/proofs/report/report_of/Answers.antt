@@ -1,6 +1,7 @@
 use Rattle.std.proofs.Common.{◌≡◌, Option, List, ℕ, sym, subst}
 use Rattle.std.specs.Prelude.{IfSome}
 use Rattle.instrument_reports.proofs.Kept.{answered, field_file_of, kept}
+use Rattle.instrument_words.specs.Below.{on_pages}
 use Rattle.station_answers.specs.Saying.{SaysReport}
 use Rattle.station_compare.specs.Refusals.{by_fault}
 use Rattle.station_report.specs.NoteTexts.{head_of}
@@ -20,8 +21,8 @@ returns g c =
     let held = (kept told failed gave old new a.came.given c.new-reading.ensures.nothing
     a.came.by_reads).1 in
     rw (sym c.new-reading.ensures.reader, c.into_parts-gsi.ensures.reader)
-    (answered (head_of c.args.head).notes.language (SaysReport (head_of c.args.head) c.args.limits)
-    c.args.limits c.args.name.now (λ text. text.items) _ answer c.answer_with.result _ tells
+    (answered (on_pages (head_of c.args.head).notes.language)
+    (SaysReport (head_of c.args.head) c.args.limits) c.args.limits c.args.name.now (λ text. text.items) _ answer c.answer_with.result _ tells
     (subst (λ (b : Option (List ℕ)). IfSome b (λ bytes. a.came.given ≡ bytes))
     (sym c.into_parts-gsi.ensures.kept) held)
     (rw c.language.ensures at c.answer_with.ensures))

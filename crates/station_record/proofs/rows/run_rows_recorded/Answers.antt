@@ -12,9 +12,9 @@ use Rattle.station_record.proofs.rows.run_rows_recorded.Goals as goal
 pub returns : goal.returns
 returns g c =
     let gsi = c.new-digested.result in
-    let gsi' = c.answer_of-answer.result.1 in
-    let answer = c.answer_of-answer.result.0 in
-    let a = c.answer_of-answer.ensures in
+    let gsi' = c.rows_of-answer.result.1 in
+    let answer = c.rows_of-answer.result.0 in
+    let a = c.rows_of-answer.ensures in
     let out = writer_change g.W.Sink c.args.out.now c.print_text-printed.new.out in
     let printed = c.print_text-printed.result in
     let tells = field_file_of g.R.Source.told g.R.Source.failed g.R.Source.gave gsi gsi'

@@ -1,0 +1,27 @@
+use Rattle.std.proofs.Common.{◌≡◌, Option, List, ℕ, sym, subst}
+use Rattle.std.specs.Prelude.{IfSome}
+use Rattle.instrument_reports.proofs.Kept.{answered, field_file_of, kept}
+use Rattle.instrument_reports.specs.Rows.{with_recorded_rows}
+use Rattle.report_rows.specs.Stating.{AreReportRows}
+use Rattle.station_compare.specs.Refusals.{by_fault}
+use Rattle.instrument_reports.proofs.rows.rows_of.Goals as goal
+
+pub returns : goal.returns
+returns g c =
+    let old = c.new-reading.result in
+    let new = c.answer_of-answer.result.1 in
+    let answer = c.answer_of-answer.result.0 in
+    let a = c.answer_of-answer.ensures in
+    let told = g.R.Source.told in
+    let failed = g.R.Source.failed in
+    let gave = g.R.Source.gave in
+    let tells = field_file_of told failed gave old new (by_fault answer) _
+    c.new-reading.ensures.nothing a in
+    let held = (kept told failed gave old new a.came.given c.new-reading.ensures.nothing
+    a.came.by_reads).1 in
+    rw (sym c.new-reading.ensures.reader, c.into_parts-gsi.ensures.reader)
+    (answered (with_recorded_rows c.args.form) (AreReportRows c.args.form) c.args.limits
+    c.args.name.now (λ text. text.items) _ answer c.answer_with_rows.result _ tells
+    (subst (λ (b : Option (List ℕ)). IfSome b (λ bytes. a.came.given ≡ bytes))
+    (sym c.into_parts-gsi.ensures.kept) held)
+    c.answer_with_rows.ensures)
