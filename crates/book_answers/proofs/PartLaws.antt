@@ -1,5 +1,5 @@
 -- From what is said of a station and the bytes of its part to what is answered of both by name.
-use Rattle.std.proofs.Common.{◌≡◌, ◌<◌, ℕ, Bool, List, None, Option, Ok, Err, Result, arith, false}
+use Rattle.std.proofs.Common.{◌≡◌, ◌<◌, ℕ, Bool, List, Option, Ok, Err, Result, arith, false}
 use Rattle.std.proofs.Common.{inl, inr}
 use Rattle.std.proofs.Common.{length, refl, subst, sym, true}
 use Rattle.std.specs.Prelude.{if◌then◌else◌, nat_lt}
@@ -41,7 +41,9 @@ use Rattle.station_tables.specs.Lines.{lines_of}
 use Rattle.station_tables.specs.Parts.{part_of}
 use Rattle.table_answers.proofs.Given.{tells_by_input}
 use Rattle.table_answers.specs.OfInput.{SaysOfInput}
-use Rattle.table_answers.specs.Refusing.{HasNoAnswerOf}
+use Rattle.table_answers.specs.OneDifferences.{differs_of_bytes}
+use Rattle.table_answers.specs.Refusing.{HasNoAnswerOf, HasNoDifferences, IsOfBytes}
+use Rattle.table_answers.specs.Refusing.{RefusesDifferences, RefusesInput}
 use Rattle.table_answers.specs.Saying.{SaysDifferences}
 
 module _ (form : TableForm) (station : StationValue) (residual : ℕ) (bytes : List ℕ) where
@@ -68,6 +70,18 @@ module _ (form : TableForm) (station : StationValue) (residual : ℕ) (bytes : L
   by_input false e within r h = h
   by_input true e within r h = too_long within r (grind (arith, nat_tests, e)) h
 
+  too_long_for : (fault : CompareFault) → LONGEST_TABLE < length bytes
+      → HasNoDifferences form station residual bytes fault
+      → IsFaultOrMemory (Err fault) (Table table.TooLong)
+  too_long_for (Table table.TooLong) past h = inl refl
+  too_long_for (Table (table.Columns first second)) past h = absurd (omega (arith, past, h.0))
+  too_long_for (Table (table.Row number kind)) past h = absurd (omega (arith, past, h.0))
+  too_long_for (Table (table.Missing target)) past h = absurd (omega (arith, past, h.0.0))
+  too_long_for (Table table.Memory) past h = absurd h
+  too_long_for (Adjust fault) past h = absurd (omega (arith, past, h.states.short))
+  too_long_for Memory past h = inr refl
+  too_long_for fault past h = absurd h
+
   says_input : (rows : RowForm) (text : List ℕ) (is_long : Bool)
       → nat_lt LONGEST_TABLE (length bytes) ≡ is_long
       → IsDifferencesText form rows station bytes text
@@ -78,13 +92,23 @@ module _ (form : TableForm) (station : StationValue) (residual : ℕ) (bytes : L
       let past : LONGEST_TABLE < length bytes = grind (arith, nat_tests, e) in
       absurd (omega (arith, past, h.states.short))
 
+  refuses_input : (fault : CompareFault) (is_long : Bool)
+      → nat_lt LONGEST_TABLE (length bytes) ≡ is_long
+      → HasNoDifferences form station residual bytes fault
+      → RefusesInput (HasNoDifferences form station residual)
+      (if is_long then RanPast else Ended bytes) fault
+  refuses_input fault false e h = h
+  refuses_input fault true e h = too_long_for fault (grind (arith, nat_tests, e)) h
+
 -- Where bytes are no table, nothing is answered of them, whatever is asked for.
 pub lacks_table : (form : TableForm) (text : PartText) (limits : ResultLimits)
     (its : SurveyedStation) (bytes : List ℕ) (fault : CompareFault)
     → ((residual : ℕ) → HasNoAnswerOf form its.station residual bytes fault)
+    → ((residual : ℕ) → HasNoDifferences form its.station residual bytes fault)
     → LacksText form text limits its bytes fault
-lacks_table form (Comparison within) limits its bytes fault none = none limits.residual within
-lacks_table form (Differences rows) limits its bytes fault none = none limits.residual
+lacks_table form (Comparison within) limits its bytes fault none also =
+    none limits.residual within
+lacks_table form (Differences rows) limits its bytes fault none also = also limits.residual
 
 module _ (limits : ResultLimits) (table : List ℕ) where
   no_file : (form : TableForm) (station : StationValue) (residual : ℕ) (bytes : List ℕ)
@@ -93,6 +117,10 @@ module _ (limits : ResultLimits) (table : List ℕ) where
   no_file form station residual bytes within (File fault) h = h
   no_file form station residual bytes within fault h = tt
 
+  no_file_of : (fault : CompareFault) → IsOfBytes fault → IsOfNoFile {T = ℕ} (Err fault)
+  no_file_of (File fault) own = absurd own
+  no_file_of fault own = tt
+
   -- No fault of the field file comes of a part.
   no_file_text : (form : TableForm) (text : PartText) (its : SurveyedStation) (bytes : List ℕ)
       (fault : CompareFault) → LacksText form text limits its bytes fault
@@ -100,7 +128,7 @@ module _ (limits : ResultLimits) (table : List ℕ) where
   no_file_text form (Comparison within) its bytes fault lacks =
       no_file form its.station limits.residual bytes within fault lacks
   no_file_text form (Differences rows) its bytes fault lacks =
-      no_file form its.station limits.residual bytes None fault (lacks None)
+      no_file_of fault (differs_of_bytes form limits its bytes fault lacks)
 
   pub no_file_part : (asked : PartAsked) (its : SurveyedStation) (fault : CompareFault)
       → LacksPart asked limits its (lines_of table) fault → IsOfNoFile {T = ℕ} (Err fault)
@@ -126,7 +154,8 @@ module _ (limits : ResultLimits) (file : FileAnswers) (table : List ℕ) where
       )
   tells_text form (Differences rows) its own station says held =
       let bytes = part_of its.station.name (lines_of table) in
-      tells_by_input (SaysDifferences form rows) {T = List ℕ} (λ t. t) form limits file
+      tells_by_input (SaysDifferences form rows) (RefusesDifferences form limits)
+      (differs_of_bytes form limits) {T = List ℕ} (λ t. t) limits file
       (told_part table its.station.name) its.station.name its (Ok own) station
       (says_input form its.station limits.residual bytes rows own
       (nat_lt LONGEST_TABLE (length bytes)) refl says) held
@@ -152,10 +181,11 @@ module _ (limits : ResultLimits) (file : FileAnswers) (table : List ℕ) where
       within (Err fault) lacks)
   lacks_text form (Differences rows) its fault station lacks =
       let bytes = part_of its.station.name (lines_of table) in
-      λ within. compares_by_table form limits file (told_part table its.station.name)
-      its.station.name within its (Err fault) station
-      (by_input form its.station limits.residual bytes (nat_lt LONGEST_TABLE (length bytes)) refl
-      within (Err fault) (lacks within))
+      tells_by_input (SaysDifferences form rows) (RefusesDifferences form limits)
+      (differs_of_bytes form limits) {T = List ℕ} (λ t. t) limits file
+      (told_part table its.station.name) its.station.name its (Err fault) station
+      (refuses_input form its.station limits.residual bytes fault
+      (nat_lt LONGEST_TABLE (length bytes)) refl lacks) tt
 
   pub refuses_part : (asked : PartAsked) (its : SurveyedStation) (refusal : Refusal)
       → IsStationOfFile limits.faces file its.station.name its
@@ -206,13 +236,25 @@ module _ (lines : List (List ℕ)) (name : List ℕ) (reader : ReaderChange) (ou
     by_table form station residual bytes within Write h = absurd h
     by_table form station residual bytes within Memory h = out.unfailed
 
+    by_differences : (form : TableForm) (limits : ResultLimits) (its : SurveyedStation)
+        (bytes : List ℕ) (fault : CompareFault) → RefusesDifferences form limits its bytes fault
+        → IsLeftAs (table_left (in_whole lines name fault)) reader
+    by_differences form limits its bytes (Table (table.Row row kind)) h = out
+    by_differences form limits its bytes (Table table.TooLong) h = out.unfailed
+    by_differences form limits its bytes (Table (table.Columns first second)) h = out
+    by_differences form limits its bytes (Table (table.Missing target)) h = out
+    by_differences form limits its bytes (Table table.Memory) h = out.unfailed
+    by_differences form limits its bytes (Adjust fault) h = out
+    by_differences form limits its bytes Memory h = out.unfailed
+    by_differences form limits its bytes fault h = absurd h
+
     by_text : (form : TableForm) (text : PartText) (limits : ResultLimits) (its : SurveyedStation)
         (bytes : List ℕ) (fault : CompareFault) → LacksText form text limits its bytes fault
         → IsLeftAs (table_left (in_whole lines name fault)) reader
     by_text form (Comparison within) limits its bytes fault lacks =
         by_table form its.station limits.residual bytes within fault lacks
     by_text form (Differences rows) limits its bytes fault lacks =
-        by_table form its.station limits.residual bytes None fault (lacks None)
+        by_differences form limits its bytes fault lacks
 
     pub table_left_by : (asked : PartAsked) (limits : ResultLimits) (its : SurveyedStation)
         (table : List ℕ) (fault : CompareFault) → LacksPart asked limits its (lines_of table) fault

@@ -18,7 +18,7 @@ use Rattle.station_compare.specs.declared.fault.CompareFault.TheVariants.{Table}
 use Rattle.station_compare.specs.declared.refusal.Refusal.{Refusal}
 use Rattle.station_differences.specs.Stating.{IsDifferencesText}
 use Rattle.station_tables.specs.Parts.{line_of_row, part_of}
-use Rattle.table_answers.specs.Refusing.{HasNoAnswerOf}
+use Rattle.table_answers.specs.Refusing.{RefusesDifferences}
 
 -- A fault of the part of the station of this name in these lines, as it is told: its row by the
 -- line of the whole table, its columns by those of the whole.
@@ -46,12 +46,6 @@ HasNoAgreement form within limits its bytes fault =
 abbrev pub AreDifferences : TableForm → RowForm → SurveyedStation → List ℕ → List ℕ → Type 0
 AreDifferences form rows its bytes own = IsDifferencesText form rows its.station bytes own
 
--- Why it has none.
-abbrev pub HasNoDifferences : TableForm → ResultLimits → SurveyedStation → List ℕ → CompareFault
-    → Type 0
-HasNoDifferences form limits its bytes fault =
-    HasNoAnswerOf form its.station limits.residual bytes fault
-
 -- What is answered of a station and of the bytes of a table.
 abbrev pub SaysText : TableForm → PartText → ResultLimits → SurveyedStation → List ℕ → List ℕ
     → Type 0
@@ -65,7 +59,7 @@ abbrev pub LacksText : TableForm → PartText → ResultLimits → SurveyedStati
 LacksText form (Comparison within) limits its bytes fault =
     HasNoAgreement form within limits its bytes fault
 LacksText form (Differences rows) limits its bytes fault =
-    HasNoDifferences form limits its bytes fault
+    RefusesDifferences form limits its bytes fault
 
 -- The same of a station and of its part of these lines.
 abbrev pub SaysPart : PartAsked → ResultLimits → SurveyedStation → List (List ℕ) → List ℕ → Type 0

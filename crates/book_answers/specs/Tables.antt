@@ -40,6 +40,7 @@ use Rattle.station_tables.specs.Parts.{part_of}
 use Rattle.station_tables.specs.Strays.{first_stray}
 use Rattle.station_tables.specs.declared.line.TheConstants.{LONGEST_TABLES}
 use Rattle.table_answers.specs.Answers.{ReadsBoth, TellsBeside}
+use Rattle.table_answers.specs.Refusing.{RefusesDifferences}
 use Rattle.table_answers.specs.Saying.{SaysDifferences}
 
 -- What a reader of the part of the station of this name alone tells: its bytes, and that they end.
@@ -56,7 +57,7 @@ TellsText form (Comparison within) limits file stated name (Ok text) =
 TellsText form (Comparison within) limits file stated name (Err fault) =
     Compares form limits file stated name within (Err fault)
 TellsText form (Differences rows) limits file stated name r =
-    TellsBeside (SaysDifferences form rows) form limits file stated name r
+    TellsBeside (SaysDifferences form rows) (RefusesDifferences form limits) limits file stated name r
 
 -- The same of the station and its part of the table, where they alone are asked for.
 abbrev pub TellsPart : PartAsked → ResultLimits → FileAnswers → List ℕ → List ℕ

@@ -3,11 +3,11 @@ ghost use Rattle.std.specs.Prelude.{◌≡◌, ◌≤◌, ◌++◌, ℕ, IfErr, 
 ghost use Rattle.book_answers.specs.Notes as spec;
 ghost use Rattle.direction_table.specs.TableNotes.{note_line, told_note};
 ghost use Rattle.table_answers.specs.Noting.{IsNote};
-ghost use Rattle.table_answers.specs.Refusing.{HasNoAnswerOf};
+ghost use Rattle.table_answers.specs.Refusing.{HasNoAnswerOf, HasNoDifferences};
 
 use crate::columns::pair_in_whole;
 use adjust_kernel::Name;
-use direction_table::{ByColumns, ColumnPair, Passed, TableForm, push_note, read_stated_table};
+use direction_table::{ByColumns, ColumnPair, Passed, TableForm, push_note, read_part_table};
 use station_book::Surveyed;
 use station_compare::CompareFault;
 use std::alloc::{AllocError, Global};
@@ -112,14 +112,17 @@ pub(crate) fn note_in_whole(
     requires { IsNote form surveyed.now.station part.now own.items }
     ensures note { IfOk result (λ note.
         spec.IsNoteOf form surveyed.now part.now note.items) }
-    ensures fault { IfErr result (λ fault. (residual : ℕ)
+    // Whichever of them is asked for, nothing is answered of a part that is no table.
+    ensures compared { IfErr result (λ fault. (residual : ℕ)
         → HasNoAnswerOf form surveyed.now.station residual part.now fault) }
+    ensures differs { IfErr result (λ fault. (residual : ℕ)
+        → HasNoDifferences form surveyed.now.station residual part.now fault) }
 {
     // Most parts have two columns, and agree: then none is read twice.
     if own.is_empty() {
         return Ok(own);
     }
     let station = surveyed.station();
-    let stated = read_stated_table(alloc, form, station.targets(), part)?;
-    Ok(named_notes(alloc, station.name(), stated.by_columns, &own)?)
+    let read = read_part_table(alloc, form, station.targets(), part)?;
+    Ok(named_notes(alloc, station.name(), read.by_columns, &own)?)
 }

@@ -1,7 +1,8 @@
 -- The differences of stated directions from a choice: by the angles on the circle, by every choice
 -- that is the same but for turns and a rotation, and that they are one list.
 use Rattle.std.proofs.Common.{◌≡◌, ℕ, suc, ◌+◌, ◌-◌, ◌*◌, ◌/◌, ◌%◌, ◌≤◌, ◌<◌, ◌+ℤ◌, ℤ, pos}
-use Rattle.std.proofs.Common.{All, List, [], ◌∷◌, length, get_or, arith, ap, refl, subst, ◌∙◌}
+use Rattle.std.proofs.Common.{All, List, [], ◌∷◌, length, get_or, arith, ap, refl, sym}
+use Rattle.std.proofs.Common.{subst, ◌∙◌}
 use Rattle.std.specs.Int.{int_rem_euclid}
 use Rattle.std.specs.Int.RustNames.{unsigned_abs}
 use Rattle.std.proofs.Math.IntN.{◌*ℤ◌, ◌-ℤ◌}
@@ -185,6 +186,54 @@ as_differences targets c other stated differences some others s are =
                 others (same_way (circle_of c) (circle_of other) (difference c stated)
                 (difference other stated) targets c.denominator other.denominator same are.start t
                 m.way way are.best.first.inside h m.onward onward) is m.rounded;
+          });
+    }
+
+no_turn : (circle : ℕ) (x y : ℤ) → x ≡ y
+    → pos 1 *ℤ y ≡ (pos 1 *ℤ x +ℤ pos 0) +ℤ pos (1 * circle) *ℤ pos 0
+no_turn circle x y is =
+    ap (λ z. pos 1 *ℤ z) (sym is)
+    ∙ same_value (num (pos 1) ⊗ num x)
+    ((num (pos 1) ⊗ num x ⊕ num (pos 0)) ⊕ num (pos (1 * circle)) ⊗ num (pos 0)) (omega arith)
+
+-- The same directions, stated in another way, have the same differences.
+pub same_stated : (targets : ℕ) (c : Choice) (f g : ℕ → ℤ) (differences : List ℤ)
+    → 1 ≤ c.denominator → ((t : ℕ) → t < targets → f t ≡ g t)
+    → AreDifferences targets c f differences → AreDifferences targets c g differences
+same_stated targets c f g differences some same are =
+    let start = are.start in
+    let inside : start < targets = are.best.first.inside in
+    let there : (t : ℕ) → t < targets → difference c f t ≡ difference c g t =
+    λ t h. ap (λ z. pos c.denominator *ℤ z -ℤ pos 405_000 *ℤ c.direction t) (same t h) in
+    let sames : AreSame (circle_of c) (circle_of c) (difference c f) (difference c g) targets 1 1 =
+    record {
+      some = omega arith;
+      others = omega arith;
+      positive = omega (arith, some);
+      other_positive = omega (arith, some);
+      circles = refl;
+      rotation = pos 0;
+      turns = λ t. pos 0;
+      angles = λ t h. no_turn (circle_of c) (difference c f t) (difference c g t) (there t h);
+    } in
+    let (its, is, best) = same_best (circle_of c) (circle_of c) (difference c f) (difference c g)
+    targets 1 1 start are.spread sames are.best in
+    let spread_is : its ≡ are.spread = omega (arith, is) in
+    record {
+      start = start;
+      spread = are.spread;
+      best = subst (λ (n : ℕ). IsBestArc (circle_of c) (difference c g) targets start n) spread_is
+          best;
+      count = are.count;
+      each = λ t h.
+          (let m = are.each t h in
+          record {
+            way = m.way;
+            onward = subst (λ z. IsWayRound (circle_of c) z (difference c g t) m.way)
+                (there start inside)
+                (subst (λ z. IsWayRound (circle_of c) (difference c f start) z m.way) (there t h)
+                m.onward);
+            rounded = m.rounded;
           });
     }
 

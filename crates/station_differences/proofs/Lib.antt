@@ -1,10 +1,14 @@
 pub mod SameArcs
 pub mod FirstArcs
 pub mod MiddleLaws
+pub mod StatedLaws
 pub mod DifferenceLaws
+pub mod LineLaws
 pub mod RowLaws
+pub mod LinesSoFar
 pub mod LeastLaws
 pub mod TextLaws
 pub mod StatedTexts
+pub mod Appended
 pub mod Medians
 pub mod MedianLaws

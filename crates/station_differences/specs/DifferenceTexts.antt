@@ -7,8 +7,11 @@ use Rattle.direction_table.specs.Texts.{direction_text}
 use Rattle.adjust_kernel.specs.declared.units.TheConstants.{CIRCLE, PARTS, UNIT}
 use Rattle.row_forms.specs.Forms.{number_in, rows_text}
 use Rattle.row_forms.specs.declared.form.RowForm.{RowForm}
+use Rattle.station_differences.specs.Lines.{compared_of}
 use Rattle.station_differences.specs.Medians.{median_of}
 use Rattle.station_differences.specs.declared.compared.TargetDifference.{TargetDifference}
+use Rattle.station_differences.specs.declared.line.TargetLine.{TargetLine}
+use Rattle.station_differences.specs.declared.line.TargetLine.TheVariants.{Compared, Lacking}
 
 -- six decimals of a gon write each stated direction of these rows exactly
 abbrev pub are_short : List TargetDifference → Bool
@@ -38,17 +41,21 @@ abbrev pub from_median_text : ℤ → ℤ → List ℕ
 from_median_text median difference = mgon_text (difference -ℤ median)
 
 -- The row of a target: its name, its stated direction and its least-squares direction in gon, and
--- their difference in mgon, as it is and less the median.
-abbrev pub row_of : RowForm → Bool → ℤ → TargetDifference → List (List ℕ)
-row_of form short median row =
+-- their difference in mgon, as it is and less the median. Where no direction is stated, its field
+-- and those of the differences are empty.
+abbrev pub row_of : RowForm → Bool → ℤ → TargetLine → List (List ℕ)
+row_of form short median (Compared row) =
     row.target ∷ number_in form (stated_text short row.stated)
     ∷ number_in form (direction_text 6 row.least) ∷ number_in form (mgon_text row.difference)
     ∷ number_in form (from_median_text median row.difference) ∷ []
+row_of form short median (Lacking target) =
+    target.target ∷ [] ∷ number_in form (direction_text 6 target.least) ∷ [] ∷ [] ∷ []
 
--- The rows of the targets, in their order.
-abbrev pub rows_of : RowForm → List TargetDifference → List (List (List ℕ))
-rows_of form rows = map (row_of form (are_short rows) (median_of rows)) rows
+-- The rows of the targets, in their order. Decimals and median are those of the stated ones.
+abbrev pub rows_of : RowForm → List TargetLine → List (List (List ℕ))
+rows_of form lines =
+    map (row_of form (are_short (compared_of lines)) (median_of (compared_of lines))) lines
 
 -- The text: the titles, and the rows.
-abbrev pub differences_text : RowForm → List TargetDifference → List ℕ
-differences_text form rows = rows_text form (titles ∷ rows_of form rows)
+abbrev pub differences_text : RowForm → List TargetLine → List ℕ
+differences_text form lines = rows_text form (titles ∷ rows_of form lines)

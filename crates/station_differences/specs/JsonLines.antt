@@ -1,13 +1,15 @@
 -- The differences of a table from its station as JSON lines (profile): an object on a line for each
--- target, of what its row has.
+-- target, of what its row has: each number is the same text, and what the row leaves empty is null.
 use Rattle.std.specs.Prelude.{ℕ, ◌==◌, Bool, ◌||◌, if◌then◌else◌, nat_lt, List, [], ◌∷◌, ◌++◌}
 use Rattle.std.specs.Prelude.{codes, ℤ}
 use Rattle.std.specs.List.{flat_map}
 use Rattle.angle_texts.specs.MgonTexts.{mgon_text}
 use Rattle.direction_table.specs.Texts.{direction_text}
 use Rattle.station_differences.specs.DifferenceTexts.{are_short, from_median_text, stated_text}
+use Rattle.station_differences.specs.Lines.{compared_of, least_on, target_on}
 use Rattle.station_differences.specs.Medians.{median_of}
-use Rattle.station_differences.specs.declared.compared.TargetDifference.{TargetDifference}
+use Rattle.station_differences.specs.declared.line.TargetLine.{TargetLine}
+use Rattle.station_differences.specs.declared.line.TargetLine.TheVariants.{Compared, Lacking}
 
 -- a quotation mark or a backslash
 abbrev pub is_escaped : ℕ → Bool
@@ -26,24 +28,36 @@ escaped byte = if is_escaped byte then 92 ∷ byte ∷ [] else byte ∷ []
 unfoldable pub json_name : List ℕ → List ℕ
 json_name name = codes "\"target\":\"" ++ (flat_map escaped name ++ codes "\"")
 
--- its directions,
-unfoldable pub json_directions : Bool → TargetDifference → List ℕ
-json_directions short row =
-    codes ",\"stated\":" ++ (stated_text short row.stated
-    ++ (codes ",\"least_squares\":" ++ direction_text 6 row.least))
+-- what is stated, or null,
+unfoldable pub json_stated : Bool → TargetLine → List ℕ
+json_stated short (Compared row) = stated_text short row.stated
+json_stated short (Lacking target) = codes "null"
 
--- and its differences: each number is the text that the row has.
-unfoldable pub json_differences : ℤ → TargetDifference → List ℕ
-json_differences median row =
-    codes ",\"difference\":" ++ (mgon_text row.difference
-    ++ (codes ",\"from_median\":" ++ from_median_text median row.difference))
+-- its directions,
+unfoldable pub json_directions : Bool → TargetLine → List ℕ
+json_directions short line =
+    codes ",\"stated\":" ++ (json_stated short line
+    ++ (codes ",\"least_squares\":" ++ direction_text 6 (least_on line)))
+
+-- a difference, as it is and less the median,
+unfoldable pub json_both : ℤ → ℤ → List ℕ
+json_both median difference =
+    codes ",\"difference\":" ++ (mgon_text difference
+    ++ (codes ",\"from_median\":" ++ from_median_text median difference))
+
+-- and its differences, or null.
+unfoldable pub json_differences : ℤ → TargetLine → List ℕ
+json_differences median (Compared row) = json_both median row.difference
+json_differences median (Lacking target) = codes ",\"difference\":null,\"from_median\":null"
 
 -- The object of a target, on its line.
-unfoldable pub json_line : Bool → ℤ → TargetDifference → List ℕ
-json_line short median row =
-    codes "{" ++ (json_name row.target
-    ++ (json_directions short row ++ (json_differences median row ++ codes "}\n")))
+unfoldable pub json_line : Bool → ℤ → TargetLine → List ℕ
+json_line short median line =
+    codes "{" ++ (json_name (target_on line)
+    ++ (json_directions short line ++ (json_differences median line ++ codes "}\n")))
 
--- The text: the lines of the targets, in their order.
-abbrev pub json_lines : List TargetDifference → List ℕ
-json_lines rows = flat_map (json_line (are_short rows) (median_of rows)) rows
+-- The text: the lines of the targets, in their order. Decimals and median are those of the stated
+-- ones.
+abbrev pub json_lines : List TargetLine → List ℕ
+json_lines lines =
+    flat_map (json_line (are_short (compared_of lines)) (median_of (compared_of lines))) lines

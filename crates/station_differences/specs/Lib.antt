@@ -2,6 +2,8 @@
 -- needs them.
 pub mod BestArcs
 pub mod Differences
+pub mod StatedTargets
+pub mod Lines
 pub mod Medians
 pub mod ByAdjustment
 pub mod DifferenceTexts

@@ -1,15 +1,23 @@
 //! Differences after the best rotation, rounded.
 ghost use Rattle.std.specs.Prelude.{◌≡◌, ◌≤◌, ◌<◌, ◌+◌, ◌*◌, All, length, pos, ◌-ℤ◌};
+ghost use Rattle.std.specs.Prelude.{IfOk, slice_index_or};
 ghost use Rattle.adjust_kernel.specs.declared.units.TheConstants.{CIRCLE, PARTS};
+ghost use Rattle.directions_apart.specs.Apart.{stated_by};
+ghost use Rattle.exact_adjustment.specs.Adjustments.{choice_by};
 ghost use Rattle.exact_adjustment.specs.declared.bounds.TheConstants.{LARGEST_FACTOR};
 ghost use Rattle.station_differences.specs.Angles.{angle_of};
 ghost use Rattle.station_differences.specs.BestArcs.{IsBestArc};
-ghost use Rattle.station_differences.specs.Differences.{IsFromMiddle, IsRoundedFromMiddle};
+ghost use Rattle.station_differences.specs.Differences.{AreDifferences, IsFromMiddle};
+ghost use Rattle.station_differences.specs.Differences.{IsRoundedFromMiddle};
+ghost use Rattle.station_differences.specs.StatedTargets.{choice_at};
 ghost use Rattle.wide_number.specs.Limbs.{WIDE_LIMIT};
 
-use crate::arc::Arc;
+use crate::angles::angles;
+use crate::arc::{Arc, best_arc};
 use adjust_kernel::{CIRCLE, PARTS, UNIT};
 use directions_apart::way_round;
+use exact_adjustment::Adjustment;
+use std::alloc::{AllocError, Global};
 use wide_number::{Wide, quotient};
 
 /// No difference is larger than half a circle, in units of 0.001 mgon.
@@ -42,13 +50,7 @@ fn lifted_difference(denominator: &Wide, way: &Wide, spread: &Wide) -> u64
 
 /// The angle at a place after the rotation that brings the middle of the best arc to 0, in units of
 /// 0.001 mgon, the middle of two upwards.
-pub(crate) fn difference_at(
-    denominator: &Wide,
-    circle: &Wide,
-    angles: &[Wide],
-    arc: &Arc,
-    place: usize,
-) -> i32
+fn difference_at(denominator: &Wide, circle: &Wide, angles: &[Wide], arc: &Arc, place: usize) -> i32
     requires some { 1 ≤ denominator.now }
     requires fits { denominator.now * LARGEST_FACTOR < WIDE_LIMIT }
     requires circle { circle.now ≡ denominator.now * (PARTS * CIRCLE) }
@@ -63,4 +65,30 @@ pub(crate) fn difference_at(
     let way = way_round(circle, &angles[arc.start], angles[place].times(1));
     let lifted = lifted_difference(denominator, &way, &arc.spread);
     lifted as i32 - LARGEST_DIFFERENCE as i32
+}
+
+/// The differences of the targets at these places of an adjustment, of each of which a direction is
+/// stated, in units of 0.001 mgon: after the rotation that is the best of these targets.
+pub(crate) fn differences_at(
+    alloc: Global,
+    adjustment: &Adjustment,
+    stated: &[i64],
+    places: &[usize],
+) -> Result<Vec<i32>, AllocError>
+    requires each { length stated.now ≡ length adjustment.now.directions }
+    requires some { 1 ≤ length places.now }
+    requires inside { All (λ place. place < length stated.now) places.now }
+    ensures { IfOk result (λ differences. AreDifferences (length places.now)
+        (choice_at places.now (choice_by adjustment.now))
+        (λ i. stated_by stated.now (slice_index_or places.now i 0)) differences.items) }
+{
+    let denominator = adjustment.denominator();
+    let circle = denominator.times(PARTS * CIRCLE);
+    let angles = angles(alloc, adjustment, stated, places)?;
+    let arc = best_arc(&circle, &angles);
+    let mut differences = Vec::with_capacity(alloc, places.len())?;
+    for place in 0..places.len() {
+        differences.push(difference_at(denominator, &circle, &angles, &arc, place))?;
+    }
+    Ok(differences)
 }

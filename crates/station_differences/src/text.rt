@@ -1,16 +1,19 @@
 //! The text of differences, made in memory.
 //!
 //! The rows go through `csv`'s writer, which puts quotes where a name asks for them.
-ghost use Rattle.std.specs.Prelude.{◌≡◌, ◌++◌, ◌-ℤ◌, IfOk, OnOk, OnErr};
-ghost use Rattle.angle_texts.specs.MgonTexts.{sign_text};
+ghost use Rattle.std.specs.Prelude.{◌≡◌, ◌++◌, ◌∷◌, [], ◌-ℤ◌, IfOk, OnOk, OnErr};
+ghost use Rattle.angle_texts.specs.MgonTexts.{mgon_text, sign_text};
 ghost use Rattle.direction_table.specs.Beginnings.{IsBegun};
+ghost use Rattle.direction_table.specs.Texts.{direction_text};
 ghost use Rattle.csv.specs.Writing.{row_text};
-ghost use Rattle.row_forms.specs.Forms.{rows_text, writer_of};
+ghost use Rattle.row_forms.specs.Forms.{number_in, rows_text, writer_of};
 ghost use Rattle.row_forms.specs.Writing.{Writes};
 ghost use Rattle.row_forms.specs.declared.form.RowForm.{RowForm as Form};
 ghost use Rattle.station_differences.specs.DifferenceTexts as spec;
+ghost use Rattle.station_differences.specs.Lines.{target_on};
 
 use crate::compared::TargetDifference;
+use crate::line::{TargetLine, compared_of};
 use crate::median::median_of;
 use adjust_kernel::{CIRCLE, PARTS, UNIT};
 use angle_texts::{digit, push_gon, push_mgon, push_thousandths};
@@ -23,15 +26,11 @@ use std::io::Write;
 /// order.
 ///
 /// The only error is that memory was refused.
-pub fn text_of(
-    alloc: Global,
-    rows: &[TargetDifference],
-    form: RowForm,
-) -> Result<Vec<u8>, AllocError>
-    ensures { IfOk result (λ text. text.items ≡ spec.differences_text form rows.now) }
+pub fn text_of(alloc: Global, lines: &[TargetLine], form: RowForm) -> Result<Vec<u8>, AllocError>
+    ensures { IfOk result (λ text. text.items ≡ spec.differences_text form lines.now) }
 {
     let mut writer = rows_in(form, Vec::new(alloc));
-    push_all(alloc, &mut writer, rows, form)?;
+    push_all(alloc, &mut writer, lines, form)?;
     writer.into_inner().map_err(|_| AllocError)
 }
 
@@ -39,14 +38,14 @@ pub fn text_of(
 fn push_all<W: Write + Drop>(
     alloc: Global,
     writer: &mut Writer<W>,
-    rows: &[TargetDifference],
+    lines: &[TargetLine],
     form: RowForm,
 ) -> Result<(), AllocError>
     ensures { OnOk result (Writes form W.contents writer.old writer.new
-        (spec.differences_text form rows.now)) }
+        (spec.differences_text form lines.now)) }
 {
     push_titles(writer)?;
-    push_rows(alloc, writer, rows, form)
+    push_rows(alloc, writer, lines, form)
 }
 
 /// Writes the titles.
@@ -66,47 +65,124 @@ fn push_titles<W: Write + Drop>(writer: &mut Writer<W>) -> Result<(), AllocError
     )
 }
 
-/// Writes the rows of the targets. The numbers of all rows are made into text in the same places.
+/// Writes the rows of the targets.
 fn push_rows<W: Write + Drop>(
     alloc: Global,
     writer: &mut Writer<W>,
-    rows: &[TargetDifference],
+    lines: &[TargetLine],
     form: RowForm,
 ) -> Result<(), AllocError>
     ensures { OnOk result (Writes form W.contents writer.old writer.new
-        (rows_text form (spec.rows_of form rows.now))) }
+        (rows_text form (spec.rows_of form lines.now))) }
 {
-    let short = are_short(rows);
-    let median = median_of(rows);
-    let mut stated = Vec::new(alloc);
-    let mut least = Vec::new(alloc);
-    let mut difference = Vec::new(alloc);
-    let mut from_median = Vec::new(alloc);
-    for row in rows {
-        stated.clear();
-        push_stated(&mut stated, short, row.stated)?;
-        set_point(&mut stated, form);
-        least.clear();
-        push_gon(&mut least, row.least)?;
-        set_point(&mut least, form);
-        difference.clear();
-        push_mgon(&mut difference, row.difference)?;
-        set_point(&mut difference, form);
-        from_median.clear();
-        push_from_median(&mut from_median, row.difference, median)?;
-        set_point(&mut from_median, form);
+    let compared = compared_of(alloc, lines)?;
+    let short = are_short(&compared);
+    let median = median_of(&compared);
+    for line in lines {
+        let numbers = numbers_of(alloc, form, short, median, line)?;
         write_row(
             writer,
             &[
-                row.target.bytes(),
-                stated.as_slice(),
-                least.as_slice(),
-                difference.as_slice(),
-                from_median.as_slice(),
+                line.target().bytes(),
+                numbers.stated.as_slice(),
+                numbers.least.as_slice(),
+                numbers.difference.as_slice(),
+                numbers.from_median.as_slice(),
             ],
         )?;
     }
     Ok(())
+}
+
+/// The numbers of a row, as text in its form, in the order of its columns. Of a target that the
+/// table lacks all but the least-squares direction are empty.
+#[derive(Drop)]
+struct Numbers {
+    stated: Vec<u8>,
+    least: Vec<u8>,
+    difference: Vec<u8>,
+    from_median: Vec<u8>,
+}
+
+/// The numbers of a row.
+fn numbers_of(
+    alloc: Global,
+    form: RowForm,
+    short: bool,
+    median: i32,
+    line: &TargetLine,
+) -> Result<Numbers, AllocError>
+    ensures { IfOk result (λ numbers. spec.row_of form short median line.now
+        ≡ target_on line.now ∷ numbers.stated.items ∷ numbers.least.items
+        ∷ numbers.difference.items ∷ numbers.from_median.items ∷ []) }
+{
+    let least = least_number(alloc, form, line.least())?;
+    match line {
+        TargetLine::Compared(row) => Ok(Numbers {
+            stated: stated_number(alloc, form, short, row.stated)?,
+            least,
+            difference: difference_number(alloc, form, row.difference)?,
+            from_median: from_median_number(alloc, form, row.difference, median)?,
+        }),
+        TargetLine::Lacking(_) => Ok(Numbers {
+            stated: Vec::new(alloc),
+            least,
+            difference: Vec::new(alloc),
+            from_median: Vec::new(alloc),
+        }),
+    }
+}
+
+/// A stated direction in a form.
+fn stated_number(
+    alloc: Global,
+    form: RowForm,
+    short: bool,
+    direction: u64,
+) -> Result<Vec<u8>, AllocError>
+    ensures { IfOk result (λ number.
+        number.items ≡ number_in form (spec.stated_text short direction)) }
+{
+    let mut number = Vec::new(alloc);
+    push_stated(&mut number, short, direction)?;
+    set_point(&mut number, form);
+    Ok(number)
+}
+
+/// A least-squares direction in a form.
+fn least_number(alloc: Global, form: RowForm, direction: u64) -> Result<Vec<u8>, AllocError>
+    ensures { IfOk result (λ number. number.items ≡ number_in form (direction_text 6 direction)) }
+{
+    let mut number = Vec::new(alloc);
+    push_gon(&mut number, direction)?;
+    set_point(&mut number, form);
+    Ok(number)
+}
+
+/// A difference in a form.
+fn difference_number(alloc: Global, form: RowForm, difference: i32) -> Result<Vec<u8>, AllocError>
+    ensures { IfOk result (λ number. number.items ≡ number_in form (mgon_text difference)) }
+{
+    let mut number = Vec::new(alloc);
+    push_mgon(&mut number, difference)?;
+    set_point(&mut number, form);
+    Ok(number)
+}
+
+/// A difference less the median in a form.
+fn from_median_number(
+    alloc: Global,
+    form: RowForm,
+    difference: i32,
+    median: i32,
+) -> Result<Vec<u8>, AllocError>
+    ensures { IfOk result (λ number.
+        number.items ≡ number_in form (spec.from_median_text median difference)) }
+{
+    let mut number = Vec::new(alloc);
+    push_from_median(&mut number, difference, median)?;
+    set_point(&mut number, form);
+    Ok(number)
 }
 
 /// Adds a difference less the median of all, in mgon: a minus where it is negative, the whole, a

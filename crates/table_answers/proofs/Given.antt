@@ -2,28 +2,26 @@
 -- left.
 use Rattle.std.proofs.Common.{◌≡◌, inl, inr, ℕ, List, Some, None, Result, Ok, Err, refl, subst, sym}
 use Rattle.std.specs.Prelude.{MatchResult, OnOk}
-use Rattle.adjust_kernel.specs.Stations.{StationValue}
 use Rattle.byte_ends.proofs.Coming.{given_as_told, some_left}
 use Rattle.byte_ends.specs.Came.{IsReadOut, Leaves}
 use Rattle.byte_ends.specs.Input.{Input, Ended, BrokeOff, RanPast, input_within}
 use Rattle.byte_ends.specs.Source.{Told, ReaderChange, given_then}
 use Rattle.direction_table.specs.declared.fault.TableFault.TheVariants as table
 use Rattle.direction_table.specs.declared.reading.TheConstants.{LONGEST_TABLE}
-use Rattle.direction_table.specs.declared.form.TableForm.{TableForm}
 use Rattle.exact_adjustment.specs.LeastOf.{HasResidualsWithin}
 use Rattle.gsi_file.specs.FileAnswers.{FileAnswers, file_answers}
 use Rattle.station_book.specs.Limits.{FaceLimits}
 use Rattle.station_book.specs.Stations.{SurveyedStation}
 use Rattle.station_book.specs.declared.result_limits.ResultLimits.{ResultLimits}
+use Rattle.station_check.specs.Answerable.{IsOfFile}
 use Rattle.station_check.specs.NotedSurveys.{NotesSurvey}
 use Rattle.station_check.specs.StationOfFile.{IsStationOfFile}
 use Rattle.station_check.specs.Surveys.{Surveys}
 use Rattle.station_check.specs.declared.fault.Fault.{Fault}
 use Rattle.station_check.specs.declared.fault.Fault.TheVariants as check
-use Rattle.station_compare.proofs.Comparisons.{compares_by_table}
 use Rattle.station_compare.proofs.Hinting.{IsOfNoFile, fault_of_hinted, hinted_by_station}
 use Rattle.station_compare.specs.Answers.{field_file_left, table_left}
-use Rattle.station_compare.specs.Comparing.{ByInput}
+use Rattle.station_compare.specs.Faults.{of_file}
 use Rattle.station_compare.specs.Hints.{IsHinted}
 use Rattle.station_compare.specs.Refusals.{by_fault, hinted}
 use Rattle.station_compare.specs.declared.fault.CompareFault.{CompareFault}
@@ -31,82 +29,107 @@ use Rattle.station_compare.specs.declared.fault.CompareFault.TheVariants.{File, 
 use Rattle.station_compare.specs.declared.fault.CompareFault.TheVariants.{Adjust, Apart, Write}
 use Rattle.station_compare.specs.declared.fault.CompareFault.TheVariants.{Memory}
 use Rattle.table_answers.specs.Answers.{ReadsBoth, StatesBeside}
-use Rattle.table_answers.specs.OfInput.{HasNoAnswerOfInput, SaysOfInput}
-use Rattle.table_answers.specs.Refusing.{HasNoAnswer, HasNoAnswerOf}
-
-module _ {V : Type 0} (Says : SurveyedStation → List ℕ → V → Type 0) where
-  -- An answer comes of an input that ended.
-  ended_by : (its : SurveyedStation) (input : Input) (value : V)
-      → SaysOfInput (Says its) input value
-      → (bytes : List ℕ) × (input ≡ Ended bytes) × Says its bytes value
-  ended_by its (Ended bytes) value h = (bytes, refl, h)
-  ended_by its (BrokeOff bytes) value h = absurd h
-  ended_by its RanPast value h = absurd h
-
-  -- What is answered, where the station was found.
-  pub tells_by_input : {T : Type 0} (value : T → V) (form : TableForm) (limits : ResultLimits)
-      (file : FileAnswers) (stated : Told) (name : List ℕ) (its : SurveyedStation)
-      (r : Result T CompareFault)
-      → IsStationOfFile limits.faces file name its
-      → MatchResult r
-      (λ t. SaysOfInput (Says its) (input_within LONGEST_TABLE stated) (value t))
-      (HasNoAnswerOfInput form its.station limits.residual (input_within LONGEST_TABLE stated))
-      → OnOk r (HasResidualsWithin its.station limits.residual)
-      → MatchResult r (λ t. StatesBeside Says limits file stated name (value t))
-      (HasNoAnswer form limits file stated name)
-  tells_by_input value form limits file stated name its (Ok t) station h held =
-      let ended = ended_by its (input_within LONGEST_TABLE stated) (value t) h in
-      record {
-        its = its;
-        station = station;
-        bytes = ended.0;
-        whole = ended.1;
-        held = held;
-        said = ended.2;
-      }
-  tells_by_input value form limits file stated name its (Err fault) station h held =
-      λ within. compares_by_table form limits file stated name within its (Err fault) station
-      (h within)
-
--- No fault of the field file comes of the table.
-no_file_fault : (form : TableForm) (station : StationValue) (residual : ℕ) (fault : Fault)
-    (input : Input) → ByInput form station residual None input (Err (File fault)) → ⊥
-no_file_fault form station residual fault (Ended bytes) h = h
-no_file_fault form station residual fault (BrokeOff bytes) (inl h) = cc
-no_file_fault form station residual fault (BrokeOff bytes) (inr h) = cc
-no_file_fault form station residual fault RanPast (inl h) = cc
-no_file_fault form station residual fault RanPast (inr h) = cc
-
--- So none is answered of it.
-of_no_file : (form : TableForm) {T : Type 0} (So : T → Type 0) (station : StationValue)
-    (residual : ℕ) (input : Input) (r : Result T CompareFault)
-    → MatchResult r So (HasNoAnswerOfInput form station residual input) → IsOfNoFile r
-of_no_file form So station residual input (Ok t) h = tt
-of_no_file form So station residual input (Err (File fault)) h =
-    no_file_fault form station residual fault input (h None)
-of_no_file form So station residual input (Err fault) h = tt
+use Rattle.table_answers.specs.OfInput.{SaysOfInput}
+use Rattle.table_answers.specs.Refusing.{HasNoAnswer, IsOfBytes, RefusesInput}
 
 -- What is answered, where the station was found, has the hint of a refusal.
-pub answers_by_input : {V T : Type 0} (Says : SurveyedStation → List ℕ → V → Type 0) (value : T → V)
-    (form : TableForm) (limits : ResultLimits) (file : FileAnswers) (stated : Told) (name : List ℕ)
-    (its : SurveyedStation) (r : Result T CompareFault)
-    → IsStationOfFile limits.faces file name its
-    → MatchResult r
-    (λ t. SaysOfInput (Says its) (input_within LONGEST_TABLE stated) (value t))
-    (HasNoAnswerOfInput form its.station limits.residual (input_within LONGEST_TABLE stated))
-    → OnOk r (HasResidualsWithin its.station limits.residual)
-    → MatchResult (by_fault (hinted its.station limits.residual r))
-    (λ t. StatesBeside Says limits file stated name (value t))
-    (HasNoAnswer form limits file stated name)
-    × IsHinted limits file name (hinted its.station limits.residual r)
-answers_by_input Says value form limits file stated name its r station h held = (
-  rw (fault_of_hinted its.station limits.residual r)
-      (tells_by_input Says value form limits file stated name its r station h held),
-  hinted_by_station limits file name its r station
-      (of_no_file form
-      (λ t. SaysOfInput (Says its) (input_within LONGEST_TABLE stated) (value t))
-      its.station limits.residual (input_within LONGEST_TABLE stated) r h),
-)
+module _ {V : Type 0} (Says : SurveyedStation → List ℕ → V → Type 0)
+    (Refuses : SurveyedStation → List ℕ → CompareFault → Type 0)
+    (of_bytes : (its : SurveyedStation) (bytes : List ℕ) (fault : CompareFault)
+    → Refuses its bytes fault → IsOfBytes fault)
+  where
+    -- An answer comes of an input that ended.
+    ended_by : (its : SurveyedStation) (input : Input) (value : V)
+        → SaysOfInput (Says its) input value
+        → (bytes : List ℕ) × (input ≡ Ended bytes) × Says its bytes value
+    ended_by its (Ended bytes) value h = (bytes, refl, h)
+    ended_by its (BrokeOff bytes) value h = absurd h
+    ended_by its RanPast value h = absurd h
+
+    -- No fault of the field file comes of the table.
+    no_file_fault : (its : SurveyedStation) (fault : Fault) (input : Input)
+        → RefusesInput (Refuses its) input (File fault) → ⊥
+    no_file_fault its fault (Ended bytes) h = of_bytes its bytes (File fault) h
+    no_file_fault its fault (BrokeOff bytes) (inl h) = cc
+    no_file_fault its fault (BrokeOff bytes) (inr h) = cc
+    no_file_fault its fault RanPast (inl h) = cc
+    no_file_fault its fault RanPast (inr h) = cc
+
+    -- So none is answered of it.
+    of_no_file : {T : Type 0} (So : T → Type 0) (its : SurveyedStation) (input : Input)
+        (r : Result T CompareFault) → MatchResult r So (RefusesInput (Refuses its) input)
+        → IsOfNoFile r
+    of_no_file So its input (Ok t) h = tt
+    of_no_file So its input (Err (File fault)) h = no_file_fault its fault input h
+    of_no_file So its input (Err fault) h = tt
+
+    refused_by_input : (limits : ResultLimits) (file : FileAnswers) (stated : Told)
+        (name : List ℕ) (its : SurveyedStation) (fault : CompareFault)
+        → IsStationOfFile limits.faces file name its
+        → RefusesInput (Refuses its) (input_within LONGEST_TABLE stated) fault
+        → HasNoAnswer Refuses limits file stated name fault
+    refused_by_input limits file stated name its (File fault) station h =
+        absurd (no_file_fault its fault (input_within LONGEST_TABLE stated) h)
+    refused_by_input limits file stated name its Memory station h = tt
+    refused_by_input limits file stated name its fault station h =
+        record { its = its; station = station; by_input = h }
+
+    pub tells_by_input : {T : Type 0} (value : T → V) (limits : ResultLimits) (file : FileAnswers)
+        (stated : Told) (name : List ℕ) (its : SurveyedStation) (r : Result T CompareFault)
+        → IsStationOfFile limits.faces file name its
+        → MatchResult r
+        (λ t. SaysOfInput (Says its) (input_within LONGEST_TABLE stated) (value t))
+        (RefusesInput (Refuses its) (input_within LONGEST_TABLE stated))
+        → OnOk r (HasResidualsWithin its.station limits.residual)
+        → MatchResult r (λ t. StatesBeside Says limits file stated name (value t))
+        (HasNoAnswer Refuses limits file stated name)
+    tells_by_input value limits file stated name its (Ok t) station h held =
+        let ended = ended_by its (input_within LONGEST_TABLE stated) (value t) h in
+        record {
+          its = its;
+          station = station;
+          bytes = ended.0;
+          whole = ended.1;
+          held = held;
+          said = ended.2;
+        }
+    tells_by_input value limits file stated name its (Err fault) station h held =
+        refused_by_input limits file stated name its fault station h
+
+    pub answers_by_input : {T : Type 0} (value : T → V) (limits : ResultLimits)
+        (file : FileAnswers) (stated : Told) (name : List ℕ) (its : SurveyedStation)
+        (r : Result T CompareFault) → IsStationOfFile limits.faces file name its
+        → MatchResult r
+        (λ t. SaysOfInput (Says its) (input_within LONGEST_TABLE stated) (value t))
+        (RefusesInput (Refuses its) (input_within LONGEST_TABLE stated))
+        → OnOk r (HasResidualsWithin its.station limits.residual)
+        → MatchResult (by_fault (hinted its.station limits.residual r))
+        (λ t. StatesBeside Says limits file stated name (value t))
+        (HasNoAnswer Refuses limits file stated name)
+        × IsHinted limits file name (hinted its.station limits.residual r)
+    answers_by_input value limits file stated name its r station h held = (
+      rw (fault_of_hinted its.station limits.residual r)
+          (tells_by_input value limits file stated name its r station h held),
+      hinted_by_station limits file name its r station
+          (of_no_file
+          (λ t. SaysOfInput (Says its) (input_within LONGEST_TABLE stated) (value t))
+          its (input_within LONGEST_TABLE stated) r h),
+    )
+
+    -- How what is answered of a table's input leaves the field file's reader, which has ended before.
+    pub left_by_input : {T : Type 0} (So : T → Type 0) (its : SurveyedStation) (input : Input)
+        (r : Result T CompareFault) (gsi : ReaderChange)
+        → MatchResult r So (RefusesInput (Refuses its) input)
+        → IsReadOut gsi → Leaves field_file_left r gsi
+    left_by_input So its input (Ok text) gsi h out = out
+    left_by_input So its input (Err (File fault)) gsi h out = absurd
+        (no_file_fault its fault input h)
+    left_by_input So its input (Err TableRead) gsi h out = out
+    left_by_input So its input (Err (Table fault)) gsi h out = out
+    left_by_input So its input (Err (Adjust fault)) gsi h out = out
+    left_by_input So its input (Err (Apart apart)) gsi h out = out
+    left_by_input So its input (Err Write) gsi h out = out
+    left_by_input So its input (Err Memory) gsi h out = out.unfailed
 
 -- A fault of the field file that is noted is one of its survey.
 pub fault_of_survey : (limits : FaceLimits) (file : FileAnswers) (fault : Fault)
@@ -114,51 +137,43 @@ pub fault_of_survey : (limits : FaceLimits) (file : FileAnswers) (fault : Fault)
 fault_of_survey limits file check.Memory h = tt
 fault_of_survey limits file fault h = h
 
--- How what is answered of a table's input leaves the field file's reader, which has ended before.
-pub left_by_input : (form : TableForm) {T : Type 0} (So : T → Type 0) (station : StationValue)
-    (residual : ℕ) (input : Input) (r : Result T CompareFault) (gsi : ReaderChange)
-    → MatchResult r So (HasNoAnswerOfInput form station residual input)
-    → IsReadOut gsi → Leaves field_file_left r gsi
-left_by_input form So station residual input (Ok text) gsi h out = out
-left_by_input form So station residual input (Err (File fault)) gsi h out = absurd
-    (no_file_fault form station residual fault input (h None))
-left_by_input form So station residual input (Err TableRead) gsi h out = out
-left_by_input form So station residual input (Err (Table fault)) gsi h out = out
-left_by_input form So station residual input (Err (Adjust fault)) gsi h out = out
-left_by_input form So station residual input (Err (Apart apart)) gsi h out = out
-left_by_input form So station residual input (Err Write) gsi h out = out
-left_by_input form So station residual input (Err Memory) gsi h out = out.unfailed
+-- What is answered of a fault of the field file.
+pub refused_by_file : (Refuses : SurveyedStation → List ℕ → CompareFault → Type 0)
+    (limits : ResultLimits) (file : FileAnswers) (stated : Told) (name : List ℕ) (fault : Fault)
+    → IsOfFile fault → Surveys limits.faces file (Err fault)
+    → HasNoAnswer Refuses limits file stated name (of_file fault)
+refused_by_file Refuses limits file stated name check.NoStation own h = absurd own
+refused_by_file Refuses limits file stated name check.Memory own h = tt
+refused_by_file Refuses limits file stated name fault own h = h
 
 -- What is answered of bytes is answered of an input that ended with them.
-pub by_ended : {T V : Type 0} (Says : List ℕ → V → Type 0) (value : T → V) (form : TableForm)
-    (station : StationValue) (residual : ℕ) (bytes : List ℕ) (input : Input)
+pub by_ended : {T V : Type 0} (Says : List ℕ → V → Type 0) (value : T → V)
+    (Refuses : List ℕ → CompareFault → Type 0) (bytes : List ℕ) (input : Input)
     (r : Result T CompareFault) → input ≡ Ended bytes
-    → MatchResult r (λ t. Says bytes (value t)) (HasNoAnswerOf form station residual bytes)
-    → MatchResult r (λ t. SaysOfInput Says input (value t))
-    (HasNoAnswerOfInput form station residual input)
-by_ended Says value form station residual bytes input r ended h =
+    → MatchResult r (λ t. Says bytes (value t)) (Refuses bytes)
+    → MatchResult r (λ t. SaysOfInput Says input (value t)) (RefusesInput Refuses input)
+by_ended Says value Refuses bytes input r ended h =
     subst (λ (i : Input). MatchResult r (λ t. SaysOfInput Says i (value t))
-    (HasNoAnswerOfInput form station residual i)) (sym ended) h
+    (RefusesInput Refuses i)) (sym ended) h
 
 -- How what is answered of a table's bytes leaves its reader, which has ended.
-pub left_by_bytes : (form : TableForm) {T : Type 0} (So : T → Type 0) (station : StationValue)
-    (residual : ℕ) (bytes : List ℕ) (r : Result T CompareFault) (reader : ReaderChange)
-    → MatchResult r So (HasNoAnswerOf form station residual bytes)
+pub left_by_bytes : {T : Type 0} (So : T → Type 0) (Refuses : CompareFault → Type 0)
+    (of_bytes : (fault : CompareFault) → Refuses fault → IsOfBytes fault)
+    (r : Result T CompareFault) (reader : ReaderChange) → MatchResult r So Refuses
     → IsReadOut reader → Leaves table_left r reader
-left_by_bytes form So station residual bytes (Ok text) reader h out = out
-left_by_bytes form So station residual bytes (Err (File fault)) reader h out = absurd (h None)
-left_by_bytes form So station residual bytes (Err TableRead) reader h out = absurd (h None)
-left_by_bytes form So station residual bytes (Err (Table table.TooLong)) reader h out = out.unfailed
-left_by_bytes form So station residual bytes (Err (Table (table.Columns first second))) reader h
-    out = out
-left_by_bytes form So station residual bytes (Err (Table (table.Row number kind))) reader h out =
-    out
-left_by_bytes form So station residual bytes (Err (Table (table.Missing target))) reader h out = out
-left_by_bytes form So station residual bytes (Err (Table table.Memory)) reader h out = out.unfailed
-left_by_bytes form So station residual bytes (Err (Adjust fault)) reader h out = out
-left_by_bytes form So station residual bytes (Err (Apart apart)) reader h out = out
-left_by_bytes form So station residual bytes (Err Write) reader h out = out.unfailed
-left_by_bytes form So station residual bytes (Err Memory) reader h out = out.unfailed
+left_by_bytes So Refuses of_bytes (Ok text) reader h out = out
+left_by_bytes So Refuses of_bytes (Err (File fault)) reader h out =
+    absurd (of_bytes (File fault) h)
+left_by_bytes So Refuses of_bytes (Err TableRead) reader h out = absurd (of_bytes TableRead h)
+left_by_bytes So Refuses of_bytes (Err (Table table.TooLong)) reader h out = out.unfailed
+left_by_bytes So Refuses of_bytes (Err (Table (table.Columns first second))) reader h out = out
+left_by_bytes So Refuses of_bytes (Err (Table (table.Row number kind))) reader h out = out
+left_by_bytes So Refuses of_bytes (Err (Table (table.Missing target))) reader h out = out
+left_by_bytes So Refuses of_bytes (Err (Table table.Memory)) reader h out = out.unfailed
+left_by_bytes So Refuses of_bytes (Err (Adjust fault)) reader h out = out
+left_by_bytes So Refuses of_bytes (Err (Apart apart)) reader h out = out
+left_by_bytes So Refuses of_bytes (Err Write) reader h out = out.unfailed
+left_by_bytes So Refuses of_bytes (Err Memory) reader h out = out.unfailed
 
 -- What is so with another thing is so alone.
 pub so_alone : {A : Type 0} (gsi table : ReaderChange) (r : Result A CompareFault)

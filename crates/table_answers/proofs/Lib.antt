@@ -5,3 +5,4 @@ pub mod Told
 pub mod OtherUnits
 pub mod OneNote
 pub mod ComparedBy
+pub mod PartTables

@@ -5,7 +5,6 @@ use Rattle.byte_ends.specs.Came.{Leaves}
 use Rattle.byte_ends.specs.Input.{Ended, input_within}
 use Rattle.byte_ends.specs.Source.{Told, ReaderChange, MayGive, HasGiven, given_then}
 use Rattle.direction_table.specs.declared.reading.TheConstants.{LONGEST_TABLE}
-use Rattle.direction_table.specs.declared.form.TableForm.{TableForm}
 use Rattle.exact_adjustment.specs.LeastOf.{HasResidualsWithin}
 use Rattle.gsi_file.specs.FileAnswers.{FileAnswers, file_answers}
 use Rattle.station_book.specs.Stations.{SurveyedStation}
@@ -33,12 +32,13 @@ pub record StatesBeside {V : Type 0} (Says : SurveyedStation → List ℕ → V 
   pub said : Says its bytes value
 
 -- What is answered: this, or why there is no answer.
-abbrev pub TellsBeside : {V : Type 0} → (SurveyedStation → List ℕ → V → Type 0) → TableForm
-    → ResultLimits → FileAnswers → Told → List ℕ → Result V CompareFault → Type 0
-TellsBeside Says form limits file stated name (Ok value) =
+abbrev pub TellsBeside : {V : Type 0} → (SurveyedStation → List ℕ → V → Type 0)
+    → (SurveyedStation → List ℕ → CompareFault → Type 0) → ResultLimits → FileAnswers → Told
+    → List ℕ → Result V CompareFault → Type 0
+TellsBeside Says Refuses limits file stated name (Ok value) =
     StatesBeside Says limits file stated name value
-TellsBeside Says form limits file stated name (Err fault) =
-    HasNoAnswer form limits file stated name fault
+TellsBeside Says Refuses limits file stated name (Err fault) =
+    HasNoAnswer Refuses limits file stated name fault
 
 -- A field file and a table were read for an answer: of what both readers gave this is so, and they
 -- are left as the answer says.

@@ -18,6 +18,7 @@ use Rattle.station_compare.specs.declared.how_far.HowFar.{HowFar}
 use Rattle.station_compare.specs.declared.refusal.Refusal.{Refusal}
 use Rattle.station_results.specs.Greatest.{IsGreatestSize}
 use Rattle.table_answers.specs.Answers.{ReadsBoth}
+use Rattle.table_answers.specs.Refusing.{RefusesComparison}
 use Rattle.table_answers.specs.Runs.{IsTableRun}
 use Rattle.table_answers.specs.declared.compared.Compared.{Compared}
 use Rattle.table_answers.specs.declared.noted.Noted.{Noted}
@@ -66,6 +67,6 @@ noted_verdict (Err why) = Err why
 pub record IsCompareRun {A : Type 0} (form : TableForm) (limits : ResultLimits) (within : Option ℕ)
     (gsi table : ReaderChange) (name : List ℕ) (r : Result A Refusal) (note : List ℕ)
     (out : WriterChange) : Type 0 where
-  pub run : IsTableRun (SaysComparison form within limits) PrintsComparison form limits gsi table
-      name r note out
+  pub run : IsTableRun (SaysComparison form within limits) (RefusesComparison form limits)
+      PrintsComparison form limits gsi table name r note out
   pub compares : IsComparison form limits within gsi table name (noted_verdict (by_fault run.answer))

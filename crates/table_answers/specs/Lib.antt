@@ -15,5 +15,8 @@ pub mod WholeParts
 -- The inside.
 pub mod OfInput
 pub mod NearTables
+pub mod PartTables
+pub mod OneFault
+pub mod OneDifferences
 pub mod OneCompared
 pub mod OneWhole

@@ -28,12 +28,13 @@ PrintsBeside Prints (Err refusal) r out = (r ≡ Err refusal) × out.is_unasked
 -- A run: all that it promises of its answer, with the hint of a refusal, how it was printed, and the
 -- note of the table.
 pub record IsTableRun {V A : Type 0} (Says : SurveyedStation → List ℕ → V → Type 0)
+    (Refuses : SurveyedStation → List ℕ → CompareFault → Type 0)
     (Prints : V → Result A CompareFault → WriterChange → Type 0) (form : TableForm)
     (limits : ResultLimits) (gsi table : ReaderChange) (name : List ℕ) (r : Result A Refusal)
     (note : List ℕ) (out : WriterChange) : Type 0 where
   pub answer : Result (V × List ℕ) Refusal
   pub tells : ReadsBoth gsi table (by_fault answer) (λ file stated.
-      TellsBeside (Noting Says form) form limits file stated name (by_fault answer)
+      TellsBeside (Noting Says form) Refuses limits file stated name (by_fault answer)
       × IsHinted limits file name answer)
   pub printed : PrintsBeside (λ noted. Prints noted.0) answer r out
   pub noted : note ≡ note_of answer

@@ -1,14 +1,16 @@
 //! What is asked of one station and a table.
-ghost use Rattle.std.specs.Prelude.{◌≡◌, ℕ, List, MatchResult, OnOk, Result, ⊤};
+ghost use Rattle.std.specs.Prelude.{◌≡◌, ℕ, Err, List, MatchResult, OnOk, Result, ⊤};
 ghost use Rattle.byte_ends.specs.Sink.{WriterChange};
 ghost use Rattle.byte_ends.specs.Writers.{writer_change};
 ghost use Rattle.direction_table.specs.declared.form.TableForm.{TableForm};
 ghost use Rattle.exact_adjustment.specs.LeastOf.{HasResidualsWithin};
 ghost use Rattle.station_book.specs.Stations.{SurveyedStation};
 ghost use Rattle.station_book.specs.declared.result_limits.ResultLimits.{ResultLimits as Limits};
+ghost use Rattle.station_compare.specs.OneAnswer.{IsSettled};
 ghost use Rattle.station_compare.specs.declared.fault.CompareFault.{CompareFault as WhyNot};
+ghost use Rattle.station_compare.specs.declared.fault.CompareFault.TheVariants.{Memory};
 ghost use Rattle.table_answers.specs.Noting.{Noting};
-ghost use Rattle.table_answers.specs.Refusing.{HasNoAnswerOf, IsComparable};
+ghost use Rattle.table_answers.specs.Refusing.{IsOfBytes};
 
 use crate::noted::Noted;
 use byte_ends::Sink;
@@ -33,6 +35,9 @@ pub trait TableAnswer: Drop {
     // What the answer says of a station and the bytes of a table, by these limits.
     ghost says: { Self → Limits → SurveyedStation → List ℕ → Value → Type 0 };
 
+    // What is refused of both.
+    ghost refuses: { Self → Limits → SurveyedStation → List ℕ → WhyNot → Type 0 };
+
     // What an answer makes of `out`, and what is then answered.
     ghost prints: { Value → Result ⊤ WhyNot → WriterChange → Type 0 };
 
@@ -52,7 +57,7 @@ pub trait TableAnswer: Drop {
         ensures tells { MatchResult result
             (λ noted. Noting (says self.now limits) (form_of self.now) surveyed.now bytes.now
             (value noted.answer, noted.note.items))
-            (HasNoAnswerOf (form_of self.now) surveyed.now.station limits.residual bytes.now) }
+            (refuses self.now limits surveyed.now bytes.now) }
         ensures held { OnOk result (HasResidualsWithin surveyed.now.station limits.residual) };
 
     /// Prints an answer, and passes on a refusal that comes of it.
@@ -63,8 +68,22 @@ pub trait TableAnswer: Drop {
     ghost one: { (asked : Self) (limits : Limits) (its : SurveyedStation) (bytes : List ℕ)
         (a b : Value) → says asked limits its bytes a → says asked limits its bytes b → a ≡ b };
 
-    // and what have one can be compared.
-    ghost compares: { (asked : Self) (limits : Limits) (its : SurveyedStation) (bytes : List ℕ)
-        (a : Value) → says asked limits its bytes a
-        → IsComparable (form_of asked) its.station bytes };
+    // or one fault,
+    ghost one_fault: { (asked : Self) (limits : Limits) (its : SurveyedStation) (bytes : List ℕ)
+        (a b : WhyNot) → IsSettled {A = ⊤} (Err a) → IsSettled {A = ⊤} (Err b)
+        → refuses asked limits its bytes a → refuses asked limits its bytes b → a ≡ b };
+
+    // and never both;
+    ghost never_both: { (asked : Self) (limits : Limits) (its : SurveyedStation) (bytes : List ℕ)
+        (a : Value) (fault : WhyNot) → HasResidualsWithin its.station limits.residual
+        → IsSettled {A = ⊤} (Err fault) → says asked limits its bytes a
+        → ¬ refuses asked limits its bytes fault };
+
+    // that memory ran out may stand in the place of any;
+    ghost memory: { (asked : Self) (limits : Limits) (its : SurveyedStation) (bytes : List ℕ)
+        → refuses asked limits its bytes Memory };
+
+    // and no fault of them is one of the field file, or of the table's reader.
+    ghost of_bytes: { (asked : Self) (limits : Limits) (its : SurveyedStation) (bytes : List ℕ)
+        (fault : WhyNot) → refuses asked limits its bytes fault → IsOfBytes fault };
 }

@@ -12,8 +12,8 @@ ghost use Rattle.station_compare.specs.Hints.{IsHinted};
 ghost use Rattle.station_compare.specs.Refusals.{by_fault};
 ghost use Rattle.table_answers.specs.Answers.{ReadsBoth, StatesBeside};
 ghost use Rattle.table_answers.specs.Noting.{Noting};
-ghost use Rattle.table_answers.specs.OfInput.{HasNoAnswerOfInput, SaysOfInput};
-ghost use Rattle.table_answers.specs.Refusing.{HasNoAnswer};
+ghost use Rattle.table_answers.specs.OfInput.{SaysOfInput};
+ghost use Rattle.table_answers.specs.Refusing.{HasNoAnswer, RefusesInput};
 ghost use Rattle.table_answers.specs.Runs.{IsOfPrinting, IsTableRun};
 ghost use Rattle.table_answers.specs.Telling.{RunTold};
 
@@ -52,7 +52,7 @@ pub fn table_answer_of<R: Source, Q: Source, A: TableAnswer>(
         (λ file stated. MatchResult (by_fault result.0)
         (λ noted. StatesBeside (Noting (A.says asked.now limits) (A.form_of asked.now)) limits file
         stated name.now (A.value noted.answer, noted.note.items))
-        (HasNoAnswer (A.form_of asked.now) limits file stated name.now)
+        (HasNoAnswer (A.refuses asked.now limits) limits file stated name.now)
         × IsHinted limits file name.now result.0) }
 {
     // For the proof alone: limits keep their bounds.
@@ -83,7 +83,7 @@ fn answer_of_input<Q: Source, A: TableAnswer>(
         (λ stated. MatchResult result
         (λ noted. SaysOfInput (Noting (A.says asked.now limits) (A.form_of asked.now) surveyed.now)
         (input_within LONGEST_TABLE stated) (A.value noted.answer, noted.note.items))
-        (HasNoAnswerOfInput (A.form_of asked.now) surveyed.now.station limits.residual
+        (RefusesInput (A.refuses asked.now limits surveyed.now)
         (input_within LONGEST_TABLE stated))) }
     ensures held { OnOk result (HasResidualsWithin surveyed.now.station limits.residual) }
     ensures reader { Leaves table_left result
@@ -109,7 +109,7 @@ pub fn write_table_answer<R: Source, Q: Source, A: TableAnswer, W: Sink>(
     writer: &mut W,
 ) -> (Result<(), Refusal>, Vec<u8>)
     ensures { UntilDropped R.told R.failed R.gave gsi (λ gsi. IsTableRun (A.says asked.now limits)
-        A.prints (A.form_of asked.now) limits gsi
+        (A.refuses asked.now limits) A.prints (A.form_of asked.now) limits gsi
         (reader_change Q.told Q.failed Q.gave table.old table.new) name.now result.0 result.1.items
         (writer_change W.Sink writer.old writer.new)) }
 {
@@ -142,7 +142,8 @@ pub fn run_table_answer<R: Source, Q: Source, A: TableAnswer, W: Sink, E: Sink>(
     err: &mut E,
 ) -> u8
     ensures { UntilDropped R.told R.failed R.gave gsi (λ gsi. RunTold {A = ⊤}
-        (IsTableRun (A.says asked.now limits) A.prints (A.form_of asked.now) limits gsi
+        (IsTableRun (A.says asked.now limits) (A.refuses asked.now limits) A.prints
+        (A.form_of asked.now) limits gsi
         (reader_change Q.told Q.failed Q.gave table.old table.new) name.now)
         result (writer_change W.Sink out.old out.new)
         (writer_change E.Sink err.old err.new)) }

@@ -2,7 +2,6 @@
 ghost use Rattle.std.specs.Prelude.{◌≡◌};
 ghost use Rattle.table_answers.specs.Comparisons as spec;
 ghost use Rattle.table_answers.specs.Wholes.{beyond_in};
-ghost use Rattle.table_report.specs.Stating.{beyond_of};
 
 use station_compare::{Agreement, CompareFault, HowFar};
 
@@ -35,14 +34,4 @@ impl Compared {
             Compared::Apart(how_far) => Some(how_far),
         }
     }
-}
-
-/// How far a table is apart, where that is beyond the limit.
-pub(crate) fn beyond(how_far: HowFar) -> Option<HowFar>
-    ensures { result ≡ beyond_of how_far }
-{
-    if how_far.apart > how_far.limit {
-        return Some(how_far);
-    }
-    None
 }

@@ -10,6 +10,8 @@ ghost use Rattle.table_answers.specs.Comparisons.{SaysComparison};
 ghost use Rattle.table_answers.specs.Comparisons as spec;
 ghost use Rattle.table_answers.specs.Telling.{RunTold};
 ghost use Rattle.table_answers.specs.OneCompared.{comparable, one_compared};
+ghost use Rattle.table_answers.specs.OneFault.{never_refused, one_refused, refused_of_bytes};
+ghost use Rattle.table_answers.specs.Refusing.{RefusesComparison};
 ghost use Rattle.table_answers.specs.Wholes.{beyond_in};
 ghost use Rattle.table_report.specs.Stating.{beyond_of};
 
@@ -56,6 +58,8 @@ impl TableAnswer for Comparison {
 
     ghost says = { λ asked. SaysComparison asked.form asked.within };
 
+    ghost refuses = { λ asked. RefusesComparison asked.form };
+
     ghost prints = { PrintsComparison };
 
     fn of_table(
@@ -87,8 +91,15 @@ impl TableAnswer for Comparison {
     ghost one = { λ asked limits its bytes a b p q.
         one_compared asked.form its.station limits.residual bytes asked.within a b p q };
 
-    ghost compares = { λ asked limits its bytes a p.
-        comparable asked.form its.station limits.residual bytes asked.within a p };
+    ghost one_fault = { λ asked. one_refused asked.form };
+
+    ghost never_both = { λ asked limits its bytes a fault held set p.
+        never_refused asked.form limits its bytes fault held (comparable asked.form its.station
+        limits.residual bytes asked.within a p) set };
+
+    ghost memory = { λ asked limits its bytes. λ within. tt };
+
+    ghost of_bytes = { λ asked. refused_of_bytes asked.form };
 }
 
 /// Whether a table agrees that is so far apart from a station, by an adjustment of it.

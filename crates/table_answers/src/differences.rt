@@ -3,27 +3,30 @@ ghost use Rattle.std.specs.Prelude.{ℕ, List};
 ghost use Rattle.byte_ends.specs.Writers.{writer_change};
 ghost use Rattle.station_differences.proofs.TextLaws.{one_text};
 ghost use Rattle.station_differences.specs.DifferenceTexts.{differences_text};
+ghost use Rattle.table_answers.specs.OneDifferences.{differs_of_bytes, never_differs, one_differs};
 ghost use Rattle.table_answers.specs.Printing.{PrintsText};
+ghost use Rattle.table_answers.specs.Refusing.{RefusesDifferences};
 ghost use Rattle.table_answers.specs.Saying.{SaysDifferences};
 
 use crate::answer::TableAnswer;
-use crate::noted::{Noted, note_of};
+use crate::noted::Noted;
+use crate::part::lines_of_table;
 use byte_ends::Sink;
-use direction_table::{TableForm, read_stated_table};
-use exact_adjustment::adjust;
+use direction_table::TableForm;
 use row_forms::RowForm;
 use station_book::{ResultLimits, Surveyed};
 use station_check::write_whole;
 use station_compare::CompareFault;
-use station_differences::{differences_by, text_of};
+use station_differences::text_of;
 use std::alloc::Global;
 
 /// The differences of a table from a station: a row of titles, and a row for each of its targets,
 /// with the stated direction and the least-squares direction in gon, and the difference of the two
-/// in mgon.
+/// in mgon. The table may lack targets if it states two or more: their rows have the least-squares
+/// direction alone.
 ///
 /// The least-squares directions are least over all directions, orientations and full turns. One
-/// rotation is taken off the differences: the one that makes the largest smallest.
+/// rotation is taken off the differences: the one that makes the largest of them smallest.
 #[derive(Clone, Copy, Debug, PartialEq, Eq, Drop)]
 pub struct Differences {
     /// How the table is to be read; what it states in degrees is rounded to 0.000000001 gon.
@@ -43,6 +46,8 @@ impl TableAnswer for Differences {
 
     ghost says = { λ asked _. SaysDifferences asked.form asked.rows };
 
+    ghost refuses = { λ asked. RefusesDifferences asked.form };
+
     ghost prints = { PrintsText };
 
     fn of_table(
@@ -52,14 +57,12 @@ impl TableAnswer for Differences {
         surveyed: &Surveyed,
         bytes: &[u8],
     ) -> Result<Noted<Vec<u8>>, CompareFault> {
-        let station = surveyed.station();
-        let stated = read_stated_table(alloc, self.form, station.targets(), bytes)?;
-        let adjustment = adjust(alloc, station, limits.residual)?;
-        let note = note_of(alloc, self.form, station, &adjustment, &stated, bytes)?;
-        let targets = station.targets();
-        let rows = differences_by(alloc, targets, &adjustment, &stated.directions)?;
-        let answer = text_of(alloc, &rows, self.rows)?;
-        Ok(Noted { answer, note })
+        let lines = lines_of_table(alloc, self.form, limits, surveyed, bytes)?;
+        let answer = text_of(alloc, &lines.answer, self.rows)?;
+        Ok(Noted {
+            answer,
+            note: lines.note,
+        })
     }
 
     fn print<W: Sink>(answer: Vec<u8>, out: &mut W) -> Result<(), CompareFault>
@@ -72,9 +75,12 @@ impl TableAnswer for Differences {
     ghost one = { λ asked _ its bytes a b p q. one_text (differences_text asked.rows) asked.form
         its.station bytes a b p q };
 
-    ghost compares = { λ asked _ its bytes text p. record {
-      directions = p.directions;
-      states = p.states;
-      adjustable = p.compared.rounded.adjustable;
-    } };
+    ghost one_fault = { λ asked. one_differs asked.form };
+
+    ghost never_both = { λ asked limits its bytes text fault held set p.
+        never_differs asked.form limits its bytes (differences_text asked.rows) text fault held set p };
+
+    ghost memory = { λ asked limits its bytes. tt };
+
+    ghost of_bytes = { λ asked. differs_of_bytes asked.form };
 }

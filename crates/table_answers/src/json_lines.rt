@@ -3,18 +3,20 @@ ghost use Rattle.std.specs.Prelude.{ℕ, List};
 ghost use Rattle.byte_ends.specs.Writers.{writer_change};
 ghost use Rattle.station_differences.proofs.TextLaws.{one_text};
 ghost use Rattle.station_differences.specs.JsonLines.{json_lines};
+ghost use Rattle.table_answers.specs.OneDifferences.{differs_of_bytes, never_differs, one_differs};
 ghost use Rattle.table_answers.specs.Printing.{PrintsText};
+ghost use Rattle.table_answers.specs.Refusing.{RefusesDifferences};
 ghost use Rattle.table_answers.specs.Saying.{SaysJsonLines};
 
 use crate::answer::TableAnswer;
-use crate::noted::{Noted, note_of};
+use crate::noted::Noted;
+use crate::part::lines_of_table;
 use byte_ends::Sink;
-use direction_table::{TableForm, read_stated_table};
-use exact_adjustment::adjust;
+use direction_table::TableForm;
 use station_book::{ResultLimits, Surveyed};
 use station_check::write_whole;
 use station_compare::CompareFault;
-use station_differences::{differences_by, json_lines_of};
+use station_differences::json_lines_of;
 use std::alloc::Global;
 
 /// What [`crate::Differences`] has in rows, as JSON lines: an object for each target.
@@ -35,6 +37,8 @@ impl TableAnswer for JsonLines {
 
     ghost says = { λ asked _. SaysJsonLines asked.form };
 
+    ghost refuses = { λ asked. RefusesDifferences asked.form };
+
     ghost prints = { PrintsText };
 
     fn of_table(
@@ -44,14 +48,12 @@ impl TableAnswer for JsonLines {
         surveyed: &Surveyed,
         bytes: &[u8],
     ) -> Result<Noted<Vec<u8>>, CompareFault> {
-        let station = surveyed.station();
-        let stated = read_stated_table(alloc, self.form, station.targets(), bytes)?;
-        let adjustment = adjust(alloc, station, limits.residual)?;
-        let note = note_of(alloc, self.form, station, &adjustment, &stated, bytes)?;
-        let targets = station.targets();
-        let rows = differences_by(alloc, targets, &adjustment, &stated.directions)?;
-        let answer = json_lines_of(alloc, &rows)?;
-        Ok(Noted { answer, note })
+        let lines = lines_of_table(alloc, self.form, limits, surveyed, bytes)?;
+        let answer = json_lines_of(alloc, &lines.answer)?;
+        Ok(Noted {
+            answer,
+            note: lines.note,
+        })
     }
 
     fn print<W: Sink>(answer: Vec<u8>, out: &mut W) -> Result<(), CompareFault>
@@ -64,9 +66,12 @@ impl TableAnswer for JsonLines {
     ghost one = { λ asked _ its bytes a b p q. one_text json_lines asked.form its.station bytes a
         b p q };
 
-    ghost compares = { λ asked _ its bytes text p. record {
-      directions = p.directions;
-      states = p.states;
-      adjustable = p.compared.rounded.adjustable;
-    } };
+    ghost one_fault = { λ asked. one_differs asked.form };
+
+    ghost never_both = { λ asked limits its bytes text fault held set p.
+        never_differs asked.form limits its bytes json_lines text fault held set p };
+
+    ghost memory = { λ asked limits its bytes. tt };
+
+    ghost of_bytes = { λ asked. differs_of_bytes asked.form };
 }

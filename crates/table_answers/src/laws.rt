@@ -24,8 +24,9 @@ pub fn one_answer<A: TableAnswer>()
     ensures { (asked : A) (limits : ResultLimits) (file : FileAnswers) (stated : Told)
         (name : List ℕ) (r s : Result A.Value CompareFault) → AreLimits limits.faces
         → IsSettled r → IsSettled s
-        → TellsBeside (A.says asked limits) (A.form_of asked) limits file stated name r
-        → TellsBeside (A.says asked limits) (A.form_of asked) limits file stated name s → r ≡ s }
+        → TellsBeside (A.says asked limits) (A.refuses asked limits) limits file stated name r
+        → TellsBeside (A.says asked limits) (A.refuses asked limits) limits file stated name s
+        → r ≡ s }
 {}
 
 /// The parts of all that is answered of a station and a table are what is answered where each alone

@@ -4,7 +4,7 @@ ghost use Rattle.adjust_kernel.specs.declared.bounds.TheConstants.{LARGEST_RESID
 ghost use Rattle.direction_table.specs.declared.fault.TableFault.TheVariants.{Memory};
 ghost use Rattle.exact_adjustment.specs.Exact.{IsExact, KeepsLimit};
 ghost use Rattle.exact_adjustment.specs.LeastOf.{AreTied};
-ghost use Rattle.table_answers.specs.NearTables.{IsNear, IsReadAs};
+ghost use Rattle.table_answers.specs.NearTables.{IsNear};
 ghost use Rattle.table_answers.specs.OtherUnits.{Agrees, AgreesIn, IsFirstUnit, IsOtherUnit};
 ghost use Rattle.table_answers.specs.OtherUnits as spec;
 
@@ -16,8 +16,8 @@ use exact_adjustment::Adjustment;
 use least_directions::apart_by;
 use std::alloc::{AllocError, Global};
 
-/// The unit that is named of a table that states this: the first of gon, degrees and D.MMSS in
-/// which it agrees by its usual limit, where it is apart by that as it is read.
+/// The unit that is named of a table that agrees as it is read, or doesn't: none; else the first of
+/// gon, degrees and D.MMSS in which it agrees by its usual limit.
 ///
 /// The only error is that memory was refused.
 pub(crate) fn other_unit(
@@ -25,19 +25,16 @@ pub(crate) fn other_unit(
     form: TableForm,
     station: &Station,
     adjustment: &Adjustment,
-    stated: &StatedTable,
+    agrees: bool,
     bytes: &[u8],
 ) -> Result<Option<AngleUnit>, AllocError>
     requires exact { IsExact station.now adjustment.now }
     requires limited { KeepsLimit station.now adjustment.now LARGEST_RESIDUAL_LIMIT }
     requires tied { AreTied station.now }
-    requires each { length stated.now.directions.items ≡ length station.now.targets }
-    requires off { stated.now.most_off ≤ DEGREE_PARTS }
-    requires read { IsReadAs form station.now bytes.now stated.now.directions.items
-        stated.now.most_off stated.now.usual_within }
+    requires agrees { IsTrue agrees ↔ Agrees form station.now bytes.now }
     ensures { IfOk result (IsOtherUnit form station.now bytes.now) }
 {
-    if is_near(station, adjustment, stated) {
+    if agrees {
         return Ok(None);
     }
     first_unit(alloc, form, station, adjustment, bytes)
@@ -127,7 +124,7 @@ fn agrees(
 }
 
 /// Whether what a table states is within its usual limit.
-fn is_near(station: &Station, adjustment: &Adjustment, stated: &StatedTable) -> bool
+pub(crate) fn is_near(station: &Station, adjustment: &Adjustment, stated: &StatedTable) -> bool
     requires exact { IsExact station.now adjustment.now }
     requires limited { KeepsLimit station.now adjustment.now LARGEST_RESIDUAL_LIMIT }
     requires tied { AreTied station.now }

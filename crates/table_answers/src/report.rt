@@ -1,13 +1,14 @@
 //! The report of a station with a table, as an answer.
 ghost use Rattle.byte_ends.specs.Writers.{writer_change};
+ghost use Rattle.table_answers.specs.OneFault.{never_refused, one_refused, refused_of_bytes};
 ghost use Rattle.table_answers.specs.Printing.{IsVerdict, PrintsReport};
+ghost use Rattle.table_answers.specs.Refusing.{RefusesComparison};
 ghost use Rattle.table_answers.specs.Saying.{SaysTableReport};
 ghost use Rattle.table_report.proofs.OneReport.{one_of_table};
 ghost use Rattle.table_report.specs.Stating.{ReportValue};
 ghost use Rattle.table_report.specs.Values.{asked_of, value_of};
 
 use crate::answer::TableAnswer;
-use crate::compared::beyond;
 use crate::noted::{Noted, note_of};
 use byte_ends::Sink;
 use direction_table::read_stated_table;
@@ -16,7 +17,7 @@ use station_book::{ResultLimits, Surveyed};
 use station_check::write_whole;
 use station_compare::{CompareFault, HowFar};
 use std::alloc::Global;
-use table_report::{Asked, StatedDirections, TableReport, beside_by};
+use table_report::{Asked, StatedDirections, TableReport, beside_by, beyond};
 
 impl<'a, 'n> TableAnswer for Asked<'a, 'n> {
     type Answer = TableReport;
@@ -28,6 +29,8 @@ impl<'a, 'n> TableAnswer for Asked<'a, 'n> {
     ghost form_of = { λ asked. asked.form };
 
     ghost says = { λ asked. SaysTableReport (asked_of asked) };
+
+    ghost refuses = { λ asked. RefusesComparison asked.form };
 
     ghost prints = { PrintsReport };
 
@@ -66,11 +69,18 @@ impl<'a, 'n> TableAnswer for Asked<'a, 'n> {
     ghost one = { λ asked limits its bytes a b p q.
         one_of_table (asked_of asked) limits its bytes a b p q };
 
-    ghost compares = { λ asked limits its bytes report p. record {
-      directions = p.directions;
-      states = p.states;
-      adjustable = p.beside.is_section.compared.rounded.adjustable;
-    } };
+    ghost one_fault = { λ asked. one_refused asked.form };
+
+    ghost never_both = { λ asked limits its bytes report fault held set p.
+        never_refused asked.form limits its bytes fault held (record {
+          directions = p.directions;
+          states = p.states;
+          adjustable = p.beside.is_section.compared.rounded.adjustable;
+        }) set };
+
+    ghost memory = { λ asked limits its bytes. λ within. tt };
+
+    ghost of_bytes = { λ asked. refused_of_bytes asked.form };
 }
 
 /// What is answered of a report that was written whole.

@@ -1,14 +1,18 @@
 //! All that is answered of a table beside its station, as one answer.
-ghost use Rattle.std.specs.Prelude.{◌≡◌, ◌≤◌, ◌++◌, Err, IfOk, codes, decimal, length};
+ghost use Rattle.std.specs.Prelude.{◌≡◌, ◌≤◌, ◌++◌, Err, IfOk, codes, decimal, length, map};
 ghost use Rattle.adjust_kernel.specs.declared.bounds.TheConstants.{LARGEST_RESIDUAL_LIMIT};
 ghost use Rattle.byte_ends.specs.Writers.{writer_change};
 ghost use Rattle.exact_adjustment.specs.Exact.{IsExact, KeepsLimit};
 ghost use Rattle.exact_adjustment.specs.LeastOf.{AreTied};
 ghost use Rattle.row_forms.specs.declared.form.RowForm.TheVariants.{Commas};
 ghost use Rattle.station_differences.specs.DifferenceTexts.{differences_text};
+ghost use Rattle.station_differences.specs.declared.line.TargetLine.TheVariants.{Compared as InLine};
 ghost use Rattle.table_answers.specs.Comparisons.{IsComparedBy};
+ghost use Rattle.table_answers.specs.OneFault.{never_refused, one_refused, refused_of_bytes};
+ghost use Rattle.table_answers.specs.OneCompared.{comparable};
 ghost use Rattle.table_answers.specs.OneWhole.{one_whole};
 ghost use Rattle.table_answers.specs.Printing.{PrintsVerdict};
+ghost use Rattle.table_answers.specs.Refusing.{RefusesComparison};
 ghost use Rattle.table_answers.specs.declared.whole.TheConstants.{LONGEST_TITLE};
 ghost use Rattle.table_answers.specs.Wholes.{IsWhole, WholeValue, beyond_in};
 ghost use Rattle.table_answers.specs.Wholes as spec;
@@ -31,7 +35,7 @@ use station_answers::push_part;
 use station_book::{ResultLimits, Surveyed};
 use station_check::{LONGEST_VERDICT_LINE, VerdictLine, add, add_numbered, write_whole};
 use station_compare::CompareFault;
-use station_differences::text_of;
+use station_differences::{lines_of, text_of};
 use std::alloc::{AllocError, Global};
 use table_report::{Asked, Beside, StatedDirections, beside_by};
 
@@ -66,6 +70,8 @@ impl<'a, 'n> TableAnswer for Whole<'a, 'n> {
     ghost form_of = { λ whole. whole.asked.form };
 
     ghost says = { λ whole. IsWhole (asked_of whole.asked) };
+
+    ghost refuses = { λ whole. RefusesComparison whole.asked.form };
 
     ghost prints = { spec.PrintsWhole };
 
@@ -102,11 +108,15 @@ impl<'a, 'n> TableAnswer for Whole<'a, 'n> {
     ghost one = { λ whole limits its bytes a b p q.
         one_whole (asked_of whole.asked) limits its bytes a b p q };
 
-    ghost compares = { λ whole limits its bytes a p. record {
-      directions = p.are_differences.directions;
-      states = p.are_differences.states;
-      adjustable = p.are_differences.compared.rounded.adjustable;
-    } };
+    ghost one_fault = { λ whole. one_refused whole.asked.form };
+
+    ghost never_both = { λ whole limits its bytes a fault held set p.
+        never_refused whole.asked.form limits its bytes fault held (comparable whole.asked.form
+        its.station limits.residual bytes whole.asked.within a.compared p.compares) set };
+
+    ghost memory = { λ whole limits its bytes. λ within. tt };
+
+    ghost of_bytes = { λ whole. refused_of_bytes whole.asked.form };
 }
 
 /// All of a table beside its station, of its rows, how far it is apart, and its report.
@@ -126,10 +136,11 @@ fn whole_by(
     ensures beyond { IfOk result (λ whole.
         beyond_in whole.compared ≡ beyond_of beside.now.how_far) }
     ensures text { IfOk result (λ whole. whole.text.items ≡ spec.whole_text whole.compared
-        (differences_text Commas beside.now.rows.items) beside.now.report.items) }
+        (differences_text Commas (map InLine beside.now.rows.items)) beside.now.report.items) }
 {
     let compared = compared_by(alloc, station, adjustment, beside.how_far)?;
-    let differences = text_of(alloc, &beside.rows, RowForm::Commas)?;
+    let lines = lines_of(alloc, &beside.rows)?;
+    let differences = text_of(alloc, &lines, RowForm::Commas)?;
     let text = whole_text(alloc, &compared, &differences, &beside.report)?;
     Ok(WholeTable { compared, text })
 }

@@ -1,19 +1,18 @@
 //! The report of a station beside stated directions.
-ghost use Rattle.std.specs.Prelude.{◌≡◌, ◌≤◌, IfErr, IfOk, OnOk, length};
+ghost use Rattle.std.specs.Prelude.{◌≡◌, ◌≤◌, IfOk, length};
 ghost use Rattle.adjust_kernel.specs.declared.bounds.TheConstants.{LARGEST_RESIDUAL_LIMIT};
 ghost use Rattle.exact_adjustment.specs.Exact.{IsExact, KeepsLimit};
-ghost use Rattle.exact_adjustment.specs.Faults.{IsAdjustError};
-ghost use Rattle.exact_adjustment.specs.LeastOf.{AreTied, HasResidualsWithin};
+ghost use Rattle.exact_adjustment.specs.LeastOf.{AreTied};
 ghost use Rattle.directions_apart.specs.Apart.{stated_by};
 ghost use Rattle.least_directions.specs.LeastDirections.{AreApart};
 ghost use Rattle.station_differences.specs.Differences.{AreCompared};
 ghost use Rattle.table_report.specs.Stating.{IsReportBeside, beyond_of};
-ghost use Rattle.table_report.specs.Values.{asked_of, report_of, value_of};
+ghost use Rattle.table_report.specs.Values.{asked_of, report_of};
 
 use crate::asked::Asked;
 use crate::section::section_text;
 use directions_apart::{MOST_OFF, apart_of};
-use exact_adjustment::{AdjustError, Adjustment, adjust};
+use exact_adjustment::Adjustment;
 use station_book::{ResultLimits, Surveyed};
 use station_compare::HowFar;
 use station_differences::{TargetDifference, differences_by};
@@ -52,43 +51,15 @@ pub struct Beside {
     pub report: Vec<u8>,
 }
 
-/// The report of a station with these directions, and their limit: the text of `station_report`,
-/// with a section after the adjusted directions. That has each stated direction, its difference
-/// from the adjusted one after the rotation that makes the largest difference smallest, as it is
-/// and less the lower median of all, the limit, and whether they agree.
+/// A station beside these directions, by an adjustment of it. The report is the text of
+/// `station_report`, with a section after the adjusted directions: that has each stated direction,
+/// its difference from the adjusted one after the rotation that makes the largest difference
+/// smallest, as it is and less the lower median of all, the limit, and whether they agree. The rest
+/// is what it has of them.
 ///
 /// All is exactly rounded, the middle of two upwards, but that differences from the median are of
 /// the printed ones; and it is of the least-squares directions: least over all directions,
-/// orientations and full turns. No residual is above the limit of residuals.
-///
-/// # Errors
-///
-/// Those of `exact_adjustment::adjust`: its `AdjustFault`, and `Memory`.
-pub fn report_beside(
-    alloc: Global,
-    asked: &Asked<'_, '_>,
-    limits: ResultLimits,
-    surveyed: &Surveyed,
-    stated: &StatedDirections<'_>,
-) -> Result<TableReport, AdjustError>
-    requires each { length stated.now.directions.now ≡ length surveyed.now.station.targets }
-    requires off { stated.now.off ≤ MOST_OFF }
-    ensures beside { IfOk result (λ report.
-        IsReportBeside (asked_of asked.now) limits surveyed.now stated.now.directions.now
-        stated.now.off stated.now.limit (value_of report)) }
-    ensures held { OnOk result (HasResidualsWithin surveyed.now.station limits.residual) }
-    ensures fault { IfErr result (IsAdjustError surveyed.now.station limits.residual) }
-{
-    let adjustment = adjust(alloc, surveyed.station(), limits.residual)?;
-    let beside = beside_by(alloc, asked, limits, surveyed, &adjustment, stated)?;
-    Ok(TableReport {
-        text: beside.report,
-        beyond: beyond(beside.how_far),
-    })
-}
-
-/// A station beside these directions, by an adjustment of it: the report is that of
-/// [`report_beside`], and the rest is what it has of them.
+/// orientations and full turns.
 ///
 /// The only error is that memory was refused.
 pub fn beside_by(
@@ -131,7 +102,7 @@ pub fn beside_by(
 }
 
 /// How far directions are apart, where that is beyond the limit.
-fn beyond(how_far: HowFar) -> Option<HowFar>
+pub fn beyond(how_far: HowFar) -> Option<HowFar>
     ensures { result ≡ beyond_of how_far }
 {
     if how_far.apart <= how_far.limit {

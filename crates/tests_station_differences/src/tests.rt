@@ -4,12 +4,12 @@
 use adjust_kernel::{LARGEST_RESIDUAL_LIMIT, PARTS, ResidualLimit, Station};
 use byte_ends::{Held, Script};
 use direction_table::{AngleUnit, RowKind, TableFault, TableForm};
-use exact_adjustment::{AdjustError, AdjustFault};
+use exact_adjustment::{AdjustError, AdjustFault, adjust};
 use row_forms::RowForm;
 use station_book::{Limits, ResultLimits};
 use station_check::Fault;
 use station_compare::{CompareFault, Refusal};
-use station_differences::{target_differences, text_of};
+use station_differences::{TargetLine, is_enough, json_lines_of, lines_by, text_of};
 use std::alloc::Global;
 use std::process::Abort;
 use std::test::Fail;
@@ -47,21 +47,41 @@ fn residual(rt: &impl Abort, half_units: u32) -> ResidualLimit {
     ResidualLimit::new(half_units).expect(rt, "a limit")
 }
 
-/// The text of stated directions, in units of 0.000000001 gon, beside a station.
+/// The lines of what is stated, in units of 0.000000001 gon, beside a station.
+fn lines(
+    rt: &impl Abort,
+    alloc: Global,
+    station: &Station,
+    stated: &[Option<i64>],
+) -> Result<Vec<TargetLine>, Fail> {
+    let mut parts = Vec::new(alloc);
+    for direction in stated {
+        parts.push(match direction {
+            Some(direction) => Some(direction.saturating_mul(PARTS as i64)),
+            None => None,
+        })?;
+    }
+    assert_eq!(rt; parts.len(), station.targets().len());
+    assert!(rt; is_enough(&parts));
+    let largest = residual(rt, LARGEST_RESIDUAL_LIMIT);
+    let adjustment = adjust(alloc, station, largest).map_err(|_| "no adjustment")?;
+    Ok(lines_by(alloc, station.targets(), &adjustment, &parts)?)
+}
+
+/// The text of directions that are stated of all targets, in units of 0.000000001 gon, beside a
+/// station.
 fn text(
     rt: &impl Abort,
     alloc: Global,
     station: &Station,
     stated: &[i64],
 ) -> Result<Vec<u8>, Fail> {
-    let mut parts = Vec::new(alloc);
+    let mut all = Vec::new(alloc);
     for direction in stated {
-        parts.push(direction.saturating_mul(PARTS as i64))?;
+        all.push(Some(*direction))?;
     }
-    assert_eq!(rt; parts.len(), station.targets().len());
-    let largest = residual(rt, LARGEST_RESIDUAL_LIMIT);
-    let rows = target_differences(alloc, station, &parts, largest).map_err(|_| "no adjustment")?;
-    Ok(text_of(alloc, &rows, RowForm::Commas)?)
+    let lines = lines(rt, alloc, station, &all)?;
+    Ok(text_of(alloc, &lines, RowForm::Commas)?)
 }
 
 /// Two targets in two sets, whose angles differ by 2 half units: that of the adjustment is
@@ -174,6 +194,66 @@ fn an_incomplete_station_has_differences_of_fractions(rt: HostRuntime) -> Result
 }
 
 #[test]
+fn a_target_that_is_not_stated_has_its_least_squares_direction(
+    rt: HostRuntime,
+) -> Result<(), Fail> {
+    let cases: [([Option<i64>; 3], &[u8], &[u8]); 2] = [
+        // The rotation and the median are those of A and C.
+        (
+            [Some(0), None, Some(150_000_029_000)],
+            b"target,stated,least squares,difference,from the median\n\
+            A,0.000000,0.000000,0.010,0.020\n\
+            B,,50.000047,,\n\
+            C,150.000029,150.000049,-0.010,0.000\n",
+            b"{\"target\":\"A\",\"stated\":0.000000,\"least_squares\":0.000000,\
+            \"difference\":0.010,\"from_median\":0.020}\n\
+            {\"target\":\"B\",\"stated\":null,\"least_squares\":50.000047,\
+            \"difference\":null,\"from_median\":null}\n\
+            {\"target\":\"C\",\"stated\":150.000029,\"least_squares\":150.000049,\
+            \"difference\":-0.010,\"from_median\":0.000}\n",
+        ),
+        // The least-squares directions are counted from A all the same.
+        (
+            [None, Some(50_000_056_400), Some(150_000_029_000)],
+            b"target,stated,least squares,difference,from the median\n\
+            A,,0.000000,,\n\
+            B,50.000056400,50.000047,0.015,0.030\n\
+            C,150.000029000,150.000049,-0.015,0.000\n",
+            b"{\"target\":\"A\",\"stated\":null,\"least_squares\":0.000000,\
+            \"difference\":null,\"from_median\":null}\n\
+            {\"target\":\"B\",\"stated\":50.000056400,\"least_squares\":50.000047,\
+            \"difference\":0.015,\"from_median\":0.030}\n\
+            {\"target\":\"C\",\"stated\":150.000029000,\"least_squares\":150.000049,\
+            \"difference\":-0.015,\"from_median\":0.000}\n",
+        ),
+    ];
+    let station = station_of(rt.alloc(), 3, b"ABC", &GAPS)?;
+    for (stated, rows, objects) in cases {
+        let lines = lines(&rt, rt.alloc(), &station, &stated)?;
+        let text = text_of(rt.alloc(), &lines, RowForm::Commas)?;
+        assert_eq!(rt; text.as_slice(), rows);
+        assert_eq!(rt; json_lines_of(rt.alloc(), &lines)?.as_slice(), objects);
+    }
+    Ok(())
+}
+
+#[test]
+fn one_stated_target_of_several_is_not_enough(rt: HostRuntime) -> Result<(), Fail> {
+    let cases: [(&[Option<i64>], bool); 6] = [
+        (&[Some(5)], true),
+        (&[None], false),
+        (&[None, Some(5)], false),
+        (&[None, None, None], false),
+        (&[None, Some(5), Some(5)], true),
+        (&[Some(5), None, None, Some(6)], true),
+    ];
+    for (stated, want) in cases {
+        assert_eq!(rt; is_enough(stated), want);
+    }
+    Ok(())
+}
+
+#[test]
 fn four_targets_have_one_rotation(rt: HostRuntime) -> Result<(), Fail> {
     let cases: [([i64; 4], &[u8]); 4] = [
         // One target is off by 1 mgon, and half of that shows at each.
@@ -265,7 +345,7 @@ fn a_residual_above_the_limit_is_refused(rt: HostRuntime) -> Result<(), Fail> {
         let station = station_of(rt.alloc(), 3, b"AB", &observed)?;
         assert_eq!(rt; station.targets().len(), 2);
         let limit = residual(&rt, limit);
-        match target_differences(rt.alloc(), &station, &[0, 0], limit) {
+        match adjust(rt.alloc(), &station, limit) {
             Ok(_) => assert_eq!(rt; fault, None),
             Err(AdjustError::Fault(found)) => assert_eq!(rt; Some(found), fault),
             Err(AdjustError::Memory) => assert!(rt; false),

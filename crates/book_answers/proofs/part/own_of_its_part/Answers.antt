@@ -12,5 +12,5 @@ returns-in_err-note-clause-text c =
     let part : c.deref-2.result.now ≡ part_of its.station.name (of_lines c.args.lines.now) =
     search rules in
     let lacks = lacks_table c.form_in_part.result c.args.asked.text c.args.limits its
-    c.deref-2.result.now fault c.in_err-note.ensures.fault in
+    c.deref-2.result.now fault c.in_err-note.ensures.compared c.in_err-note.ensures.differs in
     rw is_its (rw (c.form_in_part.ensures, part) at lacks)

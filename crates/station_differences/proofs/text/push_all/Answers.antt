@@ -10,7 +10,7 @@ pub returns : goal.returns
 returns g c =
     let form = c.args.form in
     let first = row_text (writer_of form) titles in
-    let rest = rows_text form (rows_of form c.args.rows.now) in
+    let rest = rows_text form (rows_of form c.args.lines.now) in
     on_ok c.push_rows.result
     (λ (rows : (text : List ℕ) → HasWritten {W = g.row.W.Denot} form g.W.Write.contents
     c.push_titles.new.writer text → HasWritten {W = g.row.W.Denot} form g.W.Write.contents

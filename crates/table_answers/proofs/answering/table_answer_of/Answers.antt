@@ -5,12 +5,13 @@ use Rattle.byte_ends.specs.Input.{input_within}
 use Rattle.byte_ends.specs.Source.{given_then}
 use Rattle.direction_table.specs.declared.reading.TheConstants.{LONGEST_TABLE}
 use Rattle.station_check.proofs.LawLemmas.{station_of_file}
-use Rattle.station_compare.proofs.Comparisons.{compares_by_file, left_alone, left_by_file}
+use Rattle.station_compare.proofs.Comparisons.{left_alone, left_by_file}
 use Rattle.station_compare.proofs.Hinting.{fault_of_hinted, unhinted_file}
 use Rattle.station_compare.specs.Faults.{of_file}
 use Rattle.station_compare.specs.Refusals.{unhinted}
 use denote.Param.{param}
 use Rattle.table_answers.proofs.Given.{answers_by_input, fault_of_survey, left_by_input}
+use Rattle.table_answers.proofs.Given.{refused_by_file}
 use Rattle.table_answers.specs.Noting.{Noting}
 use Rattle.table_answers.specs.OfInput.{SaysOfInput}
 use Rattle.table_answers.proofs.answering.table_answer_of.Goals as goal
@@ -19,8 +20,10 @@ pub returns : goal.returns
 returns g c =
     let limits = c.args.limits in
     let name = c.args.name.now in
-    let form = g.A.TableAnswer.form_of c.args.asked.now in
-    let says = Noting (g.A.TableAnswer.says c.args.asked.now limits) form in
+    let says = Noting (g.A.TableAnswer.says c.args.asked.now limits)
+    (g.A.TableAnswer.form_of c.args.asked.now) in
+    let refuses = g.A.TableAnswer.refuses c.args.asked.now limits in
+    let of_bytes = g.met.A.TableAnswer.of_bytes c.args.asked.now limits in
     let found = c.in-Ok.found in
     let its = c.in-Some.surveyed.now in
     let answer = c.answer_of_input-answer.result in
@@ -36,8 +39,8 @@ returns g c =
       table_reads = q.by_reads;
       so = λ gsi_left table_left gsi_may table_may.
           let survey = s.so gsi_left gsi_may in
-          answers_by_input says
-          (λ noted. (g.A.TableAnswer.value noted.answer, noted.note.items)) form limits _ _ name
+          answers_by_input says refuses of_bytes
+          (λ noted. (g.A.TableAnswer.value noted.answer, noted.note.items)) limits _ _ name
           its answer ((station_of_file limits.faces _ name its c.recall.ensures).0 (record {
             stations = found.0;
             survey = record {
@@ -48,10 +51,9 @@ returns g c =
             named = sym c.get.ensures ∙ ap option_copied c.in-Some.is;
           })) (q.so table_left table_may) c.answer_of_input-answer.ensures.held;
       gsi_reader = rw (fault_of_hinted its.station limits.residual answer)
-          (left_by_input form (λ a. SaysOfInput (says its)
+          (left_by_input says refuses of_bytes (λ a. SaysOfInput (says its)
           (input_within LONGEST_TABLE (given_then q.given left.0))
-          (g.A.TableAnswer.value a.answer, a.note.items))
-          its.station limits.residual _ answer _ by_input file.left);
+          (g.A.TableAnswer.value a.answer, a.note.items)) its _ answer _ by_input file.left);
       table_reader = rw (fault_of_hinted its.station limits.residual answer)
           c.answer_of_input-answer.ensures.reader;
     })
@@ -68,7 +70,7 @@ returns-in_default g c =
       table_reads = given_none g.Q.Source.told g.Q.Source.failed g.Q.Source.gave c.args.table.now;
       so = λ gsi_left table_left gsi_may table_may.
           let survey = s.so gsi_left gsi_may in (
-            λ within. record {
+            record {
               stations = found.0;
               survey = record {
                 blocks = survey.blocks;
@@ -90,7 +92,7 @@ returns-in_default g c =
 
 pub returns-in-Err : goal.returns-in-Err
 returns-in-Err g c =
-    let form = g.A.TableAnswer.form_of c.args.asked.now in
+    let refuses = g.A.TableAnswer.refuses c.args.asked.now c.args.limits in
     let limits = c.args.limits in
     let name = c.args.name.now in
     let fault = c.in-Err.fault in
@@ -104,7 +106,7 @@ returns-in-Err g c =
       table_bytes = [];
       table_reads = given_none g.Q.Source.told g.Q.Source.failed g.Q.Source.gave c.args.table.now;
       so = λ gsi_left table_left gsi_may table_may. (
-        λ within. compares_by_file form limits _ _ name within fault own
+        refused_by_file refuses limits _ _ name fault own
             (fault_of_survey limits.faces _ fault (s.so gsi_left gsi_may)),
         unhinted_file limits _ name fault own,
       );

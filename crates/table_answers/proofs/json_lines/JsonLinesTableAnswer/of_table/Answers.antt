@@ -1,22 +1,16 @@
-use Rattle.std.proofs.Common.{rules}
-use Rattle.station_differences.proofs.LeastLaws.{are_compared}
+use Rattle.std.proofs.Common.{◌≡◌, Err, rules}
 use Rattle.table_answers.proofs.json_lines.JsonLinesTableAnswer.of_table.Goals as goal
 
 pub returns-clause-tells : goal.returns-clause-tells
 returns-clause-tells c =
-    let station = c.args.surveyed.now.station in
-    let directions = c.in_ok-stated.stated.directions.items in
-    let rows = c.in_ok-rows.rows.items in
-    let e = rw c.station-station.ensures at c.in_ok-adjustment.ensures in (
+    let told = c.in_ok-lines.ensures.tells in (
       record {
-        directions = directions;
-        states = search rules;
-        rows = rows;
-        compared = are_compared station c.in_ok-adjustment.adjustment directions rows
-            (rw c.station-station.ensures at c.targets.ensures.valid) e.tied e.exact e.limited
-            (rw (c.targets-targets.ensures.value, c.station-station.ensures, c.deref.ensures.value) at
-            c.in_ok-rows.ensures);
+        stated = told.0.stated;
+        states = told.0.states;
+        enough = told.0.enough;
+        lines = c.in_ok-lines.lines.answer.items;
+        are_lines = told.0.are_lines;
         text_is = search rules;
       },
-      rw c.station-station.ensures at c.in_ok-note.ensures,
+      told.1,
     )

@@ -1,9 +1,11 @@
-use Rattle.std.proofs.Common.{◌≡◌, Err, Ok, Result, ap, refl, rules}
+use Rattle.std.proofs.Common.{◌≡◌, Err, Ok, Result, ap, map, refl, rules}
 use Rattle.std.specs.Result.{IsErr, IsErrAnd}
 use Rattle.station_compare.specs.declared.fault.CompareFault.{CompareFault}
 use Rattle.station_compare.specs.declared.fault.CompareFault.TheVariants.{Memory}
 use Rattle.row_forms.specs.declared.form.RowForm.TheVariants.{Commas}
+use Rattle.station_differences.proofs.TextLaws.{text_of_rows}
 use Rattle.station_differences.specs.DifferenceTexts.{differences_text}
+use Rattle.station_differences.specs.declared.line.TargetLine.TheVariants.{Compared as InLine}
 use Rattle.table_answers.proofs.ComparedBy.{by_how_far}
 use Rattle.table_answers.proofs.whole.WholeTableAnswer.of_table.Goals as goal
 
@@ -27,14 +29,9 @@ returns-clause-tells c =
               };
               limit = search rules;
             });
-        differences = differences_text Commas beside.rows.items;
-        are_differences = record {
-          directions = directions;
-          states = search rules;
-          rows = beside.rows.items;
-          compared = search rules;
-          text_is = refl;
-        };
+        differences = differences_text Commas (map InLine beside.rows.items);
+        are_differences = text_of_rows (differences_text Commas) asked.form its.station bytes _
+            directions beside.rows.items (search rules) (search rules) refl;
         report = beside.report.items;
         is_report = record {
           directions = directions;
