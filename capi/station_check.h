@@ -66,6 +66,13 @@ enum {
     STATION_CHECK_DMMSS = 2     /* two digits of minutes after the point, then the seconds */
 };
 
+/* The language of a text. */
+enum {
+    STATION_CHECK_ENGLISH = 0,
+    STATION_CHECK_GERMAN = 1,
+    STATION_CHECK_FRENCH = 2
+};
+
 /* Checks a sheet against a field file. The text is the line of the acceptance or of the refusal.
  * `residual` limits the residuals, in half units of 0.005 mgon, at most 2,000. */
 uint8_t station_check_check(const void *gsi, size_t gsi_length,
@@ -89,7 +96,8 @@ uint8_t station_check_compare(const void *gsi, size_t gsi_length,
 /* The differences of a table of directions from the least-squares ones of a station: a row of
  * titles, and a row for each target, with what the table states and the least-squares direction in
  * gon, and their difference in mgon after the rotation that makes the largest smallest, exactly
- * rounded. The status is 3 if the text or the note has too little room. */
+ * rounded. The table may lack targets of the station if it states two or more: their rows have the
+ * least-squares direction alone. The status is 3 if the text or the note has too little room. */
 uint8_t station_check_differences(const void *gsi, size_t gsi_length,
                                   const void *table, size_t table_length,
                                   const char *station, size_t station_length,
@@ -131,7 +139,7 @@ uint8_t station_check_directions(const void *gsi, size_t gsi_length,
                                  char *text, size_t room, size_t *length);
 
 /* The same with a semicolon between the cells of a row and a comma in each number, for a spreadsheet
- * that is set to German or French; and so the rows of `report --csv`. */
+ * that is set to German or French; and so the observations of `report --csv`. */
 uint8_t station_check_comma_directions(const void *gsi, size_t gsi_length,
                                        const char *station, size_t station_length,
                                        uint32_t two_c, uint32_t two_i, uint32_t decimals,
@@ -168,11 +176,11 @@ uint8_t station_check_report(const void *gsi, size_t gsi_length,
                              char *text, size_t room, size_t *length);
 
 /* All of a station, of one reading of the file and one adjustment: what station_check_directions
- * hands out, the rows that `report --csv` prints, how accurate it is, and what station_check_report
- * hands out. Before each stands a line of its title, "directions", "rows", "accuracy" or "report", a
- * blank, and how many bytes it has. How accurate it is are two lines: "degrees,deviation", and the
- * degrees of freedom and the standard deviation of one two-face direction in mgon, which is left out
- * where there are none. */
+ * hands out, the titles and observations that `report --csv` prints, how accurate it is, and what
+ * station_check_report hands out. Before each stands a line of its title, "directions", "rows",
+ * "accuracy" or "report", a blank, and how many bytes it has. How accurate it is are two lines:
+ * "degrees,deviation", and the degrees of freedom and the standard deviation of one two-face
+ * direction in mgon, which is left out where there are none. */
 uint8_t station_check_station(const void *gsi, size_t gsi_length,
                               const char *path, size_t path_length,
                               const char *station, size_t station_length,
@@ -276,16 +284,20 @@ uint8_t station_check_explain(const char *line, size_t line_length,
  * refused; of length 0 where there is none. A row below titles: `what` it is ("block", "sheet row",
  * "table row"; "target", "set" or "observation" among the sheet's rows of these; "station target",
  * "station observation"), its `number` from 1, its `row` among all where it is counted by its kind,
- * and the places, from 0, of its `first` byte and of the `end` after its last. Numbers that aren't
- * there are left out; no row, where the line names nothing. 256 bytes are always enough. */
+ * and the places, from 0, of its `first` byte and of the `end` after its last; and the same of the
+ * part that is meant, `meant_first` and `meant_end`: of a block the byte or the word that its fault
+ * speaks of, where it has that, else all. Numbers that aren't there are left out; no row, where the
+ * line names nothing. Of `no station` the row is the first of a sheet: pass no table with that line.
+ * 256 bytes are always enough. */
 uint8_t station_check_place(const char *line, size_t line_length,
                             const void *gsi, size_t gsi_length,
                             const void *other, size_t other_length,
                             char *rows, size_t room, size_t *length);
 
-/* The lines that a report has of the words 12, 13, 17, 18 and 19 of a field file without a fault of
- * its lines, as they stand: what it recorded of instrument and time. 512 bytes are always enough. */
-uint8_t station_check_instrument(const void *gsi, size_t gsi_length,
+/* The lines that a report in a language has of the words 12, 13, 17, 18 and 19 of a field file
+ * without a fault of its lines, as they stand, in UTF-8: what it recorded of instrument and time. 512
+ * bytes are always enough. */
+uint8_t station_check_instrument(const void *gsi, size_t gsi_length, uint32_t language,
                                  char *text, size_t room, size_t *length);
 
 #ifdef __cplusplus

@@ -52,6 +52,9 @@ _DONE, _REFUSED, _OUT_OF_RANGE, _TOO_LITTLE_ROOM = range(4)
 # The units of a table's directions, by what they are called.
 _UNITS = {"gon": 0, "degrees": 1, "dmmss": 2}
 
+# The languages of a text, by the numbers by which the library knows them.
+_LANGUAGES = {"en": 0, "de": 1, "fr": 2}
+
 
 class _Range(NamedTuple):
     """From which number to which a parameter goes, and what one of it is."""
@@ -97,7 +100,7 @@ _STATION = re.compile(r"station (.*): \d+ sets?, \d+ targets?, \d+ directions?")
 _OBSERVATION = re.compile(r"set (\d+), target (.*): p (\d+), 2c (-?\d+), 2i (-?\d+)")
 
 # The titles of the place of a refusal.
-_PLACE = "what,number,row,first,end"
+_PLACE = "what,number,row,first,end,meant_first,meant_end"
 
 # A text is given so many bytes at least, and so many times more where that was too little.
 _ROOM, _MORE = 1 << 16, 8
@@ -219,13 +222,13 @@ class Residual(NamedTuple):
 class Difference(NamedTuple):
     """What a table states of a target and its least-squares direction, in gon; in mgon the
     difference of both after the rotation that makes the largest smallest, and that less the median
-    of all."""
+    of all. Of a target that the table lacks the least-squares direction is all; the rest is None."""
 
     target: str
-    stated: Decimal
+    stated: Decimal | None
     least_squares: Decimal
-    difference: Decimal
-    from_the_median: Decimal
+    difference: Decimal | None
+    from_the_median: Decimal | None
 
 
 class Verdict(NamedTuple):
@@ -240,14 +243,17 @@ class Verdict(NamedTuple):
 
 class Place(NamedTuple):
     """What the line of a refusal names, and where that stands: `what` it is, as `station_check.h`
-    says, its number from 1, its row among all where it is counted by its kind, and its bytes as a
-    part of the file; `first` and `end` are None of what stands in no file, or is not there."""
+    says, its number from 1, its row among all where it is counted by its kind, its bytes as a part
+    of the file, and those of them that are meant, as a word; the places of bytes are None of what
+    stands in no file, or is not there."""
 
     what: str
     number: int
     row: int | None
     first: int | None
     end: int | None
+    meant_first: int | None
+    meant_end: int | None
 
 
 class Table(NamedTuple):
@@ -262,7 +268,7 @@ class Table(NamedTuple):
 
 
 class Station(NamedTuple):
-    """All of a station: the texts of `directions` and `report`, the rows that `report --csv`
+    """All of a station: the texts of `directions` and `report`, the observations that `report --csv`
     prints, and a row of the degrees of freedom and the standard deviation of one two-face direction
     in mgon, which is empty where there are none."""
 
@@ -324,7 +330,8 @@ def differences(
     decimal_comma: bool = False,
 ) -> Noted:
     """The differences of the table, target by target, after the rotation that makes the largest
-    smallest: exactly rounded, however large they are."""
+    smallest: exactly rounded, however large they are. The table may lack targets if it states two or
+    more: their rows have the least-squares direction alone."""
     numbers = [*_numbers(two_c=two_c, two_i=two_i), *_form(unit, columns)]
     call = "comma_differences" if decimal_comma else "differences"
     return _told(call, [gsi, table, _text(station)], numbers)
@@ -498,19 +505,21 @@ def explain(line: str = "") -> str:
     return _answer("explain", [_text(line)], []).decode()
 
 
-def instrument(gsi: File) -> str:
-    """The lines that a report has of what a field file recorded of instrument and time, in its words
-    12, 13, 17, 18 and 19, as they stand."""
-    return _answer("instrument", [gsi], []).decode()
+def instrument(gsi: File, language: str = "en") -> str:
+    """The lines that a report in English, in German ("de") or in French ("fr") has of what a field
+    file recorded of instrument and time, in its words 12, 13, 17, 18 and 19, as they stand."""
+    if language not in _LANGUAGES:
+        raise ValueError(f"language is {language!r}: state one of {', '.join(_LANGUAGES)}")
+    return _answer("instrument", [gsi], [ctypes.c_uint32(_LANGUAGES[language])]).decode()
 
 
 def place(line: str, gsi: File, other: File = b"") -> Place | None:
     """Where the line of a refusal stands, in the field file or in the sheet or the table of the call
-    that refused; None where it names nothing."""
+    that refused; None where it names nothing. Of `no station` it is a sheet's first row: pass no
+    table with that line."""
     rows = _rows_below(_PLACE, _answer("place", [_text(line), gsi, other], []).decode())
     for what, number, *places in rows:
-        row, first, end = (int(one) if one else None for one in places)
-        return Place(what, int(number), row, first, end)
+        return Place(what, int(number), *(int(one) if one else None for one in places))
     return None
 
 
@@ -533,7 +542,7 @@ def direction_rows(text: str) -> Mapping[str, Decimal]:
 
 
 def reading_rows(text: str) -> Sequence[Reading]:
-    """The rows that the command `report --csv` prints, as numbers."""
+    """The rows of observations that the command `report --csv` prints, as numbers."""
     titles = (
         "station,set,target,face one,face two,direction,2c,2i,adjusted,residual"
         ",zenith one,zenith two,zenith mean"
@@ -541,6 +550,7 @@ def reading_rows(text: str) -> Sequence[Reading]:
     return [
         Reading(name, int(nth), target, *map(Decimal, rest))
         for name, nth, target, *rest in _rows_below(titles, text)
+        if rest != [""] * 10
     ]
 
 
@@ -553,7 +563,15 @@ def residual_rows(text: str) -> Sequence[Residual]:
 def difference_rows(text: str) -> Sequence[Difference]:
     """The rows that `differences` answered, as numbers."""
     rows = _rows_below("target,stated,least squares,difference,from the median", text)
-    return [Difference(target, *map(Decimal, angles)) for target, *angles in rows]
+    return [
+        Difference(target, _number(stated), Decimal(least), _number(difference), _number(from_median))
+        for target, stated, least, difference, from_median in rows
+    ]
+
+
+def _number(cell: str) -> Decimal | None:
+    """The number of a cell; None of an empty one."""
+    return Decimal(cell) if cell else None
 
 
 def _verdict(text: str) -> Verdict:

@@ -9,6 +9,7 @@ import { commandOf, isWithin } from './limits.js';
 import {
   accuracyIn, each, greatestOf, namedIn, partsIn, recognizedIn, residualsIn, rowsIn,
 } from './records.js';
+import { LANGUAGES, spoken } from './texts.js';
 
 /**
  * @typedef {import('./files.js').Input} Input
@@ -119,10 +120,14 @@ export const filesOf = (/** @type {Card} */ { field, answers }) =>
 
 // ---------------------------------------------------------------- field files
 
-/** The lines of what a field file recorded of instrument and time. */
-async function recordedIn(/** @type {Input} */ { bytes }) {
-  const { status, text } = await ask('instrument', bytes);
-  return status === ACCEPTED ? text.split('\n').filter(line => line !== '') : [];
+/** Has at hand what a field file recorded of instrument and time, in the language of the page. */
+export async function record(/** @type {Input} */ field) {
+  const lines = field.recorded ??= {}, language = spoken();
+  if (lines[language]) return;
+  // (the place of each language is the number by which the calls know it)
+  const number = Object.keys(LANGUAGES).indexOf(language);
+  const { status, text } = await ask('instrument', field.bytes, number);
+  lines[language] = status === ACCEPTED ? text.split('\n').filter(line => line !== '') : [];
 }
 
 /**
@@ -402,7 +407,7 @@ export async function makeCards(inputs, limits, cards, told) {
     for (const field of fields) {
       tell(field);
       field.digest ||= await digestOf(field);
-      field.recorded ??= await recordedIn(field);
+      await record(field);
       cards.push(...await cardsOfField(field, limits));
       left.delete(field);
     }

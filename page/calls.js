@@ -127,6 +127,7 @@ export const calls = {
   change: (core, gsi, changes) => callOf(core, 'station_page_change', [gsi, changes], []),
   digest: (core, file, name) => callOf(core, 'station_page_digest', [file, name], []),
   explain: (core, line) => callOf(core, 'station_page_explain', [line], []),
-  instrument: (core, gsi) => callOf(core, 'station_page_instrument', [gsi], []),
+  instrument: (core, gsi, language) =>
+    callOf(core, 'station_page_instrument', [gsi], [language]),
   place: (core, line, gsi, other) => callOf(core, 'station_page_place', [line, gsi, other], []),
 };

@@ -19,14 +19,14 @@ import { each, recordsOf } from './records.js';
  * `changes` are those of its lines, where a copy with these stands in its place, and `given` is it
  * then as it was handed in.
  * `saved` says of the stations of a field file by their names what was saved of them last, and
- * `unfolded` has those whose readings the user unfolded. `recorded` has the lines of what it recorded
- * of instrument and time, and is there with the digest once the file was judged.
+ * `unfolded` has those whose readings the user unfolded. `recorded` has by the language the lines of
+ * what it recorded of instrument and time, and is there with the digest once the file was judged.
  * @typedef {{ name: string, path: string, handle?: any, shown: string, bytes: Uint8Array,
  *   kind: Kind, digest: string, choice?: { field: Input, name: string }, unit?: Unit,
  *   columns?: number[], station?: string, typed?: string, original?: Input, taken?: Input,
  *   numbers?: Map<string, Numbers>, typing?: Map<string, Record<string, string>>, code?: string,
  *   typedCode?: string, again?: Again, others?: boolean,
- *   saved?: Map<string, () => string>, unfolded?: Set<string>, recorded?: string[],
+ *   saved?: Map<string, () => string>, unfolded?: Set<string>, recorded?: Record<string, string[]>,
  *   changes?: import('./changes.js').Change[], given?: Input }} Input
  * How many sets were read to the end at a station, and how many targets they have: each 0 where it
  * is not stated.

@@ -1,5 +1,5 @@
 // What the user does: files come in, limits are stated. All that is shown is drawn of one state.
-import { isOfStation, judge, makeCards, resultsOf } from './answers.js';
+import { isOfStation, judge, makeCards, record, resultsOf } from './answers.js';
 import { showCard } from './cards.js';
 import { asHandedIn, changeLines, changesOf, stillOf } from './changes.js';
 import { drawInTurn, drawNow, isOther, partsInSight, redraw, redrawEach } from './drawing.js';
@@ -621,6 +621,9 @@ for (const [code, name] of Object.entries(LANGUAGES))
 languages.onchange = () => {
   speak(languages.value);
   draw();
+  worked(async () => {
+    for (const field of now.inputs.filter(({ recorded }) => recorded)) await record(field);
+  });
 };
 // What is stale can't be pressed: it would act on an earlier state.
 for (const done of ['click', 'submit', 'change']) {

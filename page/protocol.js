@@ -42,12 +42,13 @@ function showFile(/** @type {Input} */ { shown, digest }, /** @type {Element} */
   if (digest) ofProgram('code', text('digest', { digest }), line);
 }
 
-/** What a field file recorded of instrument and time, in the lines of the program. */
+/** What a field file recorded of instrument and time, in the lines of a report. */
 function showRecorded(/** @type {Input} */ file, /** @type {Element} */ parent) {
-  const { recorded = [] } = originalOf(file);
-  if (recorded.length === 0) return;
+  const lines = originalOf(file).recorded?.[spoken()] ?? [];
+  if (lines.length === 0) return;
   const said = row('recorded', parent);
-  for (const line of recorded) ofProgram('samp', line.trim(), element('div', '', said));
+  for (const line of lines)
+    element('samp', line.trim(), element('div', '', said), { translate: false });
 }
 
 /** What the user said of the job: the observer and the instrument in one row. */

@@ -2,8 +2,8 @@
 residuals: `python3 page/scripts.py`.
 
 A page that is opened from a folder can't load modules, so those of a script stand in it one after
-the other, as they are but for their comments, the blanks before their lines, and what they say of
-each other. A style has neither comments nor such blanks.
+the other, as they are but for their comments, empty lines, the blanks before others, and what they
+say of each other. A style has none of these either, and no blank behind a property's name.
 """
 
 import re
@@ -47,9 +47,11 @@ EXPORT = re.compile(r"^export (?=(?:async )?(?:const|let|class|function)\b)", re
 # A comment that begins its line, and one of a type.
 COMMENT = re.compile(r"^ *//[^\n]*\n|/\*\*.*?\*/(?: |\n(?: *\n)*)?", re.MULTILINE | re.DOTALL)
 
-# A comment of a style, and the blanks before a line.
+# A comment of a style, the name of a property that begins its line, with the blank behind, and what
+# is blank before a line, lines too.
 NOTE = re.compile(r"/\*.*?\*/\n?", re.DOTALL)
-INDENT = re.compile(r"^ +", re.MULTILINE)
+PROPERTY = re.compile(r"^([-\w]+:) ", re.MULTILINE)
+INDENT = re.compile(r"^\s+", re.MULTILINE)
 
 # What a module declares for all of itself: a name, and constants that stand after another on its
 # line.
@@ -97,13 +99,14 @@ def apart(script: str) -> tuple[str, dict[str, dict[str, str]]]:
 
 
 def dense(text: str) -> str:
-    """A text without the blanks before its lines."""
+    """A text without empty lines and the blanks before others."""
     return INDENT.sub("", text)
 
 
 def styled(name: str) -> str:
     """The style of this name."""
-    return dense("\n".join(NOTE.sub("", (HERE / one).read_text()) for one in STYLES[name]))
+    style = dense("\n".join(NOTE.sub("", (HERE / one).read_text()) for one in STYLES[name]))
+    return PROPERTY.sub(r"\1", style)
 
 
 def filled(template: str, values: dict[str, str]) -> str:

@@ -2,6 +2,7 @@
 //
 // The worker's script and the module are taken out of the page as it is. Beside the program's commands,
 // `station FILE NAME` gives all of a station, `table FILE NAME TABLE` all of a table, `list-rows FILE` a list as rows, `explain-bytes FILE` explains the bytes of a file, `place LINE FILE [OTHER]` tells where a refusal stands,
+// `instrument FILE [LANGUAGE]` what a file recorded of instrument and time, by the number of a language,
 // `digest FILE NAME` gives the line of its digest with this name, `change FILE N..` the copy with changes,
 // each `N` or `N=NAME`, `mark-rows FILE` what `mark` is told, with rows in the place of its notes and the line
 // of a refusal in that of the copy, and `time COMMAND WORD..` the milliseconds that the fastest of some runs takes. With
@@ -102,6 +103,7 @@ const answers = {
   digest: (file, name) => calls.digest(core, bytesOf(file), nameOf(name)),
   explain: (line = '') => calls.explain(core, nameOf(line)),
   'explain-bytes': file => calls.explain(core, bytesOf(file)),
+  instrument: (gsi, language = 0) => calls.instrument(core, bytesOf(gsi), Number(language)),
   place: (line, gsi, other) => calls.place(
     core, nameOf(line), bytesOf(gsi), other ? bytesOf(other) : nameOf('')),
   time: async (command, ...rest) => {

@@ -750,6 +750,9 @@ class PageInBrowserTest(TimedTest):
         said = page.texts("#protocol .facts dd div samp")
         lines = ["12 serial number    0000000000345678", "17 date             0000000001022026"]
         self.assertEqual(lines, [line for line in said if line[:2] in ("12", "17")])
+        page.js("languages.value = 'de'; languages.onchange()")
+        german = "[...document.querySelectorAll('#protocol samp')].some(one => one.textContent.startsWith('12 Serien'))"
+        self.assertTrue(page.wait(f"(() => {{ onbeforeprint(); return {german} }})()"))
 
     def test_each_station_of_a_job_is_recognized_by_its_set_up_line(self):
         detail = b"*110062+00000000000000P8 88..10+0000000000001500\n*110063+00000000000000P7 21.322"

@@ -41,9 +41,11 @@ use Rattle.station_report.specs.NoteTexts.{unnoted}
 use Rattle.table_answers.specs.Answers.{TellsBeside}
 use Rattle.table_answers.specs.Comparisons.{SaysComparison, noted_verdict, verdict}
 use Rattle.table_answers.specs.Noting.{Noting}
+use Rattle.report_phrases.specs.declared.language.Language.{Language}
 use Rattle.report_rows.specs.Stating.{AreReportRows}
 use Rattle.row_forms.specs.declared.form.RowForm.{RowForm}
 use Rattle.row_forms.specs.declared.form.RowForm.TheVariants.{Commas, Semicolons}
+use Rattle.table_answers.specs.Refusing.{RefusesComparison, RefusesDifferences}
 use Rattle.table_answers.specs.Saying.{SaysDifferences}
 use Rattle.table_answers.specs.Wholes.{IsWhole, WholeValue, verdict_parts}
 use Rattle.table_answers.specs.declared.compared.Compared.{Compared}
@@ -185,8 +187,9 @@ pub record IsComparisonOf (two_c two_i : ℕ) (form : TableForm) (within : Optio
   pub limits : FaceLimits
   pub states : States two_c two_i limits
   pub answer : Result (Compared × List ℕ) CompareFault
-  pub tells : TellsBeside (Noting (SaysComparison form within (of_faces limits)) form) form
-      (of_faces limits) (file_answers (source_of gsi)) (source_of table) name answer
+  pub tells : TellsBeside (Noting (SaysComparison form within (of_faces limits)) form)
+      (RefusesComparison form (of_faces limits)) (of_faces limits) (file_answers (source_of gsi))
+      (source_of table) name answer
   pub compares : Compares form (of_faces limits) (file_answers (source_of gsi)) (source_of table)
       name within (noted_verdict answer)
   pub status : ℕ
@@ -209,8 +212,9 @@ pub record IsDifferencesOf (rows : RowForm) (two_c two_i : ℕ) (form : TableFor
   pub limits : FaceLimits
   pub states : States two_c two_i limits
   pub answer : Result (List ℕ × List ℕ) CompareFault
-  pub tells : TellsBeside (Noting (SaysDifferences form rows) form) form (of_faces limits)
-      (file_answers (source_of gsi)) (source_of table) name answer
+  pub tells : TellsBeside (Noting (SaysDifferences form rows) form)
+      (RefusesDifferences form (of_faces limits)) (of_faces limits) (file_answers (source_of gsi))
+      (source_of table) name answer
   pub status : ℕ
   pub hands_text_out : HandsOut (status_of answer) (table_or_refusal (answer_alone answer)) room
       status shown
@@ -234,8 +238,9 @@ pub record IsTableOf (two_c two_i : ℕ) (asked : ReportAsked) (gsi table name :
   pub limits : FaceLimits
   pub states : States two_c two_i limits
   pub answer : Result (WholeValue × List ℕ) CompareFault
-  pub tells : TellsBeside (Noting (IsWhole asked (of_faces limits)) asked.form) asked.form
-      (of_faces limits) (file_answers (source_of gsi)) (source_of table) name answer
+  pub tells : TellsBeside (Noting (IsWhole asked (of_faces limits)) asked.form)
+      (RefusesComparison asked.form (of_faces limits)) (of_faces limits)
+      (file_answers (source_of gsi)) (source_of table) name answer
   pub status : ℕ
   pub hands_text_out : HandsOut (status_of (whole_verdict answer)) (parts_of answer) room status
       shown
@@ -338,11 +343,12 @@ pub record IsPlaceOf (line gsi other : List ℕ) (room answered : ℕ) (shown : 
   pub tells : TellsPlace line gsi other answer
   pub hands_out : HandsOut (status_of answer) (listed_or_refusal answer) room answered shown
 
--- The status and the text are those of what these bytes recorded of instrument and time; or memory
--- ran out.
-pub record IsInstrumentOf (gsi : List ℕ) (room answered : ℕ) (shown : List ℕ) : Type 0 where
+-- The status and the text are those of what these bytes recorded of instrument and time, in a
+-- language; or memory ran out.
+pub record IsInstrumentOf (language : Language) (gsi : List ℕ) (room answered : ℕ)
+    (shown : List ℕ) : Type 0 where
   pub answer : Result (List ℕ) Fault
-  pub tells : TellsRecorded gsi answer
+  pub tells : TellsRecorded language gsi answer
   pub hands_out : HandsOut (status_of answer) (listed_or_refusal answer) room answered shown
 
 -- What comes of these changes of a field file: the copy, or the fault.

@@ -7,6 +7,7 @@ pub mod Statements
 pub mod Changes
 pub mod Listed
 pub mod Placed
+pub mod Languages
 pub mod Recorded
 pub mod Answers
 pub mod HandedOut

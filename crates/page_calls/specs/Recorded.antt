@@ -4,18 +4,18 @@ use Rattle.gsi_file.specs.FileAnswers.{file_answers}
 use Rattle.gsi_word.specs.Blocks.{GsiBlock}
 use Rattle.instrument_words.specs.Instrument.{AreBlocksOf, instrument_of}
 use Rattle.instrument_words.specs.Texts.{instrument_text}
-use Rattle.report_phrases.specs.declared.language.Language.TheVariants.{English}
+use Rattle.report_phrases.specs.declared.language.Language.{Language}
 use Rattle.station_check.specs.declared.fault.Fault.{Fault}
 use Rattle.station_check.specs.declared.fault.Fault.TheVariants.{Memory}
 
--- Of a file whose lines are these blocks the text has the lines of what they recorded.
-abbrev pub IsRecorded : List ℕ → List ℕ → Type 0
-IsRecorded gsi text =
+-- Of a file whose lines are these blocks the text has the lines of what they recorded, in a language.
+abbrev pub IsRecorded : Language → List ℕ → List ℕ → Type 0
+IsRecorded language gsi text =
     (blocks : List GsiBlock)
     → AreBlocksOf (file_answers (record { bytes = gsi; fails = false })) blocks
-    → text ≡ instrument_text English (instrument_of blocks)
+    → text ≡ instrument_text language (instrument_of blocks)
 
 -- The answer is that, or that memory ran out.
-abbrev pub TellsRecorded : List ℕ → Result (List ℕ) Fault → Type 0
-TellsRecorded gsi (Ok text) = IsRecorded gsi text
-TellsRecorded gsi (Err fault) = fault ≡ Memory
+abbrev pub TellsRecorded : Language → List ℕ → Result (List ℕ) Fault → Type 0
+TellsRecorded language gsi (Ok text) = IsRecorded language gsi text
+TellsRecorded language gsi (Err fault) = fault ≡ Memory

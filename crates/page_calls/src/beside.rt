@@ -30,8 +30,8 @@ pub(crate) fn answer_beside<A: TableAnswer>(
         (Noting (A.says asked.now (of_faces faces)) (A.form_of asked.now)) (of_faces faces)
         (file_answers (source_of gsi.now)) (source_of table.now) name.now
         (A.value noted.answer, noted.note.items))
-        (HasNoAnswer (A.form_of asked.now) (of_faces faces) (file_answers (source_of gsi.now))
-        (source_of table.now) name.now) }
+        (HasNoAnswer (A.refuses asked.now (of_faces faces)) (of_faces faces)
+        (file_answers (source_of gsi.now)) (source_of table.now) name.now) }
 {
     let limits = ResultLimits::of_faces(faces);
     let (answer, _gsi) = table_answer_of(

@@ -13,6 +13,7 @@ ghost use Rattle.page_calls.specs.Answers.{IsChangeAnswer, IsDigestOf};
 ghost use Rattle.page_calls.specs.Answers.{IsExplanationOf, IsInstrumentOf, IsPlaceOf};
 ghost use Rattle.page_calls.specs.Asked.{asked_with};
 ghost use Rattle.page_calls.specs.Forms.{IsForm, stated_form};
+ghost use Rattle.page_calls.specs.Languages.{IsLanguage, stated_language};
 ghost use Rattle.page_calls.specs.HandedOut.{Leaves, LeavesInRange, Shows, ShowsInRange};
 ghost use Rattle.page_calls.specs.Limits.{AreFaceLimits, IsResidualLimit, IsWithin, stated_limit};
 ghost use Rattle.row_forms.specs.declared.form.RowForm.TheVariants.{Commas, Semicolons};
@@ -543,10 +544,12 @@ pub extern "C" fn station_page_place(
 pub extern "C" fn station_page_instrument(
     alloc: Global,
     gsi: &[u8],
+    language: u32,
     out: &mut [u8],
     written: &mut usize,
 ) -> u8
-    ensures { Shows (IsInstrumentOf gsi.now) out.old out.new written.new result }
+    ensures { ShowsInRange (IsLanguage language)
+        (IsInstrumentOf (stated_language language) gsi.now) out.old out.new written.new result }
 {
-    page_instrument(alloc, gsi, out, written)
+    page_instrument(alloc, gsi, language, out, written)
 }

@@ -3,7 +3,7 @@ use Rattle.direction_table.specs.declared.form.TableForm.{TableForm}
 use Rattle.gsi_file.specs.FileAnswers.{file_answers}
 use Rattle.station_book.specs.ResultLimits.{of_faces}
 use Rattle.station_check.specs.Came.{source_of}
-use Rattle.table_answers.specs.Refusing.{HasNoAnswer}
+use Rattle.table_answers.specs.Refusing.{HasNoAnswer, RefusesComparison}
 use Rattle.page_calls.proofs.Comparisons.{compares}
 use Rattle.page_calls.proofs.compare.page_compare.Goals as goal
 
@@ -35,7 +35,8 @@ returns-in-Ok-answer_beside-clause-line c =
 pub returns-in-Err-clause-line : goal.returns-in-Err-clause-line
 returns-in-Err-clause-line c =
     let told =
-    subst (λ (form : TableForm). HasNoAnswer form (of_faces c.in-Some.limits)
+    subst (λ (form : TableForm). HasNoAnswer
+    (RefusesComparison form (of_faces c.in-Some.limits)) (of_faces c.in-Some.limits)
     (file_answers (source_of c.args.gsi.now)) (source_of c.args.table.now) c.args.name.now
     c.in-Err.fault) c.in-Some-form_of.ensures.form c.in-Err.ensures in record {
       shows = λ range. record {
@@ -43,7 +44,7 @@ returns-in-Err-clause-line c =
         states = record { states_two_c = search rules; states_two_i = search rules };
         answer = Err c.in-Err.fault;
         tells = told;
-        compares = told _;
+        compares = compares _ _ _ _ _ _ (Err c.in-Err.fault) told;
         status = c.hand_out_comparison.result;
         hands_line_out = search rules;
         hands_note_out = search rules;

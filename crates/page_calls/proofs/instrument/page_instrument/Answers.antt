@@ -4,16 +4,19 @@ use Rattle.page_calls.proofs.instrument.page_instrument.Goals as goal
 
 pub returns-in-Ok : goal.returns-in-Ok
 returns-in-Ok c = record {
-  shows = record {
+  shows = λ range. record {
     answer = Ok c.in-Ok.text.items;
-    tells = rw c.in-Ok.is at c.lines_of.ensures;
+    tells = rw (rw c.in-Some.is at c.language_of.ensures.language) at
+        (rw c.in-Ok.is at c.lines_of.ensures);
     hands_out = search rules;
   };
+  beyond = search rules;
   leaves = search rules;
 }
 
 pub returns-in-Err : goal.returns-in-Err
 returns-in-Err c = record {
-  shows = record { answer = Err Memory; tells = refl; hands_out = search rules };
+  shows = λ range. record { answer = Err Memory; tells = refl; hands_out = search rules };
+  beyond = search rules;
   leaves = search rules;
 }

@@ -3,7 +3,7 @@ use Rattle.direction_table.specs.declared.form.TableForm.{TableForm}
 use Rattle.gsi_file.specs.FileAnswers.{file_answers}
 use Rattle.station_book.specs.ResultLimits.{of_faces}
 use Rattle.station_check.specs.Came.{source_of}
-use Rattle.table_answers.specs.Refusing.{HasNoAnswer}
+use Rattle.table_answers.specs.Refusing.{HasNoAnswer, RefusesComparison}
 use Rattle.table_answers.specs.Wholes.{whole_value}
 use Rattle.page_calls.proofs.table.page_table.Goals as goal
 
@@ -32,7 +32,8 @@ returns-in-Err-clause-parts c = record {
     limits = c.in-Some.limits;
     states = record { states_two_c = search rules; states_two_i = search rules };
     answer = Err c.in-Err.fault;
-    tells = subst (λ (form : TableForm). HasNoAnswer form (of_faces c.in-Some.limits)
+    tells = subst (λ (form : TableForm). HasNoAnswer
+        (RefusesComparison form (of_faces c.in-Some.limits)) (of_faces c.in-Some.limits)
         (file_answers (source_of c.args.gsi.now)) (source_of c.args.table.now) c.args.name.now
         c.in-Err.fault) c.in-Some-form_of.ensures.form c.in-Err.ensures;
     status = c.hand_out-in-Err.result;
@@ -41,4 +42,10 @@ returns-in-Err-clause-parts c = record {
   };
   beyond = search rules;
   leaves = search rules;
+}
+
+pub returns-in-Ok-answer_beside-clause-note : goal.returns-in-Ok-answer_beside-clause-note
+returns-in-Ok-answer_beside-clause-note c = record {
+  beyond = search rules;
+  leaves = c.hand_out.ensures.leaves;
 }
