@@ -104,9 +104,12 @@ stated in degrees is rounded to the ninth decimal of a gon. Differences are in m
 Rounded values are rounded once, from the exact fraction, and halves go up.
 
 TABLE is read as 'compare' reads it, also with --all, where each row begins with the name of its
-station. STATION is a name of the field file, byte for byte, without the zeros on its left. Write
-'--' before a name that begins with '-'. Of a file with one station it may be left out; not of a
-pipe, which can't be read twice.";
+station. It may lack targets if it has two or more: a target without a row has the least-squares
+direction alone, and takes no part in the rotation and the median.
+
+STATION is a name of the field file, byte for byte, without the zeros on its left. Write '--' before
+a name that begins with '-'. Of a file with one station it may be left out; not of a pipe, which
+can't be read twice.";
 
 pub const DIFFERENCES_EXAMPLE: &str = "\
 Exit status:
@@ -170,11 +173,12 @@ station, set and target, the readings, the two-face direction, 2c, 2i, the adjus
 residual, which is the adjusted direction less the two-face one, and the zenith angles of both faces
 and their mean. Direction and residual add up to the adjusted direction, to the last digit, but for
 a full circle. Values of a target or of the whole station are left out: 'directions' has the
-adjusted directions. With --decimal-comma too, semicolons stand between cells and commas in numbers,
-as a spreadsheet reads them that is set to German or French.
+adjusted directions. Below stand rows 'recorded' of instrument, date and time, as the field file has
+them. With --decimal-comma too, semicolons stand between cells and commas in numbers, as a
+spreadsheet reads them that is set to German or French.
 
 With --all the protocol of each station begins a page, after a form feed but for the first; with
---csv the titles stand once.
+--csv the titles and what was recorded stand once.
 
 Directions are in gon. Face differences are in mgon with 2 decimals, residuals and the standard
 deviation in mgon with 3, each rounded from the exact fraction; the middle of two goes up. A mean is
@@ -608,8 +612,8 @@ German or French: there -0.134 is read as -134. 'list' and 'report' need '--csv'
 
 pub const JSON_LONG_HELP: &str = "\
 Print each target as a JSON object on a line of its own, and no titles. It has what the
-row has, digit by digit, under the keys target, stated, least_squares, difference and
-from_median";
+row has, digit by digit, and null for an empty field, under the keys target, stated,
+least_squares, difference and from_median";
 
 pub const SHA256_LONG_HELP: &str = "\
 Print the SHA-256 digest of each file after the answer. They are those of the bytes that

@@ -1,6 +1,6 @@
 -- How a request is answered: its files are opened, and its own run is made over them.
 use Rattle.std.specs.Prelude.{◌≡◌, ◌⊎◌, ℕ, Bool, true, List, Option, Some, None, option_map, ⊤}
-use Rattle.std.specs.Prelude.{Result, Ok, Err}
+use Rattle.std.specs.Prelude.{IfSome, Result, Ok, Err}
 use Rattle.std.specs.Borrow.{Bor}
 use Rattle.book_answers.specs.Refusals.{named_refusal_text}
 use Rattle.book_answers.specs.Runs.{IsRunOfAll}
@@ -44,12 +44,12 @@ use Rattle.command_line.specs.declared.request.TableText.TheVariants as table_te
 use Rattle.direction_table.specs.declared.form.ColumnPair.{ColumnPair}
 use Rattle.direction_table.specs.declared.form.TableForm.{TableForm}
 use Rattle.direction_table.specs.declared.reading.TheConstants.{LONGEST_TABLE}
+use Rattle.instrument_reports.specs.Runs.{IsReportRowsRunOfAll, IsReportRowsRun}
 use Rattle.instrument_reports.specs.Runs.{IsReportRun, IsReportsRun, IsTableReportRun}
 use Rattle.list_rows.specs.Runs.{IsRowsRun}
 use Rattle.only_station.specs.Only.{FindsOnly}
 use Rattle.report_notes.specs.Notes.{notes_value}
 use Rattle.report_notes.specs.declared.notes.Notes.{Notes}
-use Rattle.report_rows.specs.Stating.{AreReportRows}
 use Rattle.station_answers.specs.Runs.{IsAnswerRun}
 use Rattle.station_answers.specs.Saying.{SaysDirections}
 use Rattle.station_book.specs.Limits.{FaceLimits}
@@ -87,6 +87,7 @@ use Rattle.station_report.specs.NoteTexts.{ReportHead}
 use Rattle.station_record.specs.declared.named.NamedReader.{NamedReader}
 use Rattle.table_answers.specs.Comparisons.{IsCompareRun}
 use Rattle.table_answers.specs.Printing.{PrintsText}
+use Rattle.table_answers.specs.Refusing.{RefusesDifferences}
 use Rattle.table_answers.specs.Runs.{IsTableRun}
 use Rattle.table_answers.specs.Saying.{SaysDifferences, SaysJsonLines}
 use Rattle.table_answers.specs.Telling.{RunTold}
@@ -128,7 +129,7 @@ PrintsStation files out err its (text.Report digests.Printed notes) status =
     status out err)
 PrintsStation files out err its (text.ReportRows digests.Omitted rows) status =
     IsTakenIn files its.gsi.reader (λ gsi. Run {A = ⊤} refusal_text
-    (IsAnswerRun (AreReportRows rows) its.limits gsi (name_bytes its.name)) status out err)
+    (IsReportRowsRun rows its.limits gsi (name_bytes its.name)) status out err)
 PrintsStation files out err its (text.ReportRows digests.Printed rows) status =
     IsTakenIn files its.gsi.reader (λ gsi. Run {A = ⊤} refusal_text
     (AreRecordedRows rows its.gsi.name.now its.limits gsi (name_bytes its.name)) status out err)
@@ -146,7 +147,7 @@ PrintsStations files out err all (texts.Reports notes) status =
     (IsReportsRun (head_with all.gsi.name.now notes) all.limits gsi) status out err)
 PrintsStations files out err all (texts.ReportRows rows) status =
     IsTakenIn files all.gsi.reader (λ gsi. Run {A = ⊤} named_refusal_text
-    (IsRunOfAll (AreReportRows rows) all.limits arrangement.Rows gsi) status out err)
+    (IsReportRowsRunOfAll rows all.limits gsi) status out err)
 
 -- what is asked of a report with a table: its files by the names that they have, and its notes
 abbrev pub asked_of : {F : Type 0} → TableBeside (NamedReader F) StationName TableForm → Option ℕ
@@ -172,12 +173,14 @@ PrintsBeside files out err its (table_text.Comparison within digests.Printed) st
     gsi its.station.gsi.name.now table its.file.name.now) status out err))
 PrintsBeside {F} files out err its (table_text.Differences rows) status =
     (table' : F) × IsTakenIn files its.station.gsi.reader (λ gsi. RunTold {A = ⊤}
-    (IsTableRun (SaysDifferences its.form rows) PrintsText its.form its.station.limits gsi
-    (change_of files its.file.reader table') (name_bytes its.station.name)) status out err)
+    (IsTableRun (SaysDifferences its.form rows) (RefusesDifferences its.form its.station.limits)
+    PrintsText its.form its.station.limits gsi (change_of files its.file.reader table')
+    (name_bytes its.station.name)) status out err)
 PrintsBeside {F} files out err its table_text.JsonLines status =
     (table' : F) × IsTakenIn files its.station.gsi.reader (λ gsi. RunTold {A = ⊤}
-    (IsTableRun (SaysJsonLines its.form) PrintsText its.form its.station.limits gsi
-    (change_of files its.file.reader table') (name_bytes its.station.name)) status out err)
+    (IsTableRun (SaysJsonLines its.form) (RefusesDifferences its.form its.station.limits)
+    PrintsText its.form its.station.limits gsi (change_of files its.file.reader table')
+    (name_bytes its.station.name)) status out err)
 PrintsBeside {F} files out err its (table_text.Report within digests.Omitted notes) status =
     (table' : F) × IsTakenIn files its.station.gsi.reader (λ gsi. RunTold {A = ⊤}
     (IsTableReportRun (asked_of its within notes) its.station.limits gsi
@@ -448,13 +451,14 @@ HindersTable files known may_not path stated why =
     × LacksTitles files known path targets.now directions.now why)
 
 -- What hinders a run of a table beside its station: what hinders one of the station; or one of the
--- table, and the field file was opened.
+-- table, and the field file was opened and the name of the station is known.
 abbrev pub HindersBeside : {F : Type 0} → Readers F → (List ℕ → Option Told) → (List ℕ → Bool)
     → TableBeside (Bor (List ℕ)) NameAsked FormStated → Hindrance → Type 0
-HindersBeside files known may_not asked why =
+HindersBeside {F} files known may_not asked why =
     HindersStation files known may_not asked.station.limits.faces asked.station.gsi.now
     asked.station.name why
-    ⊎ (WasOpened files known asked.station.gsi.now
+    ⊎ ((station : FieldStation (NamedReader F) StationName)
+    × IsOpenedStation files known asked.station station
     × HindersTable files known may_not asked.file.now asked.form.columns why)
 
 -- The same of all stations and one table of them.
@@ -497,21 +501,31 @@ new_path (request.Change gsi copy changes) = option_map (λ path. path.now) copy
 new_path asked = None
 
 -- A new file is to have this path, and the file of it was opened, so it is there already.
-abbrev pub IsThereAlready : {F N I : Type 0} → Known F N I → Asked → Hindrance → Type 0
-IsThereAlready host asked (hindrance.IsThere path) =
-    (new_path asked ≡ Some path.now) × WasOpened host.files host.file path.now
-IsThereAlready host asked other = ⊥
+abbrev pub IsThereAlready : {F : Type 0} → Readers F → (List ℕ → Option Told) → Asked → Hindrance
+    → Type 0
+IsThereAlready files known asked (hindrance.IsThere path) =
+    (new_path asked ≡ Some path.now) × WasOpened files known path.now
+IsThereAlready files known asked other = ⊥
 
--- What hinders a run of a request: that, or what comes before its files are open.
+-- Where a new file is to be made, the file of its path may be one that can't be opened: so none is
+-- there yet.
+abbrev pub IsNoneThere : (List ℕ → Bool) → Asked → Type 0
+IsNoneThere may_not asked = IfSome (new_path asked) (λ path. may_not path ≡ true)
+
+-- What hinders a run of a request: that the new file is there already; or, where none is, what
+-- comes before its files are open.
 abbrev pub Hinders : {F N I : Type 0} → Known F N I → Asked → Hindrance → Type 0
-Hinders host asked why = IsThereAlready host asked why
-    ⊎ HindersOpening host.files host.file host.may_not_open asked why
+Hinders host asked why = IsThereAlready host.files host.file asked why
+    ⊎ (IsNoneThere host.may_not_open asked
+    × HindersOpening host.files host.file host.may_not_open asked why)
 
--- A request was answered with this exit status: its files were opened, each the one of its path,
--- and its run was made over them, or over standard input.
+-- A request was answered with this exit status: no file was there yet of the path of a new one; its
+-- files were opened, each the one of its path, and its run was made over them, or over standard
+-- input.
 pub record IsAnswered {F N I : Type 0} (host : Known F N I)
     (faults : List (Bor (List Explanation))) (out err : WriterChange) (asked : Asked)
     (status : ℕ) : Type 0 where
+  pub none_there : IsNoneThere host.may_not_open asked
   pub opened : Request (NamedReader F) N StationName TableForm
   pub of_files : IsOpened host.files host.file host.new_files host.new_file asked opened
   pub run : IsRun host.files host.new_files host.inputs host.input faults out err opened status

@@ -1,12 +1,12 @@
 //! How a request is answered: its files are opened, and its run is made over them.
 
-ghost use Rattle.std.specs.Prelude.{◌≡◌, ◌≤◌, IfOk, IfErr, None, Ok, OnErr, option_map};
+ghost use Rattle.std.specs.Prelude.{◌≡◌, ◌≤◌, IfOk, IfErr, None, Ok, OnErr, OnOk, option_map};
 ghost use Rattle.std.specs.Prelude.{true};
 ghost use Rattle.byte_ends.specs.Writers.{writer_change};
 ghost use Rattle.command_run.specs.Answering.{Hinders, HindersBeside, HindersOpening};
 ghost use Rattle.command_run.specs.Answering.{HindersStation, HindersTable, HindersTableOfAll};
 ghost use Rattle.command_run.specs.Answering.{AreColumns, HindersTitles, IsFormOf, IsNamed};
-ghost use Rattle.command_run.specs.Answering.{LooksForTitles};
+ghost use Rattle.command_run.specs.Answering.{IsNoneThere, IsThereAlready, LooksForTitles};
 ghost use Rattle.command_run.specs.Answering.{IsAnswered, IsOpened, IsOpenedCheck, IsUnopened};
 ghost use Rattle.command_run.specs.Answering.{IsUnopenedOfTwo};
 ghost use Rattle.command_run.specs.Answering.{IsOpenedBeside, IsOpenedStation, IsOpenedStations};
@@ -32,11 +32,11 @@ use command_line::{
     Request, SheetCheck, StationText, StationsBeside, StationsText, TableBeside, TableText,
 };
 use direction_table::{ColumnPair, TableForm};
-use instrument_reports::{run_report, run_reports, run_table_report};
+use instrument_reports::{run_report, run_reports, run_rows, run_rows_of_all, run_table_report};
 use list_rows::run_list_rows;
 use only_station::only_station;
 use report_notes::Notes;
-use station_answers::{Directions, ReportRows, run_answer};
+use station_answers::{Directions, run_answer};
 use station_book::Limits;
 use station_change::run_change;
 use station_check::{run_check, run_list, run_means, run_words};
@@ -82,13 +82,24 @@ pub(crate) fn answer<'a, H: Host, W: Sink, E: Sink>(
         (readers H.Input.told H.Input.failed H.Input.gave) input) request.entry) }
     ensures unchanged { OnErr result ((out.new ≡ out.old) × (err.new ≡ err.old)) }
 {
-    if let Some(path) = new_path(&request) {
-        if let Ok(_there) = open(host, path) {
-            return Err(Hindrance::IsThere(path));
-        }
-    }
+    find_none_there(host, &request)?;
     let opened = open_files(alloc, host, request)?;
     Ok(run_request(alloc, input, faults, opened, out, err))
+}
+
+/// That no file is there of the path that a new one is to have.
+fn find_none_there<'a, H: Host>(host: &H, request: &Asked<'a>) -> Result<(), Hindrance<'a>>
+    ensures none { OnOk result (IsNoneThere (H.may_not_open host.now) request.now) }
+    ensures there { IfErr result (IsThereAlready
+        (readers H.File.told H.File.failed H.File.gave) (H.known_file host.now) request.now) }
+{
+    match new_path(request) {
+        None => Ok(()),
+        Some(path) => match open(host, path) {
+            Ok(_there) => Err(Hindrance::IsThere(path)),
+            Err(_) => Ok(()),
+        },
+    }
 }
 
 /// The path of the new file that a request asks for.
@@ -619,10 +630,7 @@ fn print_station<F: Source, W: Sink, E: Sink>(
             }
         }
         StationText::ReportRows { digests, form } => match digests {
-            Digests::Omitted => {
-                let asked = ReportRows { form };
-                run_answer(alloc, gsi.reader, name, limits, &asked, out, err)
-            }
+            Digests::Omitted => run_rows(alloc, gsi.reader, name, limits, form, out, err),
             Digests::Printed => run_rows_recorded(alloc, gsi, name, limits, form, out, err),
         },
     }
@@ -653,9 +661,7 @@ fn print_stations<F: Source, W: Sink, E: Sink>(
             run_reports(alloc, gsi.reader, limits, head, out, err)
         }
         StationsText::ReportRows { form } => {
-            let asked = ReportRows { form };
-            let arrangement = Arrangement::Rows;
-            run_answer_of_all(alloc, gsi.reader, limits, &asked, arrangement, out, err)
+            run_rows_of_all(alloc, gsi.reader, limits, form, out, err)
         }
     }
 }

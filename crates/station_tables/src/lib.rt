@@ -6,6 +6,7 @@
 //! first that is of no station, `part_of` a part, and `line_of_row` the line of a row of it.
 #![tactic(auto)]
 
+pub mod laws;
 mod line;
 mod part;
 mod said;
