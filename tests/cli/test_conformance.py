@@ -152,7 +152,7 @@ def answer_of_all(asked, data, limits, fails, held, formed, notes):
     if asked.command == "directions":
         joined, one = model.named_directions, partial(model.directions, decimals=asked.decimals)
     elif asked.csv:
-        joined, one = model.titled_once, partial(model.reported_rows, **formed)
+        joined, one = model.titled_once, partial(model.observed_rows, **formed)
     else:
         path = asked.operands[0].encode()
         joined, one = model.paged, partial(model.reported, path=path, notes=notes)
@@ -160,7 +160,8 @@ def answer_of_all(asked, data, limits, fails, held, formed, notes):
     def of_name(name):
         return one(data, name=name, limits=limits, **held)
 
-    return model.in_pages(model.of_all(data, limits, fails, of_name, joined), notes)
+    found = model.of_all(data, limits, fails, of_name, joined)
+    return model.with_recorded_rows(found, data, **formed) if asked.csv else model.in_pages(found, notes)
 
 
 def answer_of_table(asked, files, limits, fails, held, formed):

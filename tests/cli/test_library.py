@@ -130,6 +130,7 @@ GIVEN: dict[str, list[bytes | str]] = {
     "mark": [JOB.read_bytes()],
     "mark_rows": [JOB.read_bytes()],
     "comma_rows": [GSI.read_bytes(), "P7"],
+    "instrument": [GSI.read_bytes()],
 }
 
 # The call that takes each number that has a range, and how it is given to it.
@@ -144,6 +145,37 @@ RANGED: dict[str, tuple[str, Callable[[int], Any]]] = {
     "targets": ("mark", lambda number: {"P7": number}),
 }
 
+# A field file that recorded instrument and time, and the lines of these that a report has, by the
+# language: of an instrument the first content, of date and time the first and the last.
+RECORDED = (
+    b"*110001+00000000000000P1 12....+0000000000345678 13....+0000000TS16    1 18....+0000000000002630\n"
+    b"110002+000000P2 12....+00345678 17....+27112026 19....+11270915\n"
+    b"110003+000000P3 12....+00345678 17....+27112026 19....+11270929\n"
+)
+TOLD = {
+    "en": [
+        "  12 serial number    0000000000345678 and others",
+        "  13 instrument type  0000000TS16    1",
+        "  17 date             27112026",
+        "  18 time format 1    0000000000002630",
+        "  19 time format 2    11270915 to 11270929",
+    ],
+    "de": [
+        "  12 Seriennummer     0000000000345678 und andere",
+        "  13 Instrumententyp  0000000TS16    1",
+        "  17 Datum            27112026",
+        "  18 Zeitformat 1     0000000000002630",
+        "  19 Zeitformat 2     11270915 bis 11270929",
+    ],
+    "fr": [
+        "  12 n\u00b0 de s\u00e9rie      0000000000345678 et d'autres",
+        "  13 type instrument  0000000TS16    1",
+        "  17 date             27112026",
+        "  18 format d'heure 1 0000000000002630",
+        "  19 format d'heure 2 11270915 \u00e0 11270929",
+    ],
+}
+
 # Mistakes of a caller, and what he is told.
 MISTAKES: list[tuple[str, dict[str, Any], type[Exception], str]] = [
     ("check", {"residual": 2001}, ValueError, "residual is 2001: state 0 to 2000, in units of 0.005 mgon"),
@@ -151,6 +183,7 @@ MISTAKES: list[tuple[str, dict[str, Any], type[Exception], str]] = [
     ("directions", {"decimals": 4.0}, TypeError, "decimals is 4.0: state a whole number"),
     ("compare", {"within": True}, TypeError, "within is True: state a whole number"),
     ("compare", {"unit": "deg"}, ValueError, "unit is 'deg': state one of gon, degrees, dmmss"),
+    ("instrument", {"language": "it"}, ValueError, "language is 'it': state one of en, de, fr"),
     ("compare", {"columns": (0, 2)}, ValueError, "columns is 0: state 1 to 999999"),
     (
         "differences",
@@ -266,7 +299,7 @@ int main(int count, char **words) {
         station_check_digest(gsi, n, "gsi", 3, out, sizeof out, &length);
         station_check_explain("TwoC", 4, out, sizeof out, &length);
         station_check_place("refused: kernel: TargetRow 1", 28, gsi, n, sheet, m, out, sizeof out, &length);
-        station_check_instrument(gsi, n, out, sizeof out, &length);
+        station_check_instrument(gsi, n, STATION_CHECK_FRENCH, out, sizeof out, &length);
     }
     printf("%d %zu %d\n", count, mallinfo2().uordblks - taken, noted > 0);
     return 0;
@@ -526,6 +559,14 @@ class LibraryTest(ProgramTest):
         line = said.decode().splitlines()[-1]
         self.assertRegex(line, "^OSError: .*: install the library, or name one by STATION_CHECK_LIBRARY$")
 
+    def test_what_a_field_file_recorded_is_told_in_each_language(self) -> None:
+        for language, lines in TOLD.items():
+            with self.subTest(language):
+                told = self.module.instrument(RECORDED, language)
+                self.assertEqual("".join(f"{line}\n" for line in lines), told)
+        self.assertEqual(self.module.instrument(RECORDED, "en"), self.module.instrument(RECORDED))
+        self.assertEqual("", self.module.instrument(GSI.read_bytes()))
+
     def test_a_refusal_has_its_explanation(self) -> None:
         with self.assertRaises(self.module.Refused) as apart:
             self.module.compare(*GIVEN["compare"], within=0)
@@ -536,7 +577,7 @@ class LibraryTest(ProgramTest):
         # (the place of the third row, by hand)
         sheet = b"sheet,1,P7,2\ntarget,,A,0\nobs,1,A,0,0\n"
         place = self.module.place("refused: kernel: ObsRow 1", GIVEN["compare"][0], sheet)
-        self.assertEqual(("observation", 1, 3, 25, 36), place)
+        self.assertEqual(("observation", 1, 3, 25, 36, 25, 36), place)
         self.assertIsNone(self.module.place(apart.exception.line, GIVEN["compare"][0]))
         copy = pickle.loads(pickle.dumps(apart.exception))
         self.assertEqual((apart.exception.line, "", ""), (copy.line, copy.text, copy.note))
@@ -558,7 +599,8 @@ class LibraryTest(ProgramTest):
                 continue
             met += 1
             reported = list(csv.reader(said.decode().splitlines()))[1:]
-            readings = self.module.reading_rows(said.decode())
+            recorded = f"recorded,12,00345678{',' * 10}\n"
+            readings = self.module.reading_rows(said.decode() + recorded)
             self.assertEqual(reported, [[str(cell) for cell in row] for row in readings])
             residuals = self.module.residual_rows(self.module.residuals(gsi, station))
             found = [[str(cell) for cell in row] for row in residuals]
@@ -572,6 +614,15 @@ class LibraryTest(ProgramTest):
             self.assertEqual(directions, {row.target: row.stated for row in rows})
             self.assertTrue(all(isinstance(cell, Decimal) for row in rows for cell in row[1:]))
         self.assertGreater(met, 10)
+
+    def test_a_target_that_a_table_lacks_has_its_least_squares_direction_alone(self) -> None:
+        gsi = GSI.read_bytes()
+        directions = self.module.directions(gsi, "P7")
+        [(lacking, least), *stated] = self.module.direction_rows(directions).items()
+        table = "".join(f"{target},{gon}\n" for target, gon in stated).encode()
+        rows = self.module.difference_rows(self.module.differences(gsi, "P7", table))
+        self.assertEqual((lacking, None, least, None, None), rows[0])
+        self.assertEqual(stated, [(row.target, row.stated) for row in rows[1:]])
 
     def test_an_agreement_is_the_numbers_of_its_line(self) -> None:
         """With a name that looks like a part of the line too."""

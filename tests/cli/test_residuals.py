@@ -56,6 +56,12 @@ class ResidualsTest(ProgramTest):
                 self.assertEqual((0, shown.decode()), (status, printed_in(page)))
                 self.assertIn(f"<title>{html.escape(name)}</title>", page)
 
+    def test_rows_of_the_field_file_are_passed_over(self):
+        further = [f"recorded,12,{content}{',' * 10}\n" for content in ["00345678", "00345678"]]
+        further.append(f"file,field.gsi,{'0' * 64}{',' * 10}\n")
+        self.assertEqual(drawn(REPORT_ROWS), drawn(REPORT_ROWS + "".join(further).encode()))
+        self.assertEqual((1, "", NOT_THESE), drawn(REPORT_ROWS + b"recorded,12,00345678\n"))
+
     def test_rows_may_end_in_cr_lf(self):
         self.assertEqual(drawn(REPORT_ROWS), drawn(REPORT_ROWS.replace(b"\n", b"\r\n")))
 

@@ -51,18 +51,45 @@ FROM_THE_MEDIAN = b"""\
   P12                     345.209190        -0.500              0.000
 """
 
-# Words of the first block of a field file and of its last, and the lines of a report that tell them.
+# Words of the first block of a field file and of its last; the lines of a report that tell them, and
+# what its rows have of them.
 RECORDED = [
-    (b"", b"", b""),
-    (b"14....+00345678 16....+00000001", b"20....+00000012", b""),
-    (b"12....+00345678", b"", b"  12 serial number    00345678\n"),
-    (b"", b"12....+00345678", b"  12 serial number    00345678\n"),
-    (b"12....-00345678", b"12..9.+00345678", b"  12 serial number    00345678\n"),
-    (b"12....+00345678", b"12....+00345679", b"  12 serial number    00345678 and others\n"),
-    (b"13..1.+0000TS16 13..1.+0000TS15", b"13..1.+0000TS16", b"  13 instrument type  0000TS16 and others\n"),
-    (b"17....+27112026", b"17....+28112026", b"  17 date             27112026 to 28112026\n"),
-    (b"18....+00002630 18....+00003121", b"18....+00002630", b"  18 time format 1    00002630\n"),
-    (b"19....+11270915 19....+11270917", b"", b"  19 time format 2    11270915 to 11270917\n"),
+    (b"", b"", b"", []),
+    (b"14....+00345678 16....+00000001", b"20....+00000012", b"", []),
+    (b"12....+00345678", b"", b"  12 serial number    00345678\n", [b"12,00345678"]),
+    (b"", b"12....+00345678", b"  12 serial number    00345678\n", [b"12,00345678"]),
+    (b"12....-00345678", b"12..9.+00345678", b"  12 serial number    00345678\n", [b"12,00345678"]),
+    (
+        b"12....+00345678",
+        b"12....+00345679",
+        b"  12 serial number    00345678 and others\n",
+        [b"12,00345678", b"12,00345679"],
+    ),
+    (
+        b"13..1.+0000TS16 13..1.+0000TS15",
+        b"13..1.+0000TS16",
+        b"  13 instrument type  0000TS16 and others\n",
+        [b"13,0000TS16", b"13,0000TS16"],
+    ),
+    (b"13..1.+TS16,1\" ", b"", b"  13 instrument type  TS16,1\" \n", [b'13,"TS16,1"" "']),
+    (
+        b"17....+27112026",
+        b"17....+28112026",
+        b"  17 date             27112026 to 28112026\n",
+        [b"17,27112026", b"17,28112026"],
+    ),
+    (
+        b"18....+00002630 18....+00003121",
+        b"18....+00002630",
+        b"  18 time format 1    00002630\n",
+        [b"18,00002630", b"18,00002630"],
+    ),
+    (
+        b"19....+11270915 19....+11270917",
+        b"",
+        b"  19 time format 2    11270915 to 11270917\n",
+        [b"19,11270915", b"19,11270917"],
+    ),
     (
         b"19....+11270915 18....+00002630 17....+27112026",
         b"13....+      12 12....+00345678",
@@ -71,6 +98,7 @@ RECORDED = [
         b"  17 date             27112026\n"
         b"  18 time format 1    00002630\n"
         b"  19 time format 2    11270915\n",
+        [b"12,00345678", b"13,      12", b"17,27112026", b"18,00002630", b"19,11270915"],
     ),
 ]
 
@@ -161,14 +189,24 @@ class ReportTest(ProgramTest):
         table.write_bytes(TABLE_15)
         for options in [], ["--signature"], [f"--table={table}"]:
             plain = self.report_of(STATION, *options).splitlines(keepends=True)
-            for first, last, recorded in RECORDED:
+            for first, last, recorded, _ in RECORDED:
                 gsi = with_words(STATION, first, last)
                 with self.subTest(first=first, last=last, options=options):
                     expected = b"".join([*plain[:3], recorded, *plain[3:]])
                     self.assertEqual(expected, self.report_of(gsi, *options))
                     digests = self.report_of(gsi, *options, "--sha256")
                     self.assertTrue(digests.startswith(expected + b"\nSHA-256 digests"))
-                    self.assertEqual(self.report_of(STATION, "--csv"), self.report_of(gsi, "--csv"))
+
+    def test_what_the_file_recorded_stands_below_the_rows(self):
+        """Above the digest, and in both forms of rows."""
+        for first, last, _, recorded in RECORDED:
+            gsi = with_words(STATION, first, last)
+            expected = REPORT_ROWS + b"".join(b"recorded,%s%s\n" % (row, b"," * 10) for row in recorded)
+            with self.subTest(first=first, last=last):
+                self.assertEqual(expected, self.report_of(gsi, "--csv"))
+                self.assertTrue(self.report_of(gsi, "--csv", "--sha256").startswith(expected + b"file,"))
+                rows = model.reported_rows(gsi, b"S1", decimal_comma=True)[1]
+                self.assertEqual(rows, self.report_of(gsi, "--csv", "--decimal-comma"))
 
     def test_a_label_of_the_head_is_no_note(self):
         """Nor is one with blanks that would make its line that of the label; but a label of another
@@ -437,7 +475,7 @@ class GeneratedTest(AgainstModel):
         for place in range(STATIONS):
             random = Random(f"{SEED} words {place}")
             file = with_random_words(random, station_to_adjust(random))
-            self.compare([Case(f"{place}", "report", file)])
+            self.compare([Case(f"{place}", command, file) for command in ["report", "report --csv"]])
 
     def test_zenith_angles_beside_the_model(self):
         """Of targets in one set and in up to forty, near each other and as far apart as they may be."""
