@@ -10,6 +10,9 @@ use station_book::{ResultLimits, Surveyed};
 use station_compare::CompareFault;
 use std::alloc::Global;
 
+/// A text of a station, or why it has none.
+pub type StationText = Result<Vec<u8>, CompareFault>;
+
 /// A text that is answered of one station of a field file, as it is asked for. A station has it
 /// exactly where its adjustment is found.
 pub trait StationAnswer: Drop {
@@ -21,12 +24,7 @@ pub trait StationAnswer: Drop {
     /// # Errors
     ///
     /// Those of the adjustment; `Memory`.
-    fn text_of(
-        &self,
-        alloc: Global,
-        limits: ResultLimits,
-        surveyed: &Surveyed,
-    ) -> Result<Vec<u8>, CompareFault>
+    fn text_of(&self, alloc: Global, limits: ResultLimits, surveyed: &Surveyed) -> StationText
         ensures text { MatchResult result (λ text. says self.now limits surveyed.now text.items)
             (HasNoText surveyed.now.station limits.residual) }
         ensures held { OnOk result (HasResidualsWithin surveyed.now.station limits.residual) };

@@ -10,14 +10,13 @@ ghost use Rattle.station_answers.specs.Directions.{IsDirectionsText, numbers_of}
 ghost use Rattle.station_answers.specs.OneTexts.{one_directions};
 ghost use Rattle.station_answers.specs.Saying.{SaysDirections};
 
-use crate::answer::StationAnswer;
+use crate::answer::{StationAnswer, StationText};
 use adjust_kernel::{Name, ResidualLimit, Station};
 use direction_table::{Decimals, TargetDirection, table_text};
 use exact_adjustment::{Adjustment, adjust};
 use least_directions::rounded_by;
 use row_forms::RowForm;
 use station_book::{ResultLimits, Surveyed};
-use station_compare::CompareFault;
 use std::alloc::{AllocError, Global};
 
 /// The table of the least-squares directions of a station: a row for each target in their order,
@@ -36,12 +35,7 @@ pub struct Directions {
 impl StationAnswer for Directions {
     ghost says = { λ asked _. SaysDirections asked.form asked.decimals };
 
-    fn text_of(
-        &self,
-        alloc: Global,
-        limits: ResultLimits,
-        surveyed: &Surveyed,
-    ) -> Result<Vec<u8>, CompareFault> {
+    fn text_of(&self, alloc: Global, limits: ResultLimits, surveyed: &Surveyed) -> StationText {
         text_of_station(alloc, surveyed.station(), limits.residual, *self)
     }
 
@@ -56,7 +50,7 @@ fn text_of_station(
     station: &Station,
     residual: ResidualLimit,
     asked: Directions,
-) -> Result<Vec<u8>, CompareFault>
+) -> StationText
     ensures text { MatchResult result
         (λ text. IsDirectionsText asked.form station.now asked.decimals text.items)
         (HasNoText station.now residual) }

@@ -18,7 +18,7 @@ mod residuals;
 mod rows;
 mod whole;
 
-pub use answer::StationAnswer;
+pub use answer::{StationAnswer, StationText};
 pub use answering::{answer_of, run_answer, write_answer};
 pub use directions::Directions;
 pub use parts::push_part;

@@ -3,9 +3,8 @@ ghost use Rattle.station_answers.specs.OneTexts.{one_report};
 ghost use Rattle.station_answers.specs.Saying.{SaysReport};
 ghost use Rattle.station_report.specs.NoteTexts.{head_of};
 
-use crate::answer::StationAnswer;
+use crate::answer::{StationAnswer, StationText};
 use station_book::{ResultLimits, Surveyed};
-use station_compare::CompareFault;
 use station_report::{Head, computed_of, text_by};
 use std::alloc::Global;
 
@@ -23,12 +22,7 @@ pub struct Report<'a, 'n> {
 impl<'a, 'n> StationAnswer for Report<'a, 'n> {
     ghost says = { λ report. SaysReport (head_of report.head) };
 
-    fn text_of(
-        &self,
-        alloc: Global,
-        limits: ResultLimits,
-        surveyed: &Surveyed,
-    ) -> Result<Vec<u8>, CompareFault> {
+    fn text_of(&self, alloc: Global, limits: ResultLimits, surveyed: &Surveyed) -> StationText {
         let computed = computed_of(alloc, surveyed.station(), limits.residual)?;
         Ok(text_by(alloc, self.head, limits, surveyed, &computed, &[])?)
     }

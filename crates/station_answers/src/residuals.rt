@@ -2,9 +2,8 @@
 ghost use Rattle.station_answers.specs.OneTexts.{one_residuals};
 ghost use Rattle.station_answers.specs.Saying.{SaysResiduals};
 
-use crate::answer::StationAnswer;
+use crate::answer::{StationAnswer, StationText};
 use station_book::{ResultLimits, Surveyed};
-use station_compare::CompareFault;
 use station_residuals::text_of;
 use station_results::adjusted_observations;
 use std::alloc::Global;
@@ -20,12 +19,7 @@ pub struct Residuals;
 impl StationAnswer for Residuals {
     ghost says = { λ _ _. SaysResiduals };
 
-    fn text_of(
-        &self,
-        alloc: Global,
-        limits: ResultLimits,
-        surveyed: &Surveyed,
-    ) -> Result<Vec<u8>, CompareFault> {
+    fn text_of(&self, alloc: Global, limits: ResultLimits, surveyed: &Surveyed) -> StationText {
         let rows = adjusted_observations(alloc, surveyed.station(), limits.residual)?;
         Ok(text_of(alloc, &rows)?)
     }

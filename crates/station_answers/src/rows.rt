@@ -2,11 +2,10 @@
 ghost use Rattle.report_rows.specs.Stating.{AreReportRows};
 ghost use Rattle.station_answers.specs.OneTexts.{one_rows};
 
-use crate::answer::StationAnswer;
+use crate::answer::{StationAnswer, StationText};
 use report_rows::text_of;
 use row_forms::RowForm;
 use station_book::{ResultLimits, Surveyed};
-use station_compare::CompareFault;
 use station_results::adjusted_observations;
 use std::alloc::Global;
 
@@ -25,12 +24,7 @@ pub struct ReportRows {
 impl StationAnswer for ReportRows {
     ghost says = { λ asked _. AreReportRows asked.form };
 
-    fn text_of(
-        &self,
-        alloc: Global,
-        limits: ResultLimits,
-        surveyed: &Surveyed,
-    ) -> Result<Vec<u8>, CompareFault> {
+    fn text_of(&self, alloc: Global, limits: ResultLimits, surveyed: &Surveyed) -> StationText {
         let rows = adjusted_observations(alloc, surveyed.station(), limits.residual)?;
         Ok(text_of(alloc, surveyed, &rows, self.form)?)
     }

@@ -8,7 +8,7 @@ ghost use Rattle.station_answers.specs.Parts.{whole_text};
 ghost use Rattle.station_answers.specs.Saying.{SaysWhole};
 
 use crate::accuracy::accuracy_by;
-use crate::answer::StationAnswer;
+use crate::answer::{StationAnswer, StationText};
 use crate::directions::{Directions, directions_by};
 use crate::parts::push_part;
 use direction_table::Decimals;
@@ -16,7 +16,6 @@ use exact_adjustment::{Adjustment, adjust};
 use report_rows::text_of as rows_by;
 use row_forms::RowForm;
 use station_book::{ResultLimits, Surveyed};
-use station_compare::CompareFault;
 use station_report::{Head, computed_by, text_by as report_by};
 use std::alloc::{AllocError, Global};
 
@@ -36,12 +35,7 @@ pub struct Whole<'a> {
 impl<'a> StationAnswer for Whole<'a> {
     ghost says = { λ whole. SaysWhole whole.decimals whole.path.now };
 
-    fn text_of(
-        &self,
-        alloc: Global,
-        limits: ResultLimits,
-        surveyed: &Surveyed,
-    ) -> Result<Vec<u8>, CompareFault> {
+    fn text_of(&self, alloc: Global, limits: ResultLimits, surveyed: &Surveyed) -> StationText {
         let adjustment = adjust(alloc, surveyed.station(), limits.residual)?;
         Ok(text_by(alloc, self, limits, surveyed, &adjustment)?)
     }
