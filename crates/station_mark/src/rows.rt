@@ -2,7 +2,7 @@
 //!
 //! Each row goes through `csv`'s writer, which puts quotes where a name asks for them.
 
-ghost use Rattle.std.specs.Prelude.{◌≡◌, ◌++◌, ◌∷◌, [], IfOk, OnOk, option_map};
+ghost use Rattle.std.specs.Prelude.{◌≡◌, ◌++◌, ◌∷◌, [], IfOk, OnOk};
 ghost use Rattle.csv.specs.Writing.{row_text};
 ghost use Rattle.row_forms.specs.Forms.{writer_of};
 ghost use Rattle.row_forms.specs.Writing.{Writes};
@@ -16,11 +16,10 @@ ghost use Rattle.station_mark.specs.ToldRows.{told_row, zenith_row, zenith_rows}
 ghost use Rattle.station_mark.specs.ToldRows as spec;
 
 use crate::notes::{has_readings, is_named_again, whole_mgon};
-use adjust_kernel::Name;
 use csv::Writer;
 use itoa::Buffer;
 use row_forms::{RowForm, rows_in, write_row};
-use set_marks::{Flaw, Names, Recognized, Remarks, SetPair, ZenithRange};
+use set_marks::{Names, Recognized, Remarks, SetPair, ZenithRange};
 use std::alloc::{AllocError, Global};
 use std::io::Write;
 
@@ -57,64 +56,14 @@ fn add_next(
         ≡ text.old.items ++ next_rows names.old station.now later.now) }
     ensures names { OnOk result (names.new ≡ names_after names.old station.now) }
 {
+    let told = Told { alloc, station };
     if has_readings(station) {
         let again = names.add(&station.name)?;
-        add_station(alloc, text, again, station)?;
+        told.add_all(text, again)?;
     } else if !is_named_again(&station.name, later) {
-        add_station(alloc, text, false, station)?;
+        told.add_all(text, false)?;
     }
     Ok(())
-}
-
-/// Adds the rows of a station.
-fn add_station(
-    alloc: Global,
-    text: &mut Vec<u8>,
-    again: bool,
-    station: &Recognized,
-) -> Result<(), AllocError>
-    ensures { OnOk result
-        (text.new.items ≡ text.old.items ++ station_rows again station.now) }
-{
-    add_begun(alloc, text, again, station)?;
-    add_sets(alloc, text, station)?;
-    add_outside(alloc, text, station)?;
-    add_remarks(alloc, text, &station.name, station.remarks.as_ref())?;
-    Ok(())
-}
-
-/// Adds how a station begins, and its fault.
-fn add_begun(
-    alloc: Global,
-    text: &mut Vec<u8>,
-    again: bool,
-    station: &Recognized,
-) -> Result<(), AllocError>
-    ensures { OnOk result (text.new.items ≡ text.old.items ++ begun_rows again station.now) }
-{
-    add_set_up(alloc, text, again, station)?;
-    add_fault(alloc, text, &station.name, station.fault)?;
-    Ok(())
-}
-
-/// Adds how often a set-up line was written again, and whether the station is set up again.
-fn add_set_up(
-    alloc: Global,
-    text: &mut Vec<u8>,
-    again: bool,
-    station: &Recognized,
-) -> Result<(), AllocError>
-    ensures { OnOk result (text.new.items ≡ text.old.items ++ set_up_row again station.now) }
-{
-    let again = one_if(again);
-    add_numbers(
-        alloc,
-        text,
-        &station.name,
-        b"set-up",
-        station.written_again,
-        again,
-    )
 }
 
 /// 1 where it is so, and else 0.
@@ -124,230 +73,189 @@ fn one_if(is_so: bool) -> usize
     if is_so { 1 } else { 0 }
 }
 
-/// Adds a station's fault, where it has one.
-fn add_fault(
+/// A station of which rows are added to a text.
+#[derive(Clone, Copy, Drop)]
+struct Told<'a> {
     alloc: Global,
-    text: &mut Vec<u8>,
-    station: &Name,
-    fault: Option<Flaw>,
-) -> Result<(), AllocError>
-    ensures { OnOk result (text.new.items ≡ text.old.items ++ fault_rows station.now fault) }
-{
-    if let Some(flaw) = fault {
-        let name = flaw.kind.name().as_bytes();
-        add_row(
-            alloc,
-            text,
-            station,
-            b"fault",
-            flaw.block as usize,
-            0,
-            name,
-            b"",
-        )?;
+    station: &'a Recognized,
+}
+
+impl<'a> Told<'a> {
+    /// Adds all its rows; it may be set up again.
+    fn add_all(&self, text: &mut Vec<u8>, again: bool) -> Result<(), AllocError>
+        ensures { OnOk result
+            (text.new.items ≡ text.old.items ++ station_rows again self.now.station.now) }
+    {
+        self.add_begun(text, again)?;
+        self.add_sets(text)?;
+        self.add_outside(text)?;
+        self.add_remarks(text)?;
+        Ok(())
     }
-    Ok(())
-}
 
-/// Adds how many sets a station has, and how many targets they have.
-fn add_sets(alloc: Global, text: &mut Vec<u8>, station: &Recognized) -> Result<(), AllocError>
-    ensures { OnOk result (text.new.items ≡ text.old.items ++ sets_row station.now) }
-{
-    add_numbers(
-        alloc,
-        text,
-        &station.name,
-        b"sets",
-        station.sets,
-        station.targets,
-    )
-}
-
-/// Adds how many readings stand before the sets and after them.
-fn add_outside(alloc: Global, text: &mut Vec<u8>, station: &Recognized) -> Result<(), AllocError>
-    ensures { OnOk result (text.new.items ≡ text.old.items ++ outside_row station.now) }
-{
-    add_numbers(
-        alloc,
-        text,
-        &station.name,
-        b"outside",
-        station.before,
-        station.after,
-    )
-}
-
-/// Adds what is told of a station's sets beyond their numbers.
-fn add_remarks(
-    alloc: Global,
-    text: &mut Vec<u8>,
-    station: &Name,
-    remarks: Option<&Remarks>,
-) -> Result<(), AllocError>
-    ensures { OnOk result (text.new.items ≡ text.old.items
-        ++ remarks_rows station.now (option_map (λ m. m.now) remarks.entry)) }
-{
-    if let Some(remarks) = remarks {
-        add_counted(alloc, text, station, remarks)?;
-        add_pairs(alloc, text, station, remarks.equal_sets.pairs())?;
-        add_zeniths(alloc, text, station, remarks.zeniths.ranges())?;
+    /// Adds how it begins, and its fault.
+    fn add_begun(&self, text: &mut Vec<u8>, again: bool) -> Result<(), AllocError>
+        ensures { OnOk result
+            (text.new.items ≡ text.old.items ++ begun_rows again self.now.station.now) }
+    {
+        self.add_set_up(text, again)?;
+        self.add_fault(text)?;
+        Ok(())
     }
-    Ok(())
-}
 
-/// Adds what is told of sets by numbers, and their ends.
-fn add_counted(
-    alloc: Global,
-    text: &mut Vec<u8>,
-    station: &Name,
-    remarks: &Remarks,
-) -> Result<(), AllocError>
-    ensures { OnOk result
-        (text.new.items ≡ text.old.items ++ counted_rows station.now remarks.now) }
-{
-    add_ends(alloc, text, station, remarks)?;
-    add_missing(alloc, text, station, remarks)?;
-    add_after(alloc, text, station, remarks)?;
-    Ok(())
-}
-
-/// Adds the target that opens the sets, and the one at which the first set turns.
-fn add_ends(
-    alloc: Global,
-    text: &mut Vec<u8>,
-    station: &Name,
-    remarks: &Remarks,
-) -> Result<(), AllocError>
-    ensures { OnOk result (text.new.items ≡ text.old.items ++ ends_row station.now remarks.now) }
-{
-    let (opening, turning) = (remarks.opening.bytes(), remarks.turning.bytes());
-    add_row(alloc, text, station, b"ends", 0, 0, opening, turning)
-}
-
-/// Adds how many directions are missing, of how many.
-fn add_missing(
-    alloc: Global,
-    text: &mut Vec<u8>,
-    station: &Name,
-    remarks: &Remarks,
-) -> Result<(), AllocError>
-    ensures { OnOk result
-        (text.new.items ≡ text.old.items ++ missing_row station.now remarks.now) }
-{
-    add_numbers(
-        alloc,
-        text,
-        station,
-        b"missing",
-        remarks.missing,
-        remarks.directions,
-    )
-}
-
-/// Adds what stands after the sets.
-fn add_after(
-    alloc: Global,
-    text: &mut Vec<u8>,
-    station: &Name,
-    remarks: &Remarks,
-) -> Result<(), AllocError>
-    ensures { OnOk result (text.new.items ≡ text.old.items ++ after_row station.now remarks.now) }
-{
-    let again = one_if(remarks.opened_again);
-    add_numbers(alloc, text, station, b"after", remarks.others, again)
-}
-
-/// Adds the sets that are equal.
-fn add_pairs(
-    alloc: Global,
-    text: &mut Vec<u8>,
-    station: &Name,
-    pairs: &[SetPair],
-) -> Result<(), AllocError>
-    ensures { OnOk result (text.new.items ≡ text.old.items ++ pair_rows station.now pairs.now) }
-{
-    let mut left = pairs;
-    'pairs: while let Some((pair, rest)) = left.split_first() {
-        add_numbers(alloc, text, station, b"equal", pair.earlier, pair.later)?;
-        left = rest;
+    /// Adds how often its set-up line was written again, and whether it is set up again.
+    fn add_set_up(&self, text: &mut Vec<u8>, again: bool) -> Result<(), AllocError>
+        ensures { OnOk result
+            (text.new.items ≡ text.old.items ++ set_up_row again self.now.station.now) }
+    {
+        let written_again = self.station.written_again;
+        self.add_numbers(text, b"set-up", written_again, one_if(again))
     }
-    Ok(())
-}
 
-/// Adds the targets whose zenith angles differ.
-fn add_zeniths(
-    alloc: Global,
-    text: &mut Vec<u8>,
-    station: &Name,
-    ranges: &[ZenithRange],
-) -> Result<(), AllocError>
-    ensures { OnOk result
-        (text.new.items ≡ text.old.items ++ zenith_rows station.now ranges.now) }
-{
-    let mut left = ranges;
-    'targets: while let Some((range, rest)) = left.split_first() {
-        add_zenith(alloc, text, station, range)?;
-        left = rest;
+    /// Adds its fault, where it has one.
+    fn add_fault(&self, text: &mut Vec<u8>) -> Result<(), AllocError>
+        ensures { OnOk result (text.new.items ≡ text.old.items
+            ++ fault_rows self.now.station.now.name self.now.station.now.fault) }
+    {
+        if let Some(flaw) = self.station.fault {
+            let name = flaw.kind.name().as_bytes();
+            self.add_row(text, b"fault", flaw.block as usize, 0, name, b"")?;
+        }
+        Ok(())
     }
-    Ok(())
-}
 
-/// Adds by how many mgon the zenith angles of a target differ.
-fn add_zenith(
-    alloc: Global,
-    text: &mut Vec<u8>,
-    station: &Name,
-    range: &ZenithRange,
-) -> Result<(), AllocError>
-    ensures { OnOk result (text.new.items ≡ text.old.items ++ zenith_row station.now range.now) }
-{
-    let mgon = whole_mgon(range.spread());
-    add_row(
-        alloc,
-        text,
-        station,
-        b"zeniths",
-        mgon,
-        0,
-        range.target.bytes(),
-        b"",
-    )
-}
+    /// Adds how many sets it has, and how many targets they have.
+    fn add_sets(&self, text: &mut Vec<u8>) -> Result<(), AllocError>
+        ensures { OnOk result (text.new.items ≡ text.old.items ++ sets_row self.now.station.now) }
+    {
+        self.add_numbers(text, b"sets", self.station.sets, self.station.targets)
+    }
 
-/// Adds a row of numbers alone.
-fn add_numbers(
-    alloc: Global,
-    text: &mut Vec<u8>,
-    station: &Name,
-    told: &[u8],
-    first: usize,
-    second: usize,
-) -> Result<(), AllocError>
-    ensures { OnOk result (text.new.items
-        ≡ text.old.items ++ numbers_row station.now told.now first second) }
-{
-    add_row(alloc, text, station, told, first, second, b"", b"")
-}
+    /// Adds how many readings stand before its sets and after them.
+    fn add_outside(&self, text: &mut Vec<u8>) -> Result<(), AllocError>
+        ensures { OnOk result (text.new.items ≡ text.old.items ++ outside_row self.now.station.now) }
+    {
+        self.add_numbers(text, b"outside", self.station.before, self.station.after)
+    }
 
-/// Adds a row: what is told of a station, and of that two numbers and two names.
-fn add_row(
-    alloc: Global,
-    text: &mut Vec<u8>,
-    station: &Name,
-    told: &[u8],
-    first: usize,
-    second: usize,
-    name: &[u8],
-    other: &[u8],
-) -> Result<(), AllocError>
-    ensures { OnOk result (text.new.items ≡ text.old.items
-        ++ told_row station.now told.now first second name.now other.now) }
-{
-    let (mut one, mut two) = (Buffer::new(), Buffer::new());
-    let (first, second) = (one.format(first).as_bytes(), two.format(second).as_bytes());
-    let row = row_of(alloc, station.bytes(), told, first, second, name, other)?;
-    text.extend_from_slice(&row)?;
-    Ok(())
+    /// Adds what is told of its sets beyond their numbers.
+    fn add_remarks(&self, text: &mut Vec<u8>) -> Result<(), AllocError>
+        ensures { OnOk result (text.new.items ≡ text.old.items
+            ++ remarks_rows self.now.station.now.name self.now.station.now.remarks) }
+    {
+        if let Some(remarks) = self.station.remarks.as_ref() {
+            self.add_counted(text, remarks)?;
+            self.add_pairs(text, remarks.equal_sets.pairs())?;
+            self.add_zeniths(text, remarks.zeniths.ranges())?;
+        }
+        Ok(())
+    }
+
+    /// Adds what is told of its sets by numbers, and their ends.
+    fn add_counted(&self, text: &mut Vec<u8>, remarks: &Remarks) -> Result<(), AllocError>
+        ensures { OnOk result (text.new.items ≡ text.old.items
+            ++ counted_rows self.now.station.now.name remarks.now) }
+    {
+        self.add_ends(text, remarks)?;
+        self.add_missing(text, remarks)?;
+        self.add_after(text, remarks)?;
+        Ok(())
+    }
+
+    /// Adds the target that opens its sets, and the one at which the first set turns.
+    fn add_ends(&self, text: &mut Vec<u8>, remarks: &Remarks) -> Result<(), AllocError>
+        ensures { OnOk result (text.new.items ≡ text.old.items
+            ++ ends_row self.now.station.now.name remarks.now) }
+    {
+        let (opening, turning) = (remarks.opening.bytes(), remarks.turning.bytes());
+        self.add_row(text, b"ends", 0, 0, opening, turning)
+    }
+
+    /// Adds how many directions are missing, of how many.
+    fn add_missing(&self, text: &mut Vec<u8>, remarks: &Remarks) -> Result<(), AllocError>
+        ensures { OnOk result (text.new.items ≡ text.old.items
+            ++ missing_row self.now.station.now.name remarks.now) }
+    {
+        self.add_numbers(text, b"missing", remarks.missing, remarks.directions)
+    }
+
+    /// Adds what stands after its sets.
+    fn add_after(&self, text: &mut Vec<u8>, remarks: &Remarks) -> Result<(), AllocError>
+        ensures { OnOk result (text.new.items ≡ text.old.items
+            ++ after_row self.now.station.now.name remarks.now) }
+    {
+        self.add_numbers(text, b"after", remarks.others, one_if(remarks.opened_again))
+    }
+
+    /// Adds its sets that are equal.
+    fn add_pairs(&self, text: &mut Vec<u8>, pairs: &[SetPair]) -> Result<(), AllocError>
+        ensures { OnOk result (text.new.items ≡ text.old.items
+            ++ pair_rows self.now.station.now.name pairs.now) }
+    {
+        let mut left = pairs;
+        'pairs: while let Some((pair, rest)) = left.split_first() {
+            self.add_numbers(text, b"equal", pair.earlier, pair.later)?;
+            left = rest;
+        }
+        Ok(())
+    }
+
+    /// Adds the targets whose zenith angles differ.
+    fn add_zeniths(&self, text: &mut Vec<u8>, ranges: &[ZenithRange]) -> Result<(), AllocError>
+        ensures { OnOk result (text.new.items ≡ text.old.items
+            ++ zenith_rows self.now.station.now.name ranges.now) }
+    {
+        let mut left = ranges;
+        'targets: while let Some((range, rest)) = left.split_first() {
+            self.add_zenith(text, range)?;
+            left = rest;
+        }
+        Ok(())
+    }
+
+    /// Adds by how many mgon the zenith angles of a target differ.
+    fn add_zenith(&self, text: &mut Vec<u8>, range: &ZenithRange) -> Result<(), AllocError>
+        ensures { OnOk result (text.new.items ≡ text.old.items
+            ++ zenith_row self.now.station.now.name range.now) }
+    {
+        let (mgon, target) = (whole_mgon(range.spread()), range.target.bytes());
+        self.add_row(text, b"zeniths", mgon, 0, target, b"")
+    }
+
+    /// Adds a row of numbers alone.
+    fn add_numbers(
+        &self,
+        text: &mut Vec<u8>,
+        told: &[u8],
+        first: usize,
+        second: usize,
+    ) -> Result<(), AllocError>
+        ensures { OnOk result (text.new.items ≡ text.old.items
+            ++ numbers_row self.now.station.now.name told.now first second) }
+    {
+        self.add_row(text, told, first, second, b"", b"")
+    }
+
+    /// Adds a row: what is told, and of that two numbers and two names.
+    fn add_row(
+        &self,
+        text: &mut Vec<u8>,
+        told: &[u8],
+        first: usize,
+        second: usize,
+        name: &[u8],
+        other: &[u8],
+    ) -> Result<(), AllocError>
+        ensures { OnOk result (text.new.items ≡ text.old.items
+            ++ told_row self.now.station.now.name told.now first second name.now other.now) }
+    {
+        let (mut one, mut two) = (Buffer::new(), Buffer::new());
+        let (first, second) = (one.format(first).as_bytes(), two.format(second).as_bytes());
+        let station = self.station.name.bytes();
+        let row = row_of(self.alloc, station, told, first, second, name, other)?;
+        text.extend_from_slice(&row)?;
+        Ok(())
+    }
 }
 
 /// The row of these fields.
