@@ -12,7 +12,7 @@ use Rattle.byte_ends.specs.Source.{HasGiven, ReaderChange, Told, ended, given_th
 use Rattle.byte_ends.specs.Source.{reader_change}
 use Rattle.gsi_file.specs.FileAnswers.{FileAnswers, file_answers}
 use Rattle.gsi_word.specs.Blocks.{GsiBlock}
-use Rattle.instrument_words.proofs.Alike.{leaves_too}
+use Rattle.instrument_reports.proofs.Passing.{both_for, field_file_asked, file_for, gsi_asked}
 use Rattle.instrument_reports.specs.Answers.{SaysTableReportOf}
 use Rattle.instrument_reports.specs.Telling.{IsAnswerWith, IsNotedWith, IsWith}
 use Rattle.instrument_words.specs.Below.{TellsInstrument}
@@ -82,19 +82,9 @@ abbrev pub field_file_of : {R A : Type 0} (told : R → Option Told) (failed : R
     → ReadsFieldFile (reader_change (λ s. told (reader_of s)) (λ s. failed (reader_of s))
     (histories gave) d d') r So
     → ReadsFieldFile (reader_change told failed gave (reader_of d) (reader_of d')) r So
-field_file_of told failed gave d d' r So none a = record {
-  came = record {
-    given = a.came.given;
-    by_reads = (kept told failed gave d d' a.came.given none a.came.by_reads).0;
-    so = a.came.so;
-  };
-  left = leaves_too field_file_left r _ _ (record {
-    told = refl;
-    failed = refl;
-    failed' = refl;
-    unasked = λ same. ap reader_of same;
-  }) a.left;
-}
+field_file_of told failed gave d d' r So none =
+    field_file_asked reader_of told failed gave (histories gave) d d'
+    (λ bytes given. (kept told failed gave d d' bytes none given).0) r So
 
 module _ (language : Language) (Says : SurveyedStation → List ℕ → Type 0) (limits : ResultLimits)
     (name : List ℕ) where
@@ -113,42 +103,29 @@ module _ (language : Language) (Says : SurveyedStation → List ℕ → Type 0) 
       → ReadsFieldFile gsi (by_fault r) (λ file. MatchResult (by_fault r)
       (λ text. StatesOf (With file) limits file name (items text)) (HasNone limits file name)
       × IsHinted limits file name r)
-  answered {T} items gsi (Ok own) (Ok whole) bytes a same with = record {
-    came = record {
-      given = a.came.given;
-      by_reads = a.came.by_reads;
-      so = λ left may.
-          let st = (a.came.so left may).0 in
-          let over : left ≡ ended = rw a.left.ended at may in (
-            record {
-              its = st.its;
-              station = st.station;
-              held = st.held;
-              said = tells language (Says st.its) (items own) (items whole) a.came.given bytes left
-                  (reverse st.station.blocks) st.said same with over
-                  (record { ended = st.station.ended; lines = st.station.lines });
-            },
-            tt,
-          );
-    };
-    left = a.left;
-  }
+  answered {T} items gsi (Ok own) (Ok whole) bytes a same with =
+      file_for a a.left (λ left may.
+      let st = (a.came.so left may).0 in
+      let over : left ≡ ended = rw a.left.ended at may in (
+        record {
+          its = st.its;
+          station = st.station;
+          held = st.held;
+          said = tells language (Says st.its) (items own) (items whole) a.came.given bytes left
+              (reverse st.station.blocks) st.said same with over
+              (record { ended = st.station.ended; lines = st.station.lines });
+        },
+        tt,
+      ))
   answered {T} items gsi (Ok own) (Err refusal) bytes a same with =
       subst (λ (e : Refusal). ReadsFieldFile {A = T} gsi (Err e.fault) (λ file.
       HasNone limits file name e.fault × IsHinted {A = T} limits file name (Err e))) (sym with)
-      (record {
-        came = record {
-          given = a.came.given;
-          by_reads = a.came.by_reads;
-          so = λ left may. (tt, refl);
-        };
-        left = a.left.unfailed;
-      })
+      (file_for a a.left.unfailed (λ left may. (tt, refl)))
   answered {T} items gsi (Err refusal) r bytes a same with =
       subst (λ (r : Result T Refusal). ReadsFieldFile gsi (by_fault r) (λ file.
       MatchResult (by_fault r)
       (λ text. StatesOf (With file) limits file name (items text)) (HasNone limits file name)
-      × IsHinted limits file name r)) (sym with) (record { came = a.came; left = a.left })
+      × IsHinted limits file name r)) (sym with) (file_for a a.left a.came.so)
 
 -- The same of the reports of all stations.
 pub all_answered : {T : Type 0} (items : T → List ℕ) (head : ReportHead) (limits : ResultLimits)
@@ -162,39 +139,25 @@ pub all_answered : {T : Type 0} (items : T → List ℕ) (head : ReportHead) (li
     (λ text. TellsInstrument head.notes.language file
     (StatesAll (SaysReport head limits) limits Pages file) (items text))
     (IsRefusedOfAll (SaysReport head limits) limits file))
-all_answered items head limits gsi (Ok own) (Ok whole) bytes a same with = record {
-  came = record {
-    given = a.came.given;
-    by_reads = a.came.by_reads;
-    so = λ left may.
-        let st = a.came.so left may in
-        let over : left ≡ ended = rw a.left.ended at may in
-        let file = file_answers (given_then a.came.given left) in
-        let well = came_well limits.faces [] file.lines file.last st.survey.blocks tt
-        st.survey.file in
-        tells head.notes.language (StatesAll (SaysReport head limits) limits Pages file) (items own)
-        (items whole) a.came.given bytes left well.more st same with over
-        (record { ended = well.ended; lines = well.each });
-  };
-  left = a.left;
-}
+all_answered items head limits gsi (Ok own) (Ok whole) bytes a same with =
+    file_for a a.left (λ left may.
+    let st = a.came.so left may in
+    let over : left ≡ ended = rw a.left.ended at may in
+    let file = file_answers (given_then a.came.given left) in
+    let well = came_well limits.faces [] file.lines file.last st.survey.blocks tt st.survey.file in
+    tells head.notes.language (StatesAll (SaysReport head limits) limits Pages file) (items own)
+    (items whole) a.came.given bytes left well.more st same with over
+    (record { ended = well.ended; lines = well.each }))
 all_answered {T} items head limits gsi (Ok own) (Err refused) bytes a same with =
     subst (λ (e : StationRefusal). ReadsFieldFile {A = T} gsi (Err e.refusal.fault) (λ file.
     IsRefusedOfAll (SaysReport head limits) limits file e)) (sym with)
-    (record {
-      came = record {
-        given = a.came.given;
-        by_reads = a.came.by_reads;
-        so = λ left may. λ name. (tt, refl);
-      };
-      left = a.left.unfailed;
-    })
+    (file_for a a.left.unfailed (λ left may. λ name. (tt, refl)))
 all_answered {T} items head limits gsi (Err refused) r bytes a same with =
     subst (λ (r : Result T StationRefusal). ReadsFieldFile gsi (fault_of r) (λ file. MatchResult r
     (λ text. TellsInstrument head.notes.language file
     (StatesAll (SaysReport head limits) limits Pages file) (items text))
     (IsRefusedOfAll (SaysReport head limits) limits file))) (sym with)
-    (record { came = a.came; left = a.left })
+    (file_for a a.left a.came.so)
 
 -- What is so of a rereading source of a field file and of a table is so of the reader that it asks,
 -- of the same bytes.
@@ -204,20 +167,9 @@ abbrev pub both_of : {R A : Type 0} (told : R → Option Told) (failed : R → B
     → ReadsBoth (reader_change (λ s. told (reader_of s)) (λ s. failed (reader_of s))
     (histories gave) d d') table r So
     → ReadsBoth (reader_change told failed gave (reader_of d) (reader_of d')) table r So
-both_of told failed gave d d' table r So none a = record {
-  gsi_bytes = a.gsi_bytes;
-  gsi_reads = (kept told failed gave d d' a.gsi_bytes none a.gsi_reads).0;
-  table_bytes = a.table_bytes;
-  table_reads = a.table_reads;
-  so = a.so;
-  gsi_reader = leaves_too field_file_left r _ _ (record {
-    told = refl;
-    failed = refl;
-    failed' = refl;
-    unasked = λ same. ap reader_of same;
-  }) a.gsi_reader;
-  table_reader = a.table_reader;
-}
+both_of told failed gave d d' table r So none =
+    gsi_asked reader_of told failed gave (histories gave) d d'
+    (λ bytes given. (kept told failed gave d d' bytes none given).0) table r So
 
 -- The same of the report with a table.
 pub table_answered : (asked : ReportAsked) (limits : ResultLimits) (name : List ℕ)
@@ -232,65 +184,43 @@ pub table_answered : (asked : ReportAsked) (limits : ResultLimits) (name : List 
     (λ noted. StatesBeside (Noting (SaysTableReportOf file asked limits) asked.form) limits file
     stated name (value_of noted.answer, noted.note.items))
     (HasNoAnswer asked.form limits file stated name) × IsHinted limits file name r)
-table_answered asked limits name gsi table (Ok own) (Ok whole) bytes a same with = record {
-  gsi_bytes = a.gsi_bytes;
-  gsi_reads = a.gsi_reads;
-  table_bytes = a.table_bytes;
-  table_reads = a.table_reads;
-  so = λ left table_left may table_may.
-      let st = (a.so left table_left may table_may).0 in
-      let over : left ≡ ended = rw a.gsi_reader.ended at may in
-      let blocks_are : AreBlocksOf (file_answers (given_then a.gsi_bytes left))
-      (reverse st.station.blocks) =
-      record { ended = st.station.ended; lines = st.station.lines } in
-      let IsOwn : List ℕ → Type 0 = λ own. SaysTableReport asked limits st.its st.bytes
-      (record { text = own; beyond = whole.answer.beyond }) in
-      let is_own : IsOwn own.answer.text.items =
-      subst (λ (b : Option HowFar). SaysTableReport asked limits st.its st.bytes
-      (record { text = own.answer.text.items; beyond = b })) (sym with.1) st.said.0 in (
-        record {
-          its = st.its;
-          station = st.station;
-          bytes = st.bytes;
-          whole = st.whole;
-          held = st.held;
-          said = (
-            tells asked.head.notes.language IsOwn own.answer.text.items whole.answer.text.items
-                a.gsi_bytes bytes left (reverse st.station.blocks) is_own same with.0 over
-                blocks_are,
-            subst (IsNote asked.form st.its.station st.bytes) (sym with.2) st.said.1,
-          );
-        },
-        tt,
-      );
-  gsi_reader = a.gsi_reader;
-  table_reader = a.table_reader;
-}
+table_answered asked limits name gsi table (Ok own) (Ok whole) bytes a same with =
+    both_for a a.gsi_reader a.table_reader (λ left table_left may table_may.
+    let st = (a.so left table_left may table_may).0 in
+    let over : left ≡ ended = rw a.gsi_reader.ended at may in
+    let blocks_are : AreBlocksOf (file_answers (given_then a.gsi_bytes left))
+    (reverse st.station.blocks) =
+    record { ended = st.station.ended; lines = st.station.lines } in
+    let IsOwn : List ℕ → Type 0 = λ own. SaysTableReport asked limits st.its st.bytes
+    (record { text = own; beyond = whole.answer.beyond }) in
+    let is_own : IsOwn own.answer.text.items =
+    subst (λ (b : Option HowFar). SaysTableReport asked limits st.its st.bytes
+    (record { text = own.answer.text.items; beyond = b })) (sym with.1) st.said.0 in (
+      record {
+        its = st.its;
+        station = st.station;
+        bytes = st.bytes;
+        whole = st.whole;
+        held = st.held;
+        said = (
+          tells asked.head.notes.language IsOwn own.answer.text.items whole.answer.text.items
+              a.gsi_bytes bytes left (reverse st.station.blocks) is_own same with.0 over
+              blocks_are,
+          subst (IsNote asked.form st.its.station st.bytes) (sym with.2) st.said.1,
+        );
+      },
+      tt,
+    ))
 table_answered asked limits name gsi table (Ok own) (Err refusal) bytes a same with =
     subst (λ (e : Refusal). ReadsBoth {A = Noted TableReport} gsi table (Err e.fault)
     (λ file stated. HasNoAnswer asked.form limits file stated name e.fault
     × IsHinted {A = Noted TableReport} limits file name (Err e))) (sym with)
-    (record {
-      gsi_bytes = a.gsi_bytes;
-      gsi_reads = a.gsi_reads;
-      table_bytes = a.table_bytes;
-      table_reads = a.table_reads;
-      so = λ left table_left may table_may. (λ within. tt, refl);
-      gsi_reader = a.gsi_reader.unfailed;
-      table_reader = a.table_reader.unfailed;
-    })
+    (both_for a a.gsi_reader.unfailed a.table_reader.unfailed
+    (λ left table_left may table_may. (λ within. tt, refl)))
 table_answered asked limits name gsi table (Err refusal) r bytes a same with =
     subst (λ (r : Result (Noted TableReport) Refusal). ReadsBoth gsi table (by_fault r)
     (λ file stated. MatchResult (by_fault r)
     (λ noted. StatesBeside (Noting (SaysTableReportOf file asked limits) asked.form) limits file
     stated name (value_of noted.answer, noted.note.items))
     (HasNoAnswer asked.form limits file stated name) × IsHinted limits file name r)) (sym with)
-    (record {
-      gsi_bytes = a.gsi_bytes;
-      gsi_reads = a.gsi_reads;
-      table_bytes = a.table_bytes;
-      table_reads = a.table_reads;
-      so = a.so;
-      gsi_reader = a.gsi_reader;
-      table_reader = a.table_reader;
-    })
+    (both_for a a.gsi_reader a.table_reader a.so)

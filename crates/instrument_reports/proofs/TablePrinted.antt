@@ -3,6 +3,7 @@ use Rattle.std.proofs.Common.{◌≡◌, ◌∙◌, ℕ, List, [], Option, Resul
 use Rattle.std.specs.Prelude.{MatchResult}
 use Rattle.byte_ends.specs.Sink.{WriterChange}
 use Rattle.byte_ends.specs.Source.{ReaderChange}
+use Rattle.instrument_reports.proofs.Passing.{both_for}
 use Rattle.instrument_reports.specs.Answers.{SaysTableReportOf}
 use Rattle.instrument_reports.specs.Printing.{IsNotedMade, as_printed}
 use Rattle.instrument_reports.specs.Runs.{IsTableReportRun}
@@ -36,15 +37,7 @@ pub table_printed : {A : Type 0} (asked : ReportAsked) (limits : ResultLimits)
     → IsTableReportRun asked limits gsi table name r note out
 table_printed asked limits gsi table name (Ok own) (Ok whole) a made r note out p noted = record {
   answer = Ok (value_of own.answer, own.note.items);
-  tells = record {
-    gsi_bytes = a.gsi_bytes;
-    gsi_reads = a.gsi_reads;
-    table_bytes = a.table_bytes;
-    table_reads = a.table_reads;
-    so = a.so;
-    gsi_reader = a.gsi_reader;
-    table_reader = a.table_reader;
-  };
+  tells = both_for a a.gsi_reader a.table_reader a.so;
   printed = (
     subst (λ (t : List ℕ). PrintsVerdict t own.answer.beyond (by_fault r) out) made.0
         (subst (λ (b : Option HowFar). PrintsVerdict whole.answer.text.items b (by_fault r) out)
@@ -55,29 +48,14 @@ table_printed asked limits gsi table name (Ok own) (Ok whole) a made r note out 
 }
 table_printed asked limits gsi table name (Ok own) (Err refusal) a made r note out p noted = record {
   answer = Err (unhinted Memory);
-  tells = record {
-    gsi_bytes = a.gsi_bytes;
-    gsi_reads = a.gsi_reads;
-    table_bytes = a.table_bytes;
-    table_reads = a.table_reads;
-    so = λ left table_left may table_may. (λ within. tt, refl);
-    gsi_reader = a.gsi_reader.unfailed;
-    table_reader = a.table_reader.unfailed;
-  };
+  tells = both_for a a.gsi_reader.unfailed a.table_reader.unfailed
+        (λ left table_left may table_may. (λ within. tt, refl));
   printed = rw made at p;
   noted = noted;
 }
 table_printed asked limits gsi table name (Err refusal) all a made r note out p noted = record {
   answer = Err refusal;
-  tells = record {
-    gsi_bytes = a.gsi_bytes;
-    gsi_reads = a.gsi_reads;
-    table_bytes = a.table_bytes;
-    table_reads = a.table_reads;
-    so = a.so;
-    gsi_reader = a.gsi_reader;
-    table_reader = a.table_reader;
-  };
+  tells = both_for a a.gsi_reader a.table_reader a.so;
   printed = rw made at p;
   noted = rw made at noted;
 }

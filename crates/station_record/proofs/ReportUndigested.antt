@@ -16,7 +16,6 @@ use Rattle.direction_table.specs.declared.form.TableForm.{TableForm}
 use Rattle.station_book.specs.Stations.{SurveyedStation}
 use Rattle.station_book.specs.declared.result_limits.ResultLimits.{ResultLimits}
 use Rattle.station_check.specs.RunEndings.{PrintsAnswer}
-use Rattle.station_compare.specs.Answers.{field_file_left, table_left}
 use Rattle.station_compare.specs.Hints.{IsHinted}
 use Rattle.station_compare.specs.Refusals.{by_fault, unhinted}
 use Rattle.station_compare.specs.Runs.{ReadsFieldFile}
@@ -24,7 +23,8 @@ use Rattle.station_compare.specs.declared.fault.CompareFault.{CompareFault}
 use Rattle.station_compare.specs.declared.fault.CompareFault.TheVariants.{Memory, Write}
 use Rattle.station_compare.specs.declared.how_far.HowFar.{HowFar}
 use Rattle.station_compare.specs.declared.refusal.Refusal.{Refusal}
-use Rattle.instrument_words.proofs.Alike.{leaves_too}
+use Rattle.instrument_reports.proofs.Passing.{both_for, field_file_asked, file_for, gsi_asked}
+use Rattle.instrument_reports.proofs.Passing.{table_asked}
 use Rattle.station_record.proofs.Printed.{printed_alike, printed_of}
 use Rattle.station_record.specs.Made.{IsMadeOf}
 use Rattle.station_record.specs.Parts.{ArePartsOf}
@@ -49,19 +49,9 @@ abbrev pub field_file_of : {R A : Type 0} (told : R → Option Told) (failed : R
     → ReadsFieldFile (reader_change (λ d. told (reader_of d)) (λ d. failed (reader_of d))
     (histories gave) d d') r So
     → ReadsFieldFile (reader_change told failed gave (reader_of d) (reader_of d')) r So
-field_file_of told failed gave d d' r So none a = record {
-  came = record {
-    given = a.came.given;
-    by_reads = (digested told failed gave d d' a.came.given none a.came.by_reads).0;
-    so = a.came.so;
-  };
-  left = leaves_too field_file_left r _ _ (record {
-    told = refl;
-    failed = refl;
-    failed' = refl;
-    unasked = λ same. ap reader_of same;
-  }) a.left;
-}
+field_file_of told failed gave d d' r So none =
+    field_file_asked reader_of told failed gave (histories gave) d d'
+    (λ bytes given. (digested told failed gave d d' bytes none given).0) r So
 
 -- The same of two digesting readers.
 abbrev pub both_of : {R Q A : Type 0} (told : R → Option Told) (failed : R → Bool)
@@ -75,25 +65,11 @@ abbrev pub both_of : {R Q A : Type 0} (told : R → Option Told) (failed : R →
     e e') r So
     → ReadsBoth (reader_change told failed gave (reader_of d) (reader_of d'))
     (reader_change told_q failed_q gave_q (reader_of e) (reader_of e')) r So
-both_of told failed gave told_q failed_q gave_q d d' e e' r So none none_q a = record {
-  gsi_bytes = a.gsi_bytes;
-  gsi_reads = (digested told failed gave d d' a.gsi_bytes none a.gsi_reads).0;
-  table_bytes = a.table_bytes;
-  table_reads = (digested told_q failed_q gave_q e e' a.table_bytes none_q a.table_reads).0;
-  so = a.so;
-  gsi_reader = leaves_too field_file_left r _ _ (record {
-    told = refl;
-    failed = refl;
-    failed' = refl;
-    unasked = λ same. ap reader_of same;
-  }) a.gsi_reader;
-  table_reader = leaves_too table_left r _ _ (record {
-    told = refl;
-    failed = refl;
-    failed' = refl;
-    unasked = λ same. ap reader_of same;
-  }) a.table_reader;
-}
+both_of told failed gave told_q failed_q gave_q d d' e e' r So none none_q a =
+    table_asked reader_of told_q failed_q gave_q (histories gave_q) e e'
+    (λ bytes given. (digested told_q failed_q gave_q e e' bytes none_q given).0) _ r So
+    (gsi_asked reader_of told failed gave (histories gave) d d'
+    (λ bytes given. (digested told failed gave d d' bytes none given).0) _ r So a)
 
 -- What was printed of a report with a digest, where it is that of the bytes that the promise speaks
 -- of.
@@ -110,7 +86,7 @@ pub recorded_report : {T A : Type 0} (items : T → List ℕ) (head : ReportHead
     → IsRecordedReport head limits gsi station r out
 recorded_report items head limits gsi station (Ok own) (Ok whole) a d is_d made r out p = record {
   answer = Ok (items own);
-  tells = record { came = a.came; left = a.left };
+  tells = file_for a a.left a.came.so;
   printed = printed_of
       (λ text. as_printed head.notes
       (recorded_report_text head.notes.language text (sha256 a.came.given) head.path))
@@ -121,19 +97,12 @@ recorded_report items head limits gsi station (Ok own) (Ok whole) a d is_d made 
 }
 recorded_report items head limits gsi station (Ok own) (Err refusal) a d is_d made r out p = record {
   answer = Err (unhinted Memory);
-  tells = record {
-    came = record {
-      given = a.came.given;
-      by_reads = a.came.by_reads;
-      so = λ left may. (tt, refl);
-    };
-    left = a.left.unfailed;
-  };
+  tells = file_for a a.left.unfailed (λ left may. (tt, refl));
   printed = rw made at p;
 }
 recorded_report items head limits gsi station (Err refusal) all a d is_d made r out p = record {
   answer = Err refusal;
-  tells = record { came = a.came; left = a.left };
+  tells = file_for a a.left a.came.so;
   printed = rw made at p;
 }
 
@@ -159,15 +128,7 @@ recorded_both value Says Prints form limits gsi table station (Ok noted) answer 
     rw parts.0 at p in
     record {
       answer = Ok (value noted.answer, noted.note.items);
-      tells = record {
-        gsi_bytes = a.gsi_bytes;
-        gsi_reads = a.gsi_reads;
-        table_bytes = a.table_bytes;
-        table_reads = a.table_reads;
-        so = a.so;
-        gsi_reader = a.gsi_reader;
-        table_reader = a.table_reader;
-      };
+      tells = both_for a a.gsi_reader a.table_reader a.so;
       printed = (
         subst (λ (t : List ℕ). Prints (sha256 a.gsi_bytes) t (value noted.answer) (by_fault r) out)
             is_e
@@ -180,15 +141,7 @@ recorded_both value Says Prints form limits gsi table station (Ok noted) answer 
 recorded_both value Says Prints form limits gsi table station (Err refusal) answer note parts a d e
     is_d is_e r out p = record {
       answer = Err refusal;
-      tells = record {
-        gsi_bytes = a.gsi_bytes;
-        gsi_reads = a.gsi_reads;
-        table_bytes = a.table_bytes;
-        table_reads = a.table_reads;
-        so = a.so;
-        gsi_reader = a.gsi_reader;
-        table_reader = a.table_reader;
-      };
+      tells = both_for a a.gsi_reader a.table_reader a.so;
       printed = rw parts.0 at p;
       noted = parts.1;
     }
@@ -221,15 +174,7 @@ recorded_table asked limits gsi table station (Ok own) (Ok whole) a d e is_d is_
     out = rw parts.0 at p in
     record {
       answer = Ok (value_of own.answer, own.note.items);
-      tells = record {
-        gsi_bytes = a.gsi_bytes;
-        gsi_reads = a.gsi_reads;
-        table_bytes = a.table_bytes;
-        table_reads = a.table_reads;
-        so = a.so;
-        gsi_reader = a.gsi_reader;
-        table_reader = a.table_reader;
-      };
+      tells = both_for a a.gsi_reader a.table_reader a.so;
       printed = (
         subst (λ (t : List ℕ). PrintsVerdict t own.answer.beyond (by_fault r) out) is_text
             (subst (λ (b : Option HowFar). PrintsVerdict whole.answer.text.items b (by_fault r) out)
@@ -244,15 +189,8 @@ recorded_table asked limits gsi table station (Ok own) (Err refusal) a d e is_d 
     out = rw parts.0 at p in
     record {
       answer = Err (unhinted Memory);
-      tells = record {
-        gsi_bytes = a.gsi_bytes;
-        gsi_reads = a.gsi_reads;
-        table_bytes = a.table_bytes;
-        table_reads = a.table_reads;
-        so = λ left table_left may table_may. (λ within. tt, refl);
-        gsi_reader = a.gsi_reader.unfailed;
-        table_reader = a.table_reader.unfailed;
-      };
+      tells = both_for a a.gsi_reader.unfailed a.table_reader.unfailed
+            (λ left table_left may table_may. (λ within. tt, refl));
       printed = rw made at printed;
       noted = parts.1;
     }
@@ -261,15 +199,7 @@ recorded_table asked limits gsi table station (Err refusal) all a d e is_d is_e 
     let apart : ArePartsOf {T = TableReport} (Err refusal) report note = rw made at parts in
     record {
       answer = Err refusal;
-      tells = record {
-        gsi_bytes = a.gsi_bytes;
-        gsi_reads = a.gsi_reads;
-        table_bytes = a.table_bytes;
-        table_reads = a.table_reads;
-        so = a.so;
-        gsi_reader = a.gsi_reader;
-        table_reader = a.table_reader;
-      };
+      tells = both_for a a.gsi_reader a.table_reader a.so;
       printed = rw apart.0 at p;
       noted = apart.1;
     }

@@ -3,6 +3,7 @@ use Rattle.std.proofs.Common.{◌≡◌, ℕ, List, Result, Ok, Err, refl, subst
 use Rattle.std.specs.Prelude.{MatchResult}
 use Rattle.byte_ends.specs.Sink.{WriterChange}
 use Rattle.byte_ends.specs.Source.{ReaderChange}
+use Rattle.instrument_reports.proofs.Passing.{file_for}
 use Rattle.report_rows.specs.Stating.{AreReportRows}
 use Rattle.row_forms.specs.declared.form.RowForm.{RowForm}
 use Rattle.sha2.specs.Sha256.{sha256}
@@ -31,7 +32,7 @@ pub recorded_rows : {T A : Type 0} (items : T → List ℕ) (form : RowForm) (pa
     → AreRecordedRows form path limits gsi station r out
 recorded_rows items form path limits gsi station (Ok rows) (Ok text) a d is_d gets r out p = record {
   answer = Ok (items rows);
-  tells = record { came = a.came; left = a.left };
+  tells = file_for a a.left a.came.so;
   printed = printed_of
       (λ rows. recorded_rows_text form rows path (sha256 a.came.given)) (items rows) (items text)
       (subst (λ (t : List ℕ). items text ≡ recorded_rows_text form (items rows) path t) is_d gets)
@@ -40,18 +41,11 @@ recorded_rows items form path limits gsi station (Ok rows) (Ok text) a d is_d ge
 recorded_rows items form path limits gsi station (Ok rows) (Err refusal) a d is_d gets r out p =
     record {
       answer = Err (unhinted Memory);
-      tells = record {
-        came = record {
-          given = a.came.given;
-          by_reads = a.came.by_reads;
-          so = λ left may. (tt, refl);
-        };
-        left = a.left.unfailed;
-      };
+      tells = file_for a a.left.unfailed (λ left may. (tt, refl));
       printed = rw gets at p;
     }
 recorded_rows items form path limits gsi station (Err refusal) all a d is_d gets r out p = record {
   answer = Err refusal;
-  tells = record { came = a.came; left = a.left };
+  tells = file_for a a.left a.came.so;
   printed = rw gets at p;
 }
