@@ -276,8 +276,10 @@ uint8_t station_check_explain(const char *line, size_t line_length,
  * refused; of length 0 where there is none. A row below titles: `what` it is ("block", "sheet row",
  * "table row"; "target", "set" or "observation" among the sheet's rows of these; "station target",
  * "station observation"), its `number` from 1, its `row` among all where it is counted by its kind,
- * and the places, from 0, of its `first` byte and of the `end` after its last. Numbers that aren't
- * there are left out; no row, where the line names nothing. 256 bytes are always enough. */
+ * and the places, from 0, of its `first` byte and of the `end` after its last; and the same of the
+ * part that is meant, `meant_first` and `meant_end`: of a block the byte or the word that its fault
+ * speaks of, where it has that, else all. Numbers that aren't there are left out; no row, where the
+ * line names nothing. 256 bytes are always enough. */
 uint8_t station_check_place(const char *line, size_t line_length,
                             const void *gsi, size_t gsi_length,
                             const void *other, size_t other_length,

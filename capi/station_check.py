@@ -97,7 +97,7 @@ _STATION = re.compile(r"station (.*): \d+ sets?, \d+ targets?, \d+ directions?")
 _OBSERVATION = re.compile(r"set (\d+), target (.*): p (\d+), 2c (-?\d+), 2i (-?\d+)")
 
 # The titles of the place of a refusal.
-_PLACE = "what,number,row,first,end"
+_PLACE = "what,number,row,first,end,meant_first,meant_end"
 
 # A text is given so many bytes at least, and so many times more where that was too little.
 _ROOM, _MORE = 1 << 16, 8
@@ -240,8 +240,9 @@ class Verdict(NamedTuple):
 
 class Place(NamedTuple):
     """What the line of a refusal names, and where that stands: `what` it is, as `station_check.h`
-    says, its number from 1, its row among all where it is counted by its kind, and its bytes as a
-    part of the file; `first` and `end` are None of what stands in no file, or is not there."""
+    says, its number from 1, its row among all where it is counted by its kind, its bytes as a part
+    of the file, and those of them that are meant, as a word; the places of bytes are None of what
+    stands in no file, or is not there."""
 
     what: str
     number: int
@@ -251,6 +252,8 @@ class Place(NamedTuple):
 
 
 class Table(NamedTuple):
+    meant_first: int | None
+    meant_end: int | None
     """All of a table that was compared: the line of the agreement, or that it is apart, the verdict
     in numbers, the text of `differences`, the report with the table, and the table's note."""
 
@@ -509,8 +512,7 @@ def place(line: str, gsi: File, other: File = b"") -> Place | None:
     that refused; None where it names nothing."""
     rows = _rows_below(_PLACE, _answer("place", [_text(line), gsi, other], []).decode())
     for what, number, *places in rows:
-        row, first, end = (int(one) if one else None for one in places)
-        return Place(what, int(number), row, first, end)
+        return Place(what, int(number), *(int(one) if one else None for one in places))
     return None
 
 

@@ -91,54 +91,20 @@ function around(bytes, shown, first, end) {
 }
 
 /**
- * Which part of a line a fault speaks of: a byte, or a word with its content.
- * @returns {[number, number]}
- */
-function meantIn(/** @type {string} */ line, /** @type {string} */ fault) {
-  const [, what, number] = fault.match(/^(Byte|Word) (\d+)/) ?? [];
-  if (what === 'Byte') return [Number(number) - 1, Number(number)];
-  const words = [...line.matchAll(/\S+/g)];
-  const found = what === 'Word' ? words[Number(number) - 1]
-    : words.find(word => word[0].replace('*', '').startsWith(wordOf(fault)));
-  const at = found?.index ?? 0;
-  return found ? [at, at + found[0].length] : [0, line.length];
-}
-
-/**
- * The faults that speak of one word, by the index of that word.
- * @type {Record<string, RegExp>}
- */
-const FAULTS_OF_WORDS = {
-  11: /^(TooManyTargets|ReadTwice|FaceMissing|Order|EndsElsewhere|PairAfter|OtherTargets|SightsItself)/,
-  21: /^(Hz|FaceTwice|TwoC)/,
-  22: /^(Zenith|TwoI|FaceUnclear|FirstFace)/,
-  42: /^(StationName|SetNumber|StationTwice|SetTwice)/,
-};
-
-/** The index of the word that a fault speaks of, or no index at all. */
-function wordOf(/** @type {string} */ fault) {
-  const [, number] = fault.match(/^WordTwice (\d+)/) ?? [];
-  const name = fault.replace(/^mark: /, '');
-  const indices = Object.keys(FAULTS_OF_WORDS);
-  return number ?? indices.find(index => FAULTS_OF_WORDS[index].test(name)) ?? 'none';
-}
-
-/**
  * A block of a field file.
  * @param {Named} named
  * @param {Input} file
- * @param {string} fault
  * @returns {Place}
  */
-function blockIn({ number, first, end }, { bytes, shown }, fault) {
+function blockIn({ number, first, end, meantFirst = 0, meantEnd = 0 }, { bytes, shown }) {
   if (first === undefined) {
     const lines = around(bytes, seen, bytes.length);
     return { where: text('endOfFile', { name: shown }), lines, first: 0, end: 0 };
   }
-  const lines = around(bytes, seen, first, end), line = lines.find(one => one.isMeant);
-  const about = { line: line?.number ?? '', name: shown, block: number };
-  const [from, to] = line ? meantIn(line.text, fault) : [0, 0];
-  return { where: text('lineOfFile', about), lines, first: from, end: to };
+  const lines = around(bytes, seen, first, end);
+  const about = { line: lines.find(one => one.isMeant)?.number ?? '', name: shown, block: number };
+  const meant = { first: meantFirst - first, end: meantEnd - first };
+  return { where: text('lineOfFile', about), lines, ...meant };
 }
 
 /** The bytes of a line as their text, which may be cut. */
@@ -197,9 +163,9 @@ export const faultAt = (/** @type {string} */ line) => line.replace(/^refused: b
  * @param {import('./files.js').Station} [station]
  * @returns {Place | null}
  */
-export function placeOf({ named, line, field, other }, station) {
+export function placeOf({ named, field, other }, station) {
   if (!named) return null;
-  if (named.what === 'block') return blockIn(named, field, faultAt(line));
+  if (named.what === 'block') return blockIn(named, field);
   if (!named.what.startsWith('station')) return rowIn(named, other);
   return station ? inStation(named, station) : null;
 }

@@ -144,10 +144,11 @@ export function recognizedIn(/** @type {string} */ rows) {
  * What the line of a refusal names by a number, as the call wrote it: a block of the field file, a
  * row of the sheet or the table, a row of the sheet among those of targets, sets or observations, or
  * a target or an observation of the station; its row among all, where it is counted by its kind; and
- * of what stands in a file the place of its first byte, and that after its last.
+ * of what stands in a file, and of the part of it that is meant, the place of the first byte, and
+ * that after the last.
  * @typedef {{ what: 'block' | 'sheet row' | 'table row' | 'target' | 'set' | 'observation' |
  *   'station target' | 'station observation', number: number, row?: number, first?: number,
- *   end?: number }} Named
+ *   end?: number, meantFirst?: number, meantEnd?: number }} Named
  */
 
 /**
@@ -159,7 +160,8 @@ export function namedIn(/** @type {string} */ text) {
   if (!named) return undefined;
   const of = (/** @type {string} */ number) => number === '' ? undefined : Number(number);
   const { number, row, first, end } = named, what = /** @type {Named['what']} */ (named.what);
-  return { what, number: Number(number), row: of(row), first: of(first), end: of(end) };
+  const meant = { meantFirst: of(named.meant_first), meantEnd: of(named.meant_end) };
+  return { what, number: Number(number), row: of(row), first: of(first), end: of(end), ...meant };
 }
 
 // ---------------------------------------------------------------- lists

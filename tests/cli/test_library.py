@@ -536,7 +536,7 @@ class LibraryTest(ProgramTest):
         # (the place of the third row, by hand)
         sheet = b"sheet,1,P7,2\ntarget,,A,0\nobs,1,A,0,0\n"
         place = self.module.place("refused: kernel: ObsRow 1", GIVEN["compare"][0], sheet)
-        self.assertEqual(("observation", 1, 3, 25, 36), place)
+        self.assertEqual(("observation", 1, 3, 25, 36, 25, 36), place)
         self.assertIsNone(self.module.place(apart.exception.line, GIVEN["compare"][0]))
         copy = pickle.loads(pickle.dumps(apart.exception))
         self.assertEqual((apart.exception.line, "", ""), (copy.line, copy.text, copy.note))

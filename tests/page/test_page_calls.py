@@ -206,6 +206,8 @@ def is_of_page(case):
     return not is_own and case.expected[0] < 2 and all(path.is_file() for path in paths)
 
 
+PLACE_TITLES = "what,number,row,first,end,meant_first,meant_end\n"
+
 # What a refusal names, by the words before its number; and what has none, which is the first.
 NAMED = {
     "block": r"block (\d+): ",
@@ -220,6 +222,33 @@ NAMED = {
 KINDS = {"target": b"target", "set": b"set", "observation": b"obs"}
 
 
+# The indices of words, and the faults that speak of the first word of one in their block.
+WORDS = {
+    b"11": "TooManyTargets|ReadTwice|FaceMissing|Order|EndsElsewhere|PairAfter|OtherTargets|SightsItself",
+    b"21": "WordTwice 21|Hz |FaceTwice|TwoC",
+    b"22": "WordTwice 22|Zenith |FaceUnclear|FirstFace|TwoI",
+    b"42": "WordTwice 42|SetNumber|StationTwice|SetTwice",
+}
+
+
+def meant_in(line, block):
+    """The part of a block that the line of its refusal speaks of, or all of it."""
+    fault = re.sub(r"^refused: block \d+: (mark: )?", "", line)
+    content, begin = (16, 1) if block.startswith(b"*") else (8, 0)
+    begins = range(begin, len(block), 7 + content + 1)
+    what, _, number = fault.partition(" ")
+    if what == "Byte":
+        return int(number) - 1, int(number)
+    if what in ("Word", "FirstWord"):
+        first = begins[int(number or 1) - 1]
+        return first, first + 1 + len(block[first + 1 :].split(b" ")[0])
+    for index, faults in WORDS.items():
+        found = [at for at in begins if block[at:].startswith(index) and at + 7 + content <= len(block)]
+        if re.match(faults, fault) and found:
+            return found[0], found[0] + 7 + content
+    return 0, len(block)
+
+
 def parts_with(data, is_one):
     """Where the parts between line ends stand that are meant."""
     found = [match.span() for match in re.finditer(rb"[^\r\n]*", data)]
@@ -228,7 +257,7 @@ def parts_with(data, is_one):
 
 def place_of(line, gsi, other):
     """The row of the place of a refusal, where no field of the other file is in quotes."""
-    titles = "what,number,row,first,end\n"
+    titles = PLACE_TITLES
     for what, words in NAMED.items():
         if not (match := re.match("refused: (?:" + words + ")", line)):
             continue
@@ -241,7 +270,10 @@ def place_of(line, gsi, other):
         else:
             rows = [("", first, end) for _, first, end in rows if "row" in what]
         row = rows[number - 1] if 0 < number <= len(rows) else ("", "", "")
-        return titles + ",".join(map(str, [what, number, *row])) + "\n"
+        meant = row[1:]
+        if what == "block" and row[1] != "":
+            meant = [row[1] + place for place in meant_in(line, gsi[row[1] : row[2]])]
+        return titles + ",".join(map(str, [what, number, *row, *meant])) + "\n"
     return titles
 
 
@@ -536,11 +568,11 @@ class PageCallsTest(TimedTest):
         sheet = b'\xef\xbb\xbf"sheet",1,S1,2\r\n\r\n"tar""get",,A,0\n"target",,"B\n",0\ntarget,,C,0'
         table = b'A;"1\n";0\nB;2\n'
         rows = {
-            "refused: sheet row 1: Version": "sheet row,1,,3,17",
-            "refused: sheet row 3: Number": "sheet row,3,,37,53",
-            "refused: kernel: TargetRow 2": "target,2,4,54,65",
-            "refused: kernel: TargetRow 3": "target,3,,,",
-            "refused: kernel: Datum": "target,1,3,37,53",
+            "refused: sheet row 1: Version": "sheet row,1,,3,17,3,17",
+            "refused: sheet row 3: Number": "sheet row,3,,37,53,37,53",
+            "refused: kernel: TargetRow 2": "target,2,4,54,65,54,65",
+            "refused: kernel: TargetRow 3": "target,3,,,,,",
+            "refused: kernel: Datum": "target,1,3,37,53,37,53",
         }
         with tempfile.TemporaryDirectory() as folder:
             path = Path(folder) / "sheet.csv"
@@ -548,11 +580,44 @@ class PageCallsTest(TimedTest):
             for line, row in rows.items():
                 with self.subTest(line):
                     answer = answer_to([*self.command(), "place", line, EXAMPLES[0], path])
-                    self.assertEqual(f"what,number,row,first,end\n{row}\n".encode(), answer[1])
+                    self.assertEqual(f"{PLACE_TITLES}{row}\n".encode(), answer[1])
             # (by semicolons row 2 begins after the quotes, by commas within them)
             path.write_bytes(table)
             answer = answer_to([*self.command(), "place", "refused: table row 2: Form", EXAMPLES[0], path])
-            self.assertEqual(b"what,number,row,first,end\ntable row,2,,,\n", answer[1])
+            self.assertEqual(f"{PLACE_TITLES}table row,2,,,,,\n".encode(), answer[1])
+
+    def test_the_part_of_a_block_that_a_refusal_speaks_of(self):
+        """By its form, by its number or by its index, in lines of both widths; or else all of it."""
+        wide = b"*110001+000000000000PIN1 21.322+0000000012345678 22.322+0000000010000000"
+        lines = [b"110001+PIN 0001 21.322+12345678 22.322+10000000", wide, b"", b"410003+00000020 42....+0000001x"]
+        rows = {
+            "block 1: Byte 16": (15, 16),
+            "block 1: Byte 48": (0, 47),
+            "block 1: Word 1": (0, 10),
+            "block 1: Word 2": (16, 31),
+            "block 1: Word 4": (0, 47),
+            "block 2: Word 3": (49, 72),
+            "block 2: FirstWord": (1, 24),
+            "block 1: mark: ReadTwice": (0, 15),
+            "block 2: Hz Digits": (25, 48),
+            "block 2: Zenith Sign": (49, 72),
+            "block 2: WordTwice 42": (0, 72),
+            "block 3: SetNumber": (16, 31),
+            "block 3: OneFace": (0, 31),
+        }
+        first = {"1": 0, "2": len(lines[0]) + 1, "3": len(b"\n".join(lines[:3])) + 1}
+        whole = {"1": len(lines[0]), "2": len(wide), "3": len(lines[3])}
+        with tempfile.TemporaryDirectory() as folder:
+            path = Path(folder) / "field.gsi"
+            path.write_bytes(b"\n".join(lines))
+            for fault, meant in rows.items():
+                number = fault[6]
+                at = first[number]
+                places = [at, at + whole[number], at + meant[0], at + meant[1]]
+                with self.subTest(fault):
+                    answer = answer_to([*self.command(), "place", f"refused: {fault}", path])
+                    row = ",".join(map(str, ["block", number, "", *places]))
+                    self.assertEqual(f"{PLACE_TITLES}{row}\n".encode(), answer[1])
 
     def test_a_text_without_the_name_of_a_fault_is_refused(self):
         for line in ["refused: kernel: Elephant 2", " ", "TwoC\n"]:

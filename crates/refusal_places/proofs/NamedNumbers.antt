@@ -5,13 +5,14 @@ use Rattle.std.proofs.Common.{ap, ◌∙◌, arith, decimal}
 use Rattle.std.specs.Prelude.{fold, nat_lt}
 use Rattle.std.specs.Char.{is_ascii_digit}
 use Rattle.std.specs.List.{list_all, position, position_or_len}
-use Rattle.std.proofs.Math.Seq.{take-append_seam}
+use Rattle.std.proofs.Math.Seq.{drop-append_seam, take-append_seam}
 use Rattle.std.proofs.lemmas.Bool.{and_from, and_parts, lt-ltb}
 use Rattle.std.proofs.lemmas.Bool.Decides.{nat_tests}
 use Rattle.std.proofs.lemmas.Fmt.{decimal_by_steps_wide, decimal_nonempty, length-decimal-le_wide}
 use Rattle.std.proofs.lemmas.List.{length-append}
 use Rattle.std.proofs.lemmas.List.Sums.{prefix_len_is}
 use Rattle.gsi_word.specs.Angles.{decimal_value}
+use Rattle.refusal_places.specs.Meant.{after_digits}
 use Rattle.refusal_places.specs.Numbers.{are_few, first_digits, number_of}
 
 -- The digits of a number have it.
@@ -71,20 +72,29 @@ at_seam : (ds : List ℕ) (b : ℕ) (rest : List ℕ) → get_or (ds ++ b ∷ re
 at_seam [] b rest = refl
 at_seam (d ∷ ds) b rest = at_seam ds b rest
 
-cut_off : (ds : List ℕ) (b : ℕ) (rest : List ℕ) → list_all is_ascii_digit ds ≡ true
-    → is_ascii_digit b ≡ false → first_digits (ds ++ b ∷ rest) ≡ ds
-cut_off ds b rest all other =
+ends_at : (ds : List ℕ) (b : ℕ) (rest : List ℕ) → list_all is_ascii_digit ds ≡ true
+    → is_ascii_digit b ≡ false → position is_other (ds ++ b ∷ rest) ≡ Some (length ds)
+ends_at ds b rest all other =
     let place : position_or_len is_other (ds ++ b ∷ rest) ≡ length ds =
     prefix_len_is (λ c. not (is_other c)) (ds ++ b ∷ rest) (length ds) 0
     (omega (arith, length-append ds (b ∷ rest)))
     (λ k lt. ap (λ (t : Bool). not (not t)) (digit_at ds (b ∷ rest) k all lt))
     (λ lt. ap (λ (c : ℕ). not (is_other c)) (at_seam ds b rest)
     ∙ ap (λ (t : Bool). not (not t)) other) in
-    let found : position is_other (ds ++ b ∷ rest) ≡ Some (length ds) =
     ap (λ (k : ℕ). cond (nat_lt k (length (ds ++ b ∷ rest))) (Some k) None) place
     ∙ ap (λ (t : Bool). cond t (Some (length ds)) None) (lt-ltb (length ds)
-    (length (ds ++ b ∷ rest)) (omega (arith, length-append ds (b ∷ rest)))) in
-    rw found (take-append_seam ds (b ∷ rest))
+    (length (ds ++ b ∷ rest)) (omega (arith, length-append ds (b ∷ rest))))
+
+cut_off : (ds : List ℕ) (b : ℕ) (rest : List ℕ) → list_all is_ascii_digit ds ≡ true
+    → is_ascii_digit b ≡ false → first_digits (ds ++ b ∷ rest) ≡ ds
+cut_off ds b rest all other = rw (ends_at ds b rest all other) (take-append_seam ds (b ∷ rest))
+
+-- What stands after a number is what was written there.
+pub left_after : (n : ℕ) (b : ℕ) (rest : List ℕ) → n < 10 ^ 10 → is_ascii_digit b ≡ false
+    → after_digits (decimal n ++ b ∷ rest) ≡ b ∷ rest
+left_after n b rest small other =
+    rw (ends_at (decimal n) b rest (have_value n (omega (arith, small))).digits other)
+    (drop-append_seam (decimal n) (b ∷ rest))
 
 -- A number of ten digits at most is read back.
 pub read_back : (n : ℕ) (b : ℕ) (rest : List ℕ) → n < 10 ^ 10 → is_ascii_digit b ≡ false

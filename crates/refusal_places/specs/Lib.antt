@@ -4,6 +4,8 @@ pub mod NamedPlaces
 pub mod Lines
 pub mod Rows
 pub mod Kinds
+pub mod Meant
+pub mod MeantParts
 pub mod Places
 pub mod PlaceTexts
 -- The inside: what each byte does while rows are found, and which are left.

@@ -44,12 +44,15 @@ span_cells None = cell None ++ cell None
 abbrev pub found_cells : Found → List ℕ
 found_cells found = cell found.row ++ span_cells found.span
 
--- what is named, its number, and where it is found
+-- what is named, its number, where it is found, and which part of it is meant
 abbrev pub place_row : Option Place → List ℕ
 place_row (Some p) =
-    name_of p.named ++ (cell (Some (number_in p.named)) ++ (found_cells p.found ++ codes "\n"))
+    name_of p.named
+    ++ (cell (Some (number_in p.named))
+    ++ (found_cells p.found ++ (span_cells p.meant ++ codes "\n")))
 place_row None = []
 
 -- titles, and that row, where there is one
 abbrev pub place_text : Option Place → List ℕ
-place_text place = codes "what,number,row,first,end\n" ++ place_row place
+place_text place =
+    codes "what,number,row,first,end,meant_first,meant_end\n" ++ place_row place

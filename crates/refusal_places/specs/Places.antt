@@ -2,6 +2,7 @@
 use Rattle.std.specs.Prelude.{◌≡◌, ℕ, List, Option, Some, None, codes}
 use Rattle.refusal_places.specs.Kinds.{row_of_kind_at}
 use Rattle.refusal_places.specs.Lines.{HasNoLine, IsLineAt}
+use Rattle.refusal_places.specs.MeantParts.{IsMeant}
 use Rattle.refusal_places.specs.NamedPlaces.{named_in}
 use Rattle.refusal_places.specs.Rows.{IsRowHowever, row_at}
 use Rattle.refusal_places.specs.declared.kind.KindRow.{KindRow}
@@ -47,7 +48,8 @@ Stands (StationTarget number) field other found = (found.row ≡ None) × (found
 Stands (StationObservation number) field other found =
     (found.row ≡ None) × (found.span ≡ None)
 
--- The line of a refusal names this, and so it stands in these files.
+-- The line of a refusal names this, so it stands in these files, and this part of it is meant.
 pub record IsPlace (line field other : List ℕ) (p : Place) : Type 0 where
   pub named : named_in line ≡ Some p.named
   pub stands : Stands p.named field other p.found
+  pub meant : IsMeant line field p.named p.found.span p.meant

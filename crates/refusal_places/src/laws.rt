@@ -2,6 +2,7 @@
 
 ghost use Rattle.std.specs.Prelude.{◌≡◌, ◌<◌, ◌^◌, ◌++◌, ◌∷◌, ℕ, List, Some, codes, decimal, false};
 ghost use Rattle.std.specs.Char.{is_ascii_digit};
+ghost use Rattle.refusal_places.specs.Meant.{meant_by, meant_in, without};
 ghost use Rattle.refusal_places.specs.NamedPlaces.{named_in};
 ghost use Rattle.refusal_places.specs.declared.named.Named.TheVariants.{Block, SheetRow, TableRow};
 ghost use Rattle.refusal_places.specs.declared.named.Named.TheVariants.{Target, Set, Observation};
@@ -40,4 +41,12 @@ pub fn numbers_are_read_back()
         → is_ascii_digit b ≡ false
         → named_in (codes "refused: adjust: Residual " ++ (decimal n ++ b ∷ rest))
         ≡ Some (StationObservation n) }
+{}
+
+/// A line that names a block by a number of ten digits at most speaks of what its fault speaks of,
+/// which stands after that, also where it is one of `mark`.
+pub fn faults_are_read_back()
+    ensures { (n : ℕ) (fault : List ℕ) → n < 10 ^ 10
+        → meant_in (codes "refused: block " ++ (decimal n ++ (codes ": " ++ fault)))
+        ≡ meant_by (without (codes "mark: ") fault) }
 {}

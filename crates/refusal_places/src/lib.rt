@@ -10,6 +10,8 @@
 mod kind;
 pub mod laws;
 mod line;
+mod meant;
+mod meant_part;
 mod named;
 mod number;
 mod place;
@@ -21,6 +23,7 @@ mod text;
 
 pub use kind::{KindRow, row_of_kind};
 pub use line::line_span;
+pub use meant::{Meant, meant_in};
 pub use named::{Named, named_in};
 pub use place::{Found, Place, place_in};
 pub use row::{row_span, table_row_span};

@@ -11,7 +11,7 @@ use gsi_word::decimal_number;
 const MOST_DIGITS: usize = 10;
 
 /// The place of the first byte that is no digit.
-fn first_other(text: &[u8]) -> Option<usize>
+pub(crate) fn first_other(text: &[u8]) -> Option<usize>
     ensures { result ≡ position (λ b. not (is_ascii_digit b)) text.now }
 {
     text.iter().position(|byte| !byte.is_ascii_digit())

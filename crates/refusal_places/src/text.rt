@@ -5,6 +5,7 @@ ghost use Rattle.refusal_places.specs.PlaceTexts as spec;
 
 use crate::named::Named;
 use crate::place::{Found, Place};
+use crate::span::Span;
 use itoa::Buffer;
 use std::alloc::{AllocError, Global};
 
@@ -52,12 +53,11 @@ fn push_cell(text: &mut Vec<u8>, number: Option<u64>) -> Result<(), AllocError>
     Ok(())
 }
 
-/// Adds where something is found: its row, its first byte, and what comes after its last.
-fn push_found(text: &mut Vec<u8>, found: Found) -> Result<(), AllocError>
-    ensures { OnOk result (text.new.items ≡ text.old.items ++ spec.found_cells found) }
+/// Adds the place of the first byte of a part of a file, and what comes after its last.
+fn push_span(text: &mut Vec<u8>, span: Option<Span>) -> Result<(), AllocError>
+    ensures { OnOk result (text.new.items ≡ text.old.items ++ spec.span_cells span) }
 {
-    push_cell(text, found.row)?;
-    match found.span {
+    match span {
         Some(span) => {
             push_cell(text, Some(span.first as u64))?;
             push_cell(text, Some(span.end as u64))
@@ -69,6 +69,14 @@ fn push_found(text: &mut Vec<u8>, found: Found) -> Result<(), AllocError>
     }
 }
 
+/// Adds where something is found: its row, and its bytes.
+fn push_found(text: &mut Vec<u8>, found: Found) -> Result<(), AllocError>
+    ensures { OnOk result (text.new.items ≡ text.old.items ++ spec.found_cells found) }
+{
+    push_cell(text, found.row)?;
+    push_span(text, found.span)
+}
+
 /// A place as a row below titles; below them none where there is none.
 ///
 /// The only error is that memory was refused.
@@ -76,11 +84,12 @@ pub fn place_text(alloc: Global, place: Option<Place>) -> Result<Vec<u8>, AllocE
     ensures { IfOk result (λ text. text.items ≡ spec.place_text place) }
 {
     let mut text = Vec::new(alloc);
-    text.extend_from_slice(b"what,number,row,first,end\n")?;
-    if let Some(Place { named, found }) = place {
-        text.extend_from_slice(name_of(named))?;
-        push_cell(&mut text, Some(number_in(named)))?;
-        push_found(&mut text, found)?;
+    text.extend_from_slice(b"what,number,row,first,end,meant_first,meant_end\n")?;
+    if let Some(place) = place {
+        text.extend_from_slice(name_of(place.named))?;
+        push_cell(&mut text, Some(number_in(place.named)))?;
+        push_found(&mut text, place.found)?;
+        push_span(&mut text, place.meant)?;
         text.push(b'\n')?;
     }
     Ok(text)
