@@ -237,9 +237,9 @@ def meant_in(line, block):
     content, begin = (16, 1) if block.startswith(b"*") else (8, 0)
     begins = range(begin, len(block), 7 + content + 1)
     what, _, number = fault.partition(" ")
-    if what == "Byte":
+    if what == "Byte" and int(number) <= len(block):
         return int(number) - 1, int(number)
-    if what in ("Word", "FirstWord"):
+    if what in ("Word", "FirstWord") and int(number or 1) <= len(begins):
         first = begins[int(number or 1) - 1]
         return first, first + 1 + len(block[first + 1 :].split(b" ")[0])
     for index, faults in WORDS.items():
