@@ -10,12 +10,13 @@ REFUSALS = ROOT / "page" / "refusals"
 
 # What the program explains: the first name of each fault stands here.
 EXPLANATIONS = ROOT / "crates" / "station_explain" / "src" / "explanations.rt"
+MEANT = ROOT / "crates" / "refusal_places" / "specs" / "Meant.antt"
 EXPLAINED = re.compile(r'^ +names: &\["([\w ]+)"', re.MULTILINE)
 
 # All names of a fault; the faults of which the page marks a word of the line, by the first of their
 # words; and how often names of faults stand in the page's scripts by themselves.
 NAMES = re.compile(r"names: &\[(.*?)\]", re.DOTALL)
-OF_WORDS = re.compile(r"^  \d\d: /\^\((.*?)\)/,$", re.MULTILINE)
+OF_WORDS = re.compile(r'\(codes "([A-Z]\w+)(?: \d*)?"\) fault')
 ASKED = re.compile(r"isOf\(\w+, '(\w+)'\)|fault === '(\w+)'|\.fault === '(\w+)'")
 
 # The languages, of which English says what a fault is in the words of the program.
@@ -43,13 +44,12 @@ class RefusalsTest(TimedTest):
         """Whose word of a line the page marks, and after which it asks what no line tells."""
         explained = "".join(NAMES.findall(EXPLANATIONS.read_text()))
         known = {name.split(" ")[0] for name in re.findall(r'"([\w ]+)"', explained)}
-        marked = OF_WORDS.findall((ROOT / "page" / "place.js").read_text())
-        self.assertEqual(4, len(marked))
+        marked = {*OF_WORDS.findall(MEANT.read_text())}
+        self.assertLessEqual({"ReadTwice", "Hz", "WordTwice", "Word", "FirstWord"}, marked)
         scripts = "".join(path.read_text() for path in (ROOT / "page").glob("*.js"))
         asked = {name for names in ASKED.findall(scripts) for name in names if name}
         self.assertGreater(len(asked), 5)
-        named = asked | {name for names in marked for name in names.split("|")}
-        self.assertEqual(set(), named - known)
+        self.assertEqual(set(), (asked | marked) - known)
 
     def test_each_text_is_short_and_whole_sentences(self):
         for language, faults in self.texts.items():
