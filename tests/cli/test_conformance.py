@@ -267,7 +267,7 @@ def model_answer(case):
         formed["as_json"] = asked.json
         return model.differences(files[0], station, files[1], limits, form, fails, **held, **formed)
     if asked.command == "report" and asked.csv:
-        rows = model.reported_rows(files[0], station, limits, fails[0], **held, **formed)
+        rows = model.reported_rows(files[0], station, limits, fails=fails[0], **held, **formed)
         path = asked.operands[0].encode()
         return model.with_file_row(rows, path, files[0], **formed) if asked.sha256 else rows
     if asked.command == "report":

@@ -124,13 +124,7 @@ pub fn read_stated_table(
     ensures fault { IfErr result (IsTableFaultOrMemory form targets.now bytes.now) }
     ensures too_long { LONGEST_TABLE < length bytes.now → result ≡ Err TooLong }
 {
-    let part = read_part_table(alloc, form, targets, bytes)?;
-    Ok(StatedTable {
-        directions: all_stated(alloc, &part.directions)?,
-        usual_within: part.usual_within,
-        most_off: part.most_off,
-        by_columns: part.by_columns,
-    })
+    read_part_table(alloc, form, targets, bytes)?.whole(alloc)
 }
 
 /// What a table states of a part of the targets, or of all.
@@ -145,6 +139,27 @@ pub struct PartTable {
     pub most_off: u64,
     /// How the table was read, where that is by a pair of its columns.
     pub by_columns: Option<ByColumns>,
+}
+
+impl PartTable {
+    /// The same as a table of all targets, or the first of which no row states a direction.
+    pub fn whole(&self, alloc: Global) -> Result<StatedTable, TableFault>
+        requires { length self.now.directions.items ≤ MOST_TARGETS }
+        ensures directions { IfOk result (λ whole.
+            self.now.directions.items ≡ map Some whole.directions.items) }
+        ensures usual_within { IfOk result (λ whole.
+            whole.usual_within ≡ self.now.usual_within) }
+        ensures most_off { IfOk result (λ whole. whole.most_off ≡ self.now.most_off) }
+        ensures by_columns { IfOk result (λ whole. whole.by_columns ≡ self.now.by_columns) }
+        ensures missing { IfErr result (IsMissingOrMemory self.now.directions.items) }
+    {
+        Ok(StatedTable {
+            directions: all_stated(alloc, &self.directions)?,
+            usual_within: self.usual_within,
+            most_off: self.most_off,
+            by_columns: self.by_columns,
+        })
+    }
 }
 
 /// The same as [`read_stated_table`] gives, where rows may lack: no target is missed.

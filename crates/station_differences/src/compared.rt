@@ -5,7 +5,7 @@ ghost use Rattle.station_differences.specs.ByAdjustment.{AreRowsBy};
 
 use crate::line::compared_of;
 use crate::lines::lines_by;
-use crate::stated::all_stated;
+use crate::stated::lacking_none;
 use adjust_kernel::Name;
 use exact_adjustment::Adjustment;
 use std::alloc::{AllocError, Global};
@@ -43,7 +43,7 @@ pub fn differences_by(
 {
     // An adjustment says of what it answers that it keeps the rules.
     let _ = adjustment.denominator();
-    let stated = all_stated(alloc, stated)?;
+    let stated = lacking_none(alloc, stated)?;
     let lines = lines_by(alloc, targets, adjustment, &stated)?;
     compared_of(alloc, &lines)
 }

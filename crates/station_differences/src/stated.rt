@@ -47,7 +47,7 @@ pub(crate) fn at_each_place(alloc: Global, stated: &[Option<i64>]) -> Result<Vec
 }
 
 /// All directions of a table that lacks none.
-pub(crate) fn all_stated(alloc: Global, stated: &[i64]) -> Result<Vec<Option<i64>>, AllocError>
+pub(crate) fn lacking_none(alloc: Global, stated: &[i64]) -> Result<Vec<Option<i64>>, AllocError>
     ensures { IfOk result (λ directions. directions.items ≡ map Some stated.now) }
 {
     let mut directions = Vec::with_capacity(alloc, stated.len())?;

@@ -1,5 +1,5 @@
 -- From what is read of a table that may lack targets to what is said and refused of it.
-use Rattle.std.proofs.Common.{◌≡◌, ◌≤◌, ℕ, ℤ, List, Option, Some, None, length, map, inl, inr}
+use Rattle.std.proofs.Common.{◌≡◌, ℕ, ℤ, List, Option, Some, None, map, inl, inr}
 use Rattle.std.proofs.Common.{[], ◌∷◌, ap, refl, subst, sym, true, ◌∙◌}
 use Rattle.adjust_kernel.specs.Stations.{StationValue}
 use Rattle.direction_table.proofs.StatedDirections.{not-missing}

@@ -2,7 +2,8 @@
 //! for.
 //!
 //! An answer of both is an `impl` of `TableAnswer`: their comparison, the differences of the table,
-//! which may lack targets, target by target, the report of the station with the table, and all of these in one text.
+//! which may lack targets, target by target, the report of the station with the table, and all of
+//! these in one text.
 //! `table_answer_of` reads the field file and then the table, and answers, with the note of the
 //! table; `write_table_answer` writes the answer; `run_table_answer` does the same as a command: the
 //! text, the note, the line of a refusal, and the exit status.

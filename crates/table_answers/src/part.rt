@@ -1,8 +1,7 @@
 //! A table that may lack targets of its station: what it states of them, and how it was read.
-ghost use Rattle.std.specs.Prelude.{◌≡◌, ◌≤◌, ◌↔◌, List, ℕ, Some, length, map};
+ghost use Rattle.std.specs.Prelude.{◌≡◌, ◌≤◌, ◌↔◌, List, ℕ, length};
 ghost use Rattle.std.specs.Prelude.{IfErr, IfOk, IfSome, IsTrue, MatchResult, OnOk};
 ghost use Rattle.adjust_kernel.specs.declared.bounds.TheConstants.{LARGEST_RESIDUAL_LIMIT};
-ghost use Rattle.direction_table.specs.Tables.{IsMissingOrMemory};
 ghost use Rattle.direction_table.specs.declared.form.TableForm.{TableForm as Form};
 ghost use Rattle.exact_adjustment.specs.Exact.{IsExact, KeepsLimit};
 ghost use Rattle.exact_adjustment.specs.LeastOf.{AreTied, HasResidualsWithin};
@@ -66,33 +65,11 @@ fn whole_of(alloc: Global, part: &PartTable) -> Result<Option<StatedTable>, Tabl
     ensures whole { IfOk result (IsWholeOf part.now) }
     ensures few { IfErr result (IsTooFewOrMemory part.now.directions.items) }
 {
-    match all_stated(alloc, &part.directions) {
-        Ok(directions) => Ok(Some(StatedTable {
-            directions,
-            usual_within: part.usual_within,
-            most_off: part.most_off,
-            by_columns: part.by_columns,
-        })),
+    match part.whole(alloc) {
+        Ok(whole) => Ok(Some(whole)),
         Err(TableFault::Missing(_)) if is_enough(&part.directions) => Ok(None),
         Err(fault) => Err(fault),
     }
-}
-
-/// The directions of all targets, or the first that has none.
-#[tactic(auto, using(direction_table::proofs::StatedDirections::as_far))]
-fn all_stated(alloc: Global, stated: &[Option<i64>]) -> Result<Vec<i64>, TableFault>
-    requires { length stated.now ≤ MOST_TARGETS }
-    ensures all { IfOk result (λ directions. stated.now ≡ map Some directions.items) }
-    ensures missing { IfErr result (IsMissingOrMemory stated.now) }
-{
-    let mut directions = Vec::with_capacity(alloc, stated.len())?;
-    for (place, direction) in stated.iter().enumerate() {
-        let Some(direction) = direction else {
-            return Err(TableFault::Missing(place as u32 + 1));
-        };
-        directions.push(*direction).map_err(AllocError::from)?;
-    }
-    Ok(directions)
 }
 
 /// Whether a table agrees as it is read: one that lacks targets doesn't.
