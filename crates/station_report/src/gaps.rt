@@ -1,12 +1,12 @@
 //! The directions that a station lacks: how many, and of which target in which set.
 ghost use Rattle.std.specs.Prelude.{◌≡◌, ◌<◌, ◌++◌, OnOk, length};
-ghost use Rattle.station_report.specs.Columns.{each_place};
 ghost use Rattle.station_report.specs.GapTexts as spec;
 ghost use Rattle.station_report.specs.ReportTexts.{gaps_text};
 
 use crate::columns::{push_count, push_left};
 use crate::head::push_counted;
 use crate::labels::{ENTRY_NAMES, push_phrase};
+use crate::lines::{Lines, push_lines};
 use crate::place_of::place_of;
 use crate::places::{name_of, number_of};
 use adjust_kernel::Station;
@@ -77,38 +77,28 @@ fn push_gap_line(
     Ok(())
 }
 
-/// Adds the line of a target.
-fn push_gaps_at(
-    text: &mut Vec<u8>,
-    field: &mut Vec<u8>,
+/// The targets of a station that some of its sets lack, and these sets.
+#[derive(Drop)]
+struct Gaps<'a> {
     language: Language,
-    station: &Station,
-    target: usize,
-) -> Result<(), AllocError>
-    requires { target < length station.now.targets }
-    ensures { OnOk result
-        (text.new.items ≡ text.old.items ++ spec.gaps_at language station.now target) }
-{
-    field.clear();
-    push_lacking_sets(field, station, target)?;
-    push_gap_line(text, language, name_of(station, target).bytes(), field)?;
-    Ok(())
+    station: &'a Station,
 }
 
-/// Adds the lines of all targets.
-fn push_gap_lines(
-    text: &mut Vec<u8>,
-    field: &mut Vec<u8>,
-    language: Language,
-    station: &Station,
-) -> Result<(), AllocError>
-    ensures { OnOk result (text.new.items ≡ text.old.items
-        ++ each_place (length station.now.targets) (spec.gaps_at language station.now)) }
-{
-    for target in 0..station.targets().len() {
-        push_gaps_at(text, field, language, station, target)?;
+impl<'a> Lines for Gaps<'a> {
+    ghost places = { λ its. length its.station.now.targets };
+
+    ghost line = { λ its. spec.gaps_at its.language its.station.now };
+
+    fn count(&self) -> usize {
+        self.station.targets().len()
     }
-    Ok(())
+
+    fn add(&self, text: &mut Vec<u8>, field: &mut Vec<u8>, place: usize) -> Result<(), AllocError> {
+        field.clear();
+        push_lacking_sets(field, self.station, place)?;
+        let name = name_of(self.station, place);
+        push_gap_line(text, self.language, name.bytes(), field)
+    }
 }
 
 /// Adds how many directions a station lacks, and of which target in which set.
@@ -122,6 +112,6 @@ pub(crate) fn push_gaps(
 {
     let mut field = Vec::new(alloc);
     push_counted(text, language, Phrase::MissingDirections, gaps_of(station))?;
-    push_gap_lines(text, &mut field, language, station)?;
+    push_lines(text, &mut field, &Gaps { language, station })?;
     Ok(())
 }

@@ -18,6 +18,7 @@ mod gaps;
 mod head;
 mod labels;
 pub mod laws;
+mod lines;
 mod notes;
 mod place_of;
 mod places;

@@ -1,9 +1,9 @@
 //! The readings of a report.
-ghost use Rattle.std.specs.Prelude.{◌≡◌, ◌≤◌, ◌<◌, ◌+◌, ◌++◌, IfSome, OnOk, length};
+ghost use Rattle.std.specs.Prelude.{◌≡◌, ◌<◌, ◌+◌, ◌++◌, IfSome, OnOk, length};
 ghost use Rattle.std.specs.Option.{option_map_or};
 ghost use Rattle.adjust_kernel.specs.declared.bounds.TheConstants.{TURN};
 ghost use Rattle.station_book.specs.declared.bounds.TheConstants.{CIRCLE};
-ghost use Rattle.station_report.specs.Columns.{each_place, right_text};
+ghost use Rattle.station_report.specs.Columns.{right_text};
 ghost use Rattle.station_report.specs.Readings as reading;
 ghost use Rattle.station_report.specs.ReportTexts as spec;
 ghost use Rattle.angle_texts.specs.MgonTexts.{short_mgon_text};
@@ -11,6 +11,7 @@ ghost use Rattle.angle_texts.specs.MgonTexts.{short_mgon_text};
 use crate::columns::{push_left, push_right, push_right_number};
 use crate::face_means::{DIFFERENCES, push_foot};
 use crate::labels::push_phrase;
+use crate::lines::{Lines, push_lines};
 use crate::places::{faces_at, name_of, number_of, observation_at};
 use adjust_kernel::{HALF_UNIT, LONGEST_NAME, Station, TURN};
 use angle_texts::{push_gon, push_short_gon, push_short_mgon};
@@ -64,15 +65,15 @@ pub fn zenith_mean(zenith: i32, two_i: i32) -> u32
 }
 
 /// The place of the first observation of a set.
-fn first_of(station: &Station, set: u32) -> Option<usize>
+fn first_of(station: &Station, set: usize) -> Option<usize>
     ensures place { result ≡ reading.first_of station.now set }
     ensures inside { IfSome result (λ place. place < length station.now.obs) }
 {
-    station.obs().iter().position(|o| o.set == set)
+    station.obs().iter().position(|o| o.set as usize == set)
 }
 
 /// The two-face direction of the first observation of a set.
-fn first_value(station: &Station, set: u32) -> u32
+fn first_value(station: &Station, set: usize) -> u32
     ensures value { result ≡ option_map_or (reading.value_at station.now)
         (reading.first_of station.now set) 0 }
     ensures bound { result < TURN }
@@ -207,75 +208,59 @@ fn push_line(
     Ok(())
 }
 
-/// Adds the line of an observation if it is of a set, whose first observation has this two-face
-/// direction.
-fn push_line_of(
-    text: &mut Vec<u8>,
-    field: &mut Vec<u8>,
-    surveyed: &Surveyed,
-    place: usize,
-    set: u32,
+/// The readings of a set.
+#[derive(Drop)]
+struct SetReadings<'a> {
+    surveyed: &'a Surveyed,
+    set: usize,
+    /// The two-face direction of its first observation.
     first: u32,
-) -> Result<(), AllocError>
-    requires inside { place < length surveyed.now.station.obs }
-    requires first { first ≡ option_map_or (reading.value_at surveyed.now.station)
-        (reading.first_of surveyed.now.station set) 0 }
-    requires bound { first < TURN }
-    ensures { OnOk result (text.new.items ≡ text.old.items
-        ++ spec.line_of surveyed.now set place) }
-{
-    if observation_at(surveyed.station(), place).set == set {
-        return push_line(text, field, surveyed, place, first);
-    }
-    Ok(())
+    ghost is_first: { first ≡ option_map_or (reading.value_at surveyed.now.station)
+        (reading.first_of surveyed.now.station set) 0 },
+    ghost bound: { first < TURN },
 }
 
-/// Adds the lines of a set, whose first observation has this two-face direction.
-fn push_lines(
-    text: &mut Vec<u8>,
-    field: &mut Vec<u8>,
-    surveyed: &Surveyed,
-    set: u32,
-    first: u32,
-) -> Result<(), AllocError>
-    requires first { first ≡ option_map_or (reading.value_at surveyed.now.station)
-        (reading.first_of surveyed.now.station set) 0 }
-    requires bound { first < TURN }
-    ensures { OnOk result (text.new.items ≡ text.old.items
-        ++ each_place (length surveyed.now.station.obs) (spec.line_of surveyed.now set)) }
-{
-    let station = surveyed.station();
-    for place in 0..station.obs().len() {
-        push_line_of(text, field, surveyed, place, set, first)?;
+impl<'a> Lines for SetReadings<'a> {
+    ghost places = { λ its. length its.surveyed.now.station.obs };
+
+    ghost line = { λ its. spec.line_of its.surveyed.now its.set };
+
+    fn count(&self) -> usize {
+        self.surveyed.station().obs().len()
     }
-    Ok(())
+
+    fn add(&self, text: &mut Vec<u8>, field: &mut Vec<u8>, place: usize) -> Result<(), AllocError> {
+        if observation_at(self.surveyed.station(), place).set as usize == self.set {
+            return push_line(text, field, self.surveyed, place, self.first);
+        }
+        Ok(())
+    }
 }
 
-/// Adds the lines of a set, after an empty one.
-fn push_set(
-    text: &mut Vec<u8>,
-    field: &mut Vec<u8>,
-    surveyed: &Surveyed,
-    set: u32,
-) -> Result<(), AllocError>
-    ensures { OnOk result (text.new.items ≡ text.old.items ++ spec.set_text surveyed.now set) }
-{
-    let first = first_value(surveyed.station(), set);
-    text.push(b'\n')?;
-    push_lines(text, field, surveyed, set, first)?;
-    Ok(())
+/// The readings of all sets, each after an empty line.
+#[derive(Drop)]
+struct Readings<'a> {
+    surveyed: &'a Surveyed,
 }
 
-/// Adds the lines of all sets.
-fn push_sets(text: &mut Vec<u8>, field: &mut Vec<u8>, surveyed: &Surveyed) -> Result<(), AllocError>
-    ensures { OnOk result (text.new.items ≡ text.old.items
-        ++ each_place (length surveyed.now.station.sets) (spec.set_text surveyed.now)) }
-{
-    let station = surveyed.station();
-    for set in 0..station.sets().len() {
-        push_set(text, field, surveyed, set as u32)?;
+impl<'a> Lines for Readings<'a> {
+    ghost places = { λ its. length its.surveyed.now.station.sets };
+
+    ghost line = { λ its. spec.set_text its.surveyed.now };
+
+    fn count(&self) -> usize {
+        self.surveyed.station().sets().len()
     }
-    Ok(())
+
+    fn add(&self, text: &mut Vec<u8>, field: &mut Vec<u8>, place: usize) -> Result<(), AllocError> {
+        let readings = SetReadings {
+            surveyed: self.surveyed,
+            set: place,
+            first: first_value(self.surveyed.station(), place),
+        };
+        text.push(b'\n')?;
+        push_lines(text, field, &readings)
+    }
 }
 
 /// Adds the readings, set by set, and what their face differences have together.
@@ -292,7 +277,7 @@ pub(crate) fn push_readings(
     let mut field = Vec::new(alloc);
     push_phrase(text, language, Phrase::Readings)?;
     push_phrase(text, language, Phrase::ReadingColumns)?;
-    push_sets(text, &mut field, surveyed)?;
+    push_lines(text, &mut field, &Readings { surveyed })?;
     push_foot(text, &mut field, language, surveyed)?;
     Ok(())
 }

@@ -1,11 +1,11 @@
 //! The residuals of a report: targets as rows and sets as columns.
-ghost use Rattle.std.specs.Prelude.{◌≡◌, ◌≤◌, ◌<◌, ◌+◌, ◌++◌, OnOk, length, decimal};
-ghost use Rattle.station_report.specs.Columns.{each_place};
+ghost use Rattle.std.specs.Prelude.{◌≡◌, ◌++◌, OnOk, length, decimal};
 ghost use Rattle.station_report.specs.Readings as reading;
 ghost use Rattle.station_report.specs.ReportTexts as spec;
 
 use crate::columns::{push_left, push_right, push_right_number};
 use crate::labels::push_phrase;
+use crate::lines::{Lines, push_lines};
 use crate::place_of::place_of;
 use crate::places::{name_of, number_of, residual_at};
 use adjust_kernel::{LONGEST_NAME, Station};
@@ -41,63 +41,35 @@ fn push_residual(
     }
 }
 
-/// Adds the column of a set, if it is one of seven from one on: the residual of a target.
-fn push_cell(
-    text: &mut Vec<u8>,
-    field: &mut Vec<u8>,
-    station: &Station,
-    rows: &[AdjustedObs],
-    target: usize,
+/// The numbers of seven sets from one on, in their columns.
+#[derive(Drop)]
+struct Numbers<'a> {
+    station: &'a Station,
     start: usize,
-    set: usize,
-) -> Result<(), AllocError>
-    requires { length rows.now ≡ length station.now.obs }
-    ensures { OnOk result (text.new.items ≡ text.old.items
-        ++ spec.column_text start set (spec.cell_text station.now rows.now target set)) }
-{
-    if start <= set && set - start < GROUP {
-        field.clear();
-        push_residual(field, station, rows, target, set)?;
-        return push_right(text, WIDTH, field);
-    }
-    Ok(())
 }
 
-/// Adds the column of a set, if it is one of seven from one on: its number.
-fn push_number(
-    text: &mut Vec<u8>,
-    station: &Station,
-    start: usize,
-    set: usize,
-) -> Result<(), AllocError>
-    requires { set < length station.now.sets }
-    ensures { OnOk result (text.new.items ≡ text.old.items
-        ++ spec.column_text start set (decimal (reading.number_of station.now set))) }
-{
-    if start <= set && set - start < GROUP {
-        return push_right_number(text, WIDTH, number_of(station, set));
-    }
-    Ok(())
-}
+impl<'a> Lines for Numbers<'a> {
+    ghost places = { λ its. length its.station.now.sets };
 
-/// Adds the numbers of seven sets from one on, in their columns.
-fn push_number_columns(
-    text: &mut Vec<u8>,
-    station: &Station,
-    start: usize,
-) -> Result<(), AllocError>
-    ensures { OnOk result (text.new.items ≡ text.old.items
-        ++ spec.number_columns station.now start) }
-{
-    for set in 0..station.sets().len() {
-        push_number(text, station, start, set)?;
+    ghost line = { λ its set. spec.column_text its.start set
+        (decimal (reading.number_of its.station.now set)) };
+
+    fn count(&self) -> usize {
+        self.station.sets().len()
     }
-    Ok(())
+
+    fn add(&self, text: &mut Vec<u8>, field: &mut Vec<u8>, place: usize) -> Result<(), AllocError> {
+        if self.start <= place && place - self.start < GROUP {
+            return push_right_number(text, WIDTH, number_of(self.station, place));
+        }
+        Ok(())
+    }
 }
 
 /// Adds the line of the numbers of seven sets from one on.
 fn push_numbers(
     text: &mut Vec<u8>,
+    field: &mut Vec<u8>,
     language: Language,
     station: &Station,
     start: usize,
@@ -106,68 +78,75 @@ fn push_numbers(
         (text.new.items ≡ text.old.items ++ spec.numbers_line language station.now start) }
 {
     push_phrase(text, language, Phrase::ResidualColumns)?;
-    push_number_columns(text, station, start)?;
+    push_lines(text, field, &Numbers { station, start })?;
     text.extend_from_slice(b"\n\n")?;
     Ok(())
 }
 
-/// Adds the residuals of a target in seven sets from one on, in their columns.
-fn push_cells(
-    text: &mut Vec<u8>,
-    field: &mut Vec<u8>,
-    station: &Station,
-    rows: &[AdjustedObs],
-    start: usize,
-    target: usize,
-) -> Result<(), AllocError>
-    requires { length rows.now ≡ length station.now.obs }
-    ensures { OnOk result (text.new.items ≡ text.old.items
-        ++ spec.cell_columns station.now rows.now start target) }
-{
-    for set in 0..station.sets().len() {
-        push_cell(text, field, station, rows, target, start, set)?;
-    }
-    Ok(())
+/// The residuals of a station.
+#[derive(Clone, Copy, Drop)]
+struct Residuals<'a> {
+    station: &'a Station,
+    rows: &'a [AdjustedObs],
+    ghost each: { length rows.now ≡ length station.now.obs },
 }
 
-/// Adds the line of a target: its residuals in seven sets from one on.
-fn push_line(
-    text: &mut Vec<u8>,
-    field: &mut Vec<u8>,
-    station: &Station,
-    rows: &[AdjustedObs],
+/// The residuals of a target in seven sets from one on, in their columns.
+#[derive(Drop)]
+struct Cells<'a> {
+    of: Residuals<'a>,
     start: usize,
     target: usize,
-) -> Result<(), AllocError>
-    requires each { length rows.now ≡ length station.now.obs }
-    requires target { target < length station.now.targets }
-    ensures { OnOk result (text.new.items ≡ text.old.items
-        ++ spec.residuals_line station.now rows.now start target) }
-{
-    text.extend_from_slice(b"  ")?;
-    push_left(text, LONGEST_NAME, name_of(station, target).bytes())?;
-    push_cells(text, field, station, rows, start, target)?;
-    text.push(b'\n')?;
-    Ok(())
 }
 
-/// Adds the lines of all targets.
-fn push_lines(
-    text: &mut Vec<u8>,
-    field: &mut Vec<u8>,
-    station: &Station,
-    rows: &[AdjustedObs],
-    start: usize,
-) -> Result<(), AllocError>
-    requires { length rows.now ≡ length station.now.obs }
-    ensures { OnOk result (text.new.items ≡ text.old.items
-        ++ each_place (length station.now.targets)
-        (spec.residuals_line station.now rows.now start)) }
-{
-    for target in 0..station.targets().len() {
-        push_line(text, field, station, rows, start, target)?;
+impl<'a> Lines for Cells<'a> {
+    ghost places = { λ its. length its.of.station.now.sets };
+
+    ghost line = { λ its set. spec.column_text its.start set
+        (spec.cell_text its.of.station.now its.of.rows.now its.target set) };
+
+    fn count(&self) -> usize {
+        self.of.station.sets().len()
     }
-    Ok(())
+
+    fn add(&self, text: &mut Vec<u8>, field: &mut Vec<u8>, place: usize) -> Result<(), AllocError> {
+        if self.start <= place && place - self.start < GROUP {
+            field.clear();
+            push_residual(field, self.of.station, self.of.rows, self.target, place)?;
+            return push_right(text, WIDTH, field);
+        }
+        Ok(())
+    }
+}
+
+/// The residuals of all targets in seven sets from one on.
+#[derive(Drop)]
+struct Group<'a> {
+    of: Residuals<'a>,
+    start: usize,
+}
+
+impl<'a> Lines for Group<'a> {
+    ghost places = { λ its. length its.of.station.now.targets };
+
+    ghost line = { λ its. spec.residuals_line its.of.station.now its.of.rows.now its.start };
+
+    fn count(&self) -> usize {
+        self.of.station.targets().len()
+    }
+
+    fn add(&self, text: &mut Vec<u8>, field: &mut Vec<u8>, place: usize) -> Result<(), AllocError> {
+        let cells = Cells {
+            of: self.of,
+            start: self.start,
+            target: place,
+        };
+        text.extend_from_slice(b"  ")?;
+        push_left(text, LONGEST_NAME, name_of(self.of.station, place).bytes())?;
+        push_lines(text, field, &cells)?;
+        text.push(b'\n')?;
+        Ok(())
+    }
 }
 
 /// Adds the residuals of seven sets from one on.
@@ -175,54 +154,40 @@ fn push_group(
     text: &mut Vec<u8>,
     field: &mut Vec<u8>,
     language: Language,
-    station: &Station,
-    rows: &[AdjustedObs],
+    of: Residuals<'_>,
     start: usize,
 ) -> Result<(), AllocError>
-    requires { length rows.now ≡ length station.now.obs }
-    ensures { OnOk result
-        (text.new.items ≡ text.old.items ++ spec.group_text language station.now rows.now start) }
+    ensures { OnOk result (text.new.items
+        ≡ text.old.items
+        ++ spec.group_text language of.entry.station.now of.entry.rows.now start) }
 {
-    push_numbers(text, language, station, start)?;
-    push_lines(text, field, station, rows, start)?;
+    push_numbers(text, field, language, of.station, start)?;
+    push_lines(text, field, &Group { of, start })?;
     Ok(())
 }
 
-/// Adds the residuals of seven sets from one on, if that is a seventh.
-fn push_group_at(
-    text: &mut Vec<u8>,
-    field: &mut Vec<u8>,
+/// The residuals of all sets, seven after the other.
+#[derive(Drop)]
+struct Groups<'a> {
     language: Language,
-    station: &Station,
-    rows: &[AdjustedObs],
-    start: usize,
-) -> Result<(), AllocError>
-    requires { length rows.now ≡ length station.now.obs }
-    ensures { OnOk result
-        (text.new.items ≡ text.old.items ++ spec.group_at language station.now rows.now start) }
-{
-    if start % GROUP == 0 {
-        return push_group(text, field, language, station, rows, start);
-    }
-    Ok(())
+    of: Residuals<'a>,
 }
 
-/// Adds the residuals of all sets, seven after the other.
-fn push_groups(
-    text: &mut Vec<u8>,
-    field: &mut Vec<u8>,
-    language: Language,
-    station: &Station,
-    rows: &[AdjustedObs],
-) -> Result<(), AllocError>
-    requires { length rows.now ≡ length station.now.obs }
-    ensures { OnOk result (text.new.items ≡ text.old.items
-        ++ each_place (length station.now.sets) (spec.group_at language station.now rows.now)) }
-{
-    for start in 0..station.sets().len() {
-        push_group_at(text, field, language, station, rows, start)?;
+impl<'a> Lines for Groups<'a> {
+    ghost places = { λ its. length its.of.station.now.sets };
+
+    ghost line = { λ its. spec.group_at its.language its.of.station.now its.of.rows.now };
+
+    fn count(&self) -> usize {
+        self.of.station.sets().len()
     }
-    Ok(())
+
+    fn add(&self, text: &mut Vec<u8>, field: &mut Vec<u8>, place: usize) -> Result<(), AllocError> {
+        if place % GROUP == 0 {
+            return push_group(text, field, self.language, self.of, place);
+        }
+        Ok(())
+    }
 }
 
 /// Adds the residuals.
@@ -239,6 +204,10 @@ pub(crate) fn push_residuals(
 {
     let mut field = Vec::new(alloc);
     push_phrase(text, language, Phrase::Residuals)?;
-    push_groups(text, &mut field, language, station, rows)?;
+    let groups = Groups {
+        language,
+        of: Residuals { station, rows },
+    };
+    push_lines(text, &mut field, &groups)?;
     Ok(())
 }

@@ -8,6 +8,7 @@ ghost use Rattle.station_report.specs.Zeniths.{zenith_of, zeniths_of};
 
 use crate::columns::{push_left, push_right, push_right_number};
 use crate::labels::push_phrase;
+use crate::lines::{Lines, push_lines};
 use crate::places::{faces_at, name_of, observation_at};
 use crate::readings::zenith_mean;
 use crate::zenith_sums::ZenithSums;
@@ -98,42 +99,28 @@ fn push_numbers(text: &mut Vec<u8>, field: &mut Vec<u8>, sums: ZenithSums) -> Re
     Ok(())
 }
 
-/// Adds the line of a target.
-fn push_target(
-    text: &mut Vec<u8>,
-    field: &mut Vec<u8>,
-    surveyed: &Surveyed,
-    target: usize,
-) -> Result<(), AllocError>
-    requires { target < length surveyed.now.station.targets }
-    ensures { OnOk result
-        (text.new.items ≡ text.old.items ++ spec.zenith_mean_line surveyed.now target) }
-{
-    text.extend_from_slice(b"  ")?;
-    push_left(
-        text,
-        LONGEST_NAME,
-        name_of(surveyed.station(), target).bytes(),
-    )?;
-    push_numbers(text, field, sums_of(surveyed, target))?;
-    Ok(())
+/// The means of the zenith angles of a station's targets.
+#[derive(Drop)]
+struct Means<'a> {
+    surveyed: &'a Surveyed,
 }
 
-/// Adds the lines of all targets.
-fn push_targets(
-    text: &mut Vec<u8>,
-    field: &mut Vec<u8>,
-    surveyed: &Surveyed,
-) -> Result<(), AllocError>
-    ensures { OnOk result (text.new.items ≡ text.old.items
-        ++ each_place (length surveyed.now.station.targets)
-        (spec.zenith_mean_line surveyed.now)) }
-{
-    let station = surveyed.station();
-    for target in 0..station.targets().len() {
-        push_target(text, field, surveyed, target)?;
+impl<'a> Lines for Means<'a> {
+    ghost places = { λ its. length its.surveyed.now.station.targets };
+
+    ghost line = { λ its. spec.zenith_mean_line its.surveyed.now };
+
+    fn count(&self) -> usize {
+        self.surveyed.station().targets().len()
     }
-    Ok(())
+
+    fn add(&self, text: &mut Vec<u8>, field: &mut Vec<u8>, place: usize) -> Result<(), AllocError> {
+        let target = name_of(self.surveyed.station(), place);
+        text.extend_from_slice(b"  ")?;
+        push_left(text, LONGEST_NAME, target.bytes())?;
+        push_numbers(text, field, sums_of(self.surveyed, place))?;
+        Ok(())
+    }
 }
 
 /// Adds the means of zenith angles, target by target.
@@ -148,6 +135,6 @@ pub(crate) fn push_means(
 {
     push_phrase(text, language, Phrase::ZenithMeans)?;
     push_phrase(text, language, Phrase::ZenithMeanColumns)?;
-    push_targets(text, field, surveyed)?;
+    push_lines(text, field, &Means { surveyed })?;
     Ok(())
 }

@@ -1,9 +1,9 @@
 //! The zenith angles of a report.
 ghost use Rattle.std.specs.Prelude.{◌≡◌, ◌<◌, ◌++◌, OnOk, length};
-ghost use Rattle.station_report.specs.Columns.{each_place};
 ghost use Rattle.station_report.specs.ReportTexts as spec;
 
 use crate::labels::push_phrase;
+use crate::lines::{Lines, push_lines};
 use crate::places::{faces_at, observation_at};
 use crate::readings::{push_label, push_mean, push_read, zenith_mean, zenith_one, zenith_two};
 use crate::zenith_means::push_means;
@@ -45,66 +45,53 @@ fn push_line(
     Ok(())
 }
 
-/// Adds the line of an observation if it is of a set.
-fn push_line_of(
-    text: &mut Vec<u8>,
-    field: &mut Vec<u8>,
-    surveyed: &Surveyed,
-    place: usize,
-    set: u32,
-) -> Result<(), AllocError>
-    requires { place < length surveyed.now.station.obs }
-    ensures { OnOk result (text.new.items ≡ text.old.items
-        ++ spec.zenith_line_of surveyed.now set place) }
-{
-    if observation_at(surveyed.station(), place).set == set {
-        return push_line(text, field, surveyed, place);
-    }
-    Ok(())
+/// The zenith angles of a set.
+#[derive(Drop)]
+struct SetZeniths<'a> {
+    surveyed: &'a Surveyed,
+    set: usize,
 }
 
-/// Adds the lines of a set.
-fn push_lines(
-    text: &mut Vec<u8>,
-    field: &mut Vec<u8>,
-    surveyed: &Surveyed,
-    set: u32,
-) -> Result<(), AllocError>
-    ensures { OnOk result (text.new.items ≡ text.old.items
-        ++ each_place (length surveyed.now.station.obs) (spec.zenith_line_of surveyed.now set)) }
-{
-    let station = surveyed.station();
-    for place in 0..station.obs().len() {
-        push_line_of(text, field, surveyed, place, set)?;
+impl<'a> Lines for SetZeniths<'a> {
+    ghost places = { λ its. length its.surveyed.now.station.obs };
+
+    ghost line = { λ its. spec.zenith_line_of its.surveyed.now its.set };
+
+    fn count(&self) -> usize {
+        self.surveyed.station().obs().len()
     }
-    Ok(())
+
+    fn add(&self, text: &mut Vec<u8>, field: &mut Vec<u8>, place: usize) -> Result<(), AllocError> {
+        if observation_at(self.surveyed.station(), place).set as usize == self.set {
+            return push_line(text, field, self.surveyed, place);
+        }
+        Ok(())
+    }
 }
 
-/// Adds the lines of a set, after an empty one.
-fn push_set(
-    text: &mut Vec<u8>,
-    field: &mut Vec<u8>,
-    surveyed: &Surveyed,
-    set: u32,
-) -> Result<(), AllocError>
-    ensures { OnOk result
-        (text.new.items ≡ text.old.items ++ spec.zenith_set_text surveyed.now set) }
-{
-    text.push(b'\n')?;
-    push_lines(text, field, surveyed, set)?;
-    Ok(())
+/// The zenith angles of all sets, each after an empty line.
+#[derive(Drop)]
+struct Zeniths<'a> {
+    surveyed: &'a Surveyed,
 }
 
-/// Adds the lines of all sets.
-fn push_sets(text: &mut Vec<u8>, field: &mut Vec<u8>, surveyed: &Surveyed) -> Result<(), AllocError>
-    ensures { OnOk result (text.new.items ≡ text.old.items
-        ++ each_place (length surveyed.now.station.sets) (spec.zenith_set_text surveyed.now)) }
-{
-    let station = surveyed.station();
-    for set in 0..station.sets().len() {
-        push_set(text, field, surveyed, set as u32)?;
+impl<'a> Lines for Zeniths<'a> {
+    ghost places = { λ its. length its.surveyed.now.station.sets };
+
+    ghost line = { λ its. spec.zenith_set_text its.surveyed.now };
+
+    fn count(&self) -> usize {
+        self.surveyed.station().sets().len()
     }
-    Ok(())
+
+    fn add(&self, text: &mut Vec<u8>, field: &mut Vec<u8>, place: usize) -> Result<(), AllocError> {
+        let zeniths = SetZeniths {
+            surveyed: self.surveyed,
+            set: place,
+        };
+        text.push(b'\n')?;
+        push_lines(text, field, &zeniths)
+    }
 }
 
 /// Adds the zenith angles, set by set, and their means by target.
@@ -120,7 +107,7 @@ pub(crate) fn push_zenith_angles(
     let mut field = Vec::new(alloc);
     push_phrase(text, language, Phrase::ZenithAngles)?;
     push_phrase(text, language, Phrase::ZenithColumns)?;
-    push_sets(text, &mut field, surveyed)?;
+    push_lines(text, &mut field, &Zeniths { surveyed })?;
     push_means(text, &mut field, language, surveyed)?;
     Ok(())
 }

@@ -12,9 +12,9 @@ returns c =
     let station = c.args.station.now in
     let old = c.args.text.now.items in
     let label = said c.args.language phrase.MissingDirections in
-    two old c.push_counted.new.text.items c.push_gap_lines.new.text.items
+    two old c.push_counted.new.text.items c.push_lines.new.text.items
     (entry_text label (decimal (gaps_of station)))
     (each_place (length station.targets) (gaps_at c.args.language station))
     (c.in_ok-push_counted.ensures
     ∙ ap (λ (n : ℕ). old ++ entry_text label (decimal n)) c.gaps_of.ensures)
-    c.in_ok-push_gap_lines.ensures
+    c.in_ok-push_lines.ensures

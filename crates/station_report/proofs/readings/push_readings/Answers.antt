@@ -12,8 +12,8 @@ returns c =
     let language = c.args.language in
     let sets = each_place (length its.station.sets) (set_text its) in
     let foot = foot_text language its in
-    let last = two c.push_phrase-2.new.text.items c.push_sets.new.text.items
-    c.push_foot.new.text.items sets foot c.in_ok-push_sets.ensures c.in_ok-push_foot.ensures in
+    let last = two c.push_phrase-2.new.text.items c.push_lines.new.text.items
+    c.push_foot.new.text.items sets foot c.in_ok-push_lines.ensures c.in_ok-push_foot.ensures in
     three c.args.text.now.items c.push_phrase.new.text.items c.push_phrase-2.new.text.items
     c.push_foot.new.text.items (said language phrase.Readings)
     (said language phrase.ReadingColumns) (sets ++ foot)

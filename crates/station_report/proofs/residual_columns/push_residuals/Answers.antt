@@ -8,8 +8,8 @@ use Rattle.station_report.proofs.residual_columns.push_residuals.Goals as goal
 
 pub returns : goal.returns
 returns c =
-    two c.args.text.now.items c.push_phrase.new.text.items c.push_groups.new.text.items
+    two c.args.text.now.items c.push_phrase.new.text.items c.push_lines.new.text.items
     (said c.args.language phrase.Residuals)
     (each_place (length c.args.station.now.sets)
     (group_at c.args.language c.args.station.now c.args.rows.now))
-    c.in_ok-push_phrase.ensures.added c.in_ok-push_groups.ensures
+    c.in_ok-push_phrase.ensures.added c.in_ok-push_lines.ensures

@@ -11,9 +11,9 @@ returns c =
     let its = c.args.surveyed.now in
     let language = c.args.language in
     three c.args.text.now.items c.push_phrase.new.text.items
-    c.push_phrase-2.new.text.items c.push_targets.new.text.items
+    c.push_phrase-2.new.text.items c.push_lines.new.text.items
     (said language phrase.ZenithMeans)
     (said language phrase.ZenithMeanColumns)
     (each_place (length its.station.targets) (zenith_mean_line its))
     c.in_ok-push_phrase.ensures.added c.in_ok-push_phrase-2.ensures.added
-    c.in_ok-push_targets.ensures
+    c.in_ok-push_lines.ensures

@@ -12,8 +12,8 @@ returns c =
     let language = c.args.language in
     let sets = each_place (length its.station.sets) (zenith_set_text its) in
     let titles = said language phrase.ZenithColumns in
-    let last = two c.push_phrase-2.new.text.items c.push_sets.new.text.items
-    c.push_means.new.text.items sets (zenith_means_text language its) c.in_ok-push_sets.ensures
+    let last = two c.push_phrase-2.new.text.items c.push_lines.new.text.items
+    c.push_means.new.text.items sets (zenith_means_text language its) c.in_ok-push_lines.ensures
     c.in_ok-push_means.ensures in
     two c.args.text.now.items c.push_phrase.new.text.items c.push_means.new.text.items
     (said language phrase.ZenithAngles)
