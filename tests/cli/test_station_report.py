@@ -15,7 +15,7 @@ import model
 from against_model import AgainstModel, Case
 from generated import SEED, changed_table, station_to_adjust
 from program import EXAMPLE, SWEEP, ProgramTest, Run, answer_of
-from test_directions import FAULTS, one_set
+from test_directions import FAULTS, both_faces, one_set
 from test_means import largest
 from worked import (
     REPORT,
@@ -450,6 +450,17 @@ class ReportTest(ProgramTest):
                 self.assertNotRegex(printed, rb"[^\n\x20-\x7e]")
             shown.add(printed)
         self.assertEqual(126, len(shown))
+
+    def test_titles_do_not_end_a_page(self):
+        """The third page would end with the titles of the second group of residuals, of 15 sets; the
+        second with those above the only direction of one target."""
+        for names, sets, lines in [("ABC", 15, [60, 60, 59, 22]), ("A", 21, [60, 54, 18])]:
+            readings = [both_faces(name, 4_000_000 * place) for place, name in enumerate(names)]
+            file = field_file({of_set: readings for of_set in range(1, sets + 1)})
+            pages = self.report_of(file, "--pages").split(b"\f")
+            self.assertEqual(lines, [page.count(b"\n") for page in pages])
+            for page in pages:
+                self.assertFalse(page.rstrip(b"\n").splitlines()[-1].startswith(b"  Target"))
 
     def test_the_largest_station(self):
         _, sets, *_ = largest()

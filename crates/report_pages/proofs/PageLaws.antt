@@ -4,13 +4,12 @@ use Rattle.std.proofs.Common.{◌++◌, ap, append_assoc, arith, length, refl, s
 use Rattle.std.proofs.Common.{map, nat_lt, take, Bor, Some, None}
 use Rattle.std.proofs.lemmas.List.{append-nil, length-append, length-take}
 use Rattle.std.proofs.lemmas.List.Elements.{All-nil, All-cons}
-use Rattle.std.specs.Prelude.{◌==◌, ◌&&◌, ◌||◌, cond, if◌then◌else◌}
+use Rattle.std.specs.Prelude.{◌==◌, ◌&&◌, ◌||◌, cond, if◌then◌else◌, nat_le}
 use Rattle.std.specs.List.{All, concat, flat_map, onto_first}
-use Rattle.report_pages.specs.Lines.{lines, is_empty}
-use Rattle.report_pages.specs.Pages.{Pages, begins_page, begins_section, down_to, head}
+use Rattle.report_pages.specs.Lines.{begins_empty, lines, is_empty}
+use Rattle.report_pages.specs.Pages.{Pages, begins_page, down_to, fewest_from, head}
 use Rattle.report_pages.specs.Pages.{left_after, on_pages}
 use Rattle.report_pages.specs.Pages.{repeated, with_line}
-use Rattle.report_pages.specs.declared.pages.TheConstants.{LINES_OF_SECTION}
 use Rattle.report_pages.specs.declared.head.TheConstants.{LINES_OF_HEAD}
 use Rattle.report_pages.specs.declared.lines.TheConstants.{LINE_FEED}
 
@@ -29,7 +28,7 @@ pub all_of : (room left : ℕ) (after : Bool) (ls : List (List ℕ))
     → all_lines (on_pages room left after ls) ≡ ls
 all_of room left after [] = refl
 all_of room left after (line ∷ more) =
-    let begins = begins_page left after line (length (line ∷ more)) in
+    let begins = begins_page left after line more in
     all_with begins line (on_pages room (left_after begins room left) (is_empty line) more)
     ∙ ap (λ (ls : List (List ℕ)). line ∷ ls)
     (all_of room (left_after begins room left) (is_empty line) more)
@@ -53,17 +52,16 @@ concat-lines (byte ∷ text) =
     ∙ ap (λ (t : List ℕ). byte ∷ t) (concat-lines text)
 
 -- Where all lines to come have room, no page begins.
-none_begins : (left : ℕ) (after : Bool) (line : List ℕ) (n : ℕ) → n ≤ left → 1 ≤ left
-    → begins_page left after line n ≡ false
-none_begins left after line n h some =
+none_begins : (left : ℕ) (after : Bool) (line : List ℕ) (more : List (List ℕ))
+    → length more + 1 ≤ left → begins_page left after line more ≡ false
+none_begins left after line more h =
     let any_left : (left == 0) ≡ false = grind arith in
-    let room : nat_lt left n ≡ false = grind arith in
-    rw (any_left, room) (by_parts (begins_section after line) (nat_lt left LINES_OF_SECTION))
+    let room : nat_le left (length more) ≡ false = grind arith in
+    rw (any_left, room) (by_few (nat_lt left (fewest_from after line (begins_empty more))))
   where
-    by_parts : (s t : Bool) → (false || (s && (t && false))) ≡ false
-    by_parts true true = refl
-    by_parts true false = refl
-    by_parts false t = refl
+    by_few : (few : Bool) → (false || (few && false)) ≡ false
+    by_few true = refl
+    by_few false = refl
 
 -- Lines that have room stand on the one page.
 pub one_page : (room left : ℕ) (after : Bool) (ls : List (List ℕ)) → length ls ≤ left
@@ -72,14 +70,14 @@ one_page room left after [] h = refl
 one_page room left after (line ∷ more) h =
     ap (λ (b : Bool). with_line b line
     (on_pages room (left_after b room left) (is_empty line) more))
-    (none_begins left after line (length (line ∷ more)) h (omega (arith, h)))
+    (none_begins left after line more (omega (arith, h)))
     ∙ ap (with_line false line)
     (one_page room (left - 1) (is_empty line) more (omega (arith, h)))
 
 -- A page begins where no line is left.
-some_left : (left : ℕ) (after : Bool) (line : List ℕ) (n : ℕ)
-    → begins_page left after line n ≡ false → 1 ≤ left
-some_left left after line n = by_none (left == 0) _ refl
+some_left : (left : ℕ) (after : Bool) (line : List ℕ) (more : List (List ℕ))
+    → begins_page left after line more ≡ false → 1 ≤ left
+some_left left after line more = by_none (left == 0) _ refl
   where
     by_none : (none t : Bool) → (left == 0) ≡ none → (none || t) ≡ false → 1 ≤ left
     by_none true t is e = absurd (omega (arith, ap {B = ℕ} (λ (b : Bool). if b then 1 else 0) e))
@@ -97,11 +95,10 @@ pub first_fits : (room left : ℕ) (after : Bool) (ls : List (List ℕ))
     → length (on_pages room left after ls).first ≤ left
 first_fits room left after [] = omega arith
 first_fits room left after (line ∷ more) =
-    let n = length (line ∷ more) in
-    let begins = begins_page left after line n in
+    let begins = begins_page left after line more in
     first_with begins room left line
     (on_pages room (left_after begins room left) (is_empty line) more)
-    (some_left left after line n)
+    (some_left left after line more)
     (first_fits room (left_after begins room left) (is_empty line) more)
 
 -- So do the further ones, with one line more.
@@ -119,7 +116,7 @@ pub further_fit : (room left : ℕ) (after : Bool) (ls : List (List ℕ)) → 1 
     → All (λ (page : List (List ℕ)). length page ≤ room) (on_pages room left after ls).further
 further_fit room left after [] some = All-nil (λ (page : List (List ℕ)). length page ≤ room)
 further_fit room left after (line ∷ more) some =
-    let begins = begins_page left after line (length (line ∷ more)) in
+    let begins = begins_page left after line more in
     let next = left_after begins room left in
     further_with begins room left line (on_pages room next (is_empty line) more) some
     (first_fits room next (is_empty line) more) (further_fit room next (is_empty line) more some)

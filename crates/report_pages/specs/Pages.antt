@@ -2,13 +2,13 @@
 -- head of the report down to the line of its station, and an empty line.
 use Rattle.std.specs.Prelude.{ℕ, ◌+◌, ◌-◌, ◌==◌, Bool, true, false, ◌&&◌, ◌||◌, not, nat_lt, nat_eq}
 use Rattle.std.specs.Prelude.{List, [], ◌∷◌, ◌++◌, length, take, if◌then◌else◌}
-use Rattle.std.specs.Prelude.{Option, Some, None}
+use Rattle.std.specs.Prelude.{nat_le, Option, Some, None}
 use Rattle.std.specs.List.{concat, flat_map, position, slice_split, starts_with}
-use Rattle.report_pages.specs.Lines.{first_byte, is_empty, lines}
+use Rattle.report_pages.specs.Lines.{begins_empty, first_byte, is_empty, lines}
 use Rattle.report_pages.specs.declared.lines.TheConstants.{BLANK, LINE_FEED}
 use Rattle.report_pages.specs.declared.head.TheConstants.{LINES_OF_HEAD}
 use Rattle.report_pages.specs.declared.pages.TheConstants.{FORM_FEED, LINES_OF_PAGE}
-use Rattle.report_pages.specs.declared.pages.TheConstants.{LINES_OF_SECTION}
+use Rattle.report_pages.specs.declared.pages.TheConstants.{LINES_OF_COLUMNS, LINES_OF_SECTION}
 
 -- the lines down to one of a place; none where there is no place
 abbrev pub down_to : Option ℕ → List (List ℕ) → List (List ℕ)
@@ -31,13 +31,23 @@ abbrev pub begins_section : Bool → List ℕ → Bool
 begins_section after_empty line =
     after_empty && (not (is_empty line) && not (first_byte line == BLANK))
 
--- Whether a page begins at a line, where so many lines are left on the page before and so many are
--- still to come: no line is left, or a section begins here of which too few lines would stand
--- there, and the report does not end there.
-abbrev pub begins_page : ℕ → Bool → List ℕ → ℕ → Bool
-begins_page left after_empty line to_come =
+-- A line between two empty ones stands alone, as the titles of columns do above their rows.
+abbrev pub stands_alone : Bool → List ℕ → Bool → Bool
+stands_alone after_empty line before_empty = after_empty && (not (is_empty line) && before_empty)
+
+-- The fewest lines that stand on a page from a line on, if so many are still to come: of a title
+-- and of titles of columns so many that a row is among them.
+abbrev pub fewest_from : Bool → List ℕ → Bool → ℕ
+fewest_from after_empty line before_empty =
+    if begins_section after_empty line then LINES_OF_SECTION
+    else (if stands_alone after_empty line before_empty then LINES_OF_COLUMNS else 1)
+
+-- Whether a page begins at a line before these, where so many lines are left on the page before: no
+-- line is left, or too few would stand there, and the report does not end there.
+abbrev pub begins_page : ℕ → Bool → List ℕ → List (List ℕ) → Bool
+begins_page left after_empty line more =
     (left == 0)
-    || (begins_section after_empty line && (nat_lt left LINES_OF_SECTION && nat_lt left to_come))
+    || (nat_lt left (fewest_from after_empty line (begins_empty more)) && nat_le left (length more))
 
 -- The lines of a page that has begun, and those of each further one.
 pub record Pages : Type 0 where
@@ -58,9 +68,8 @@ left_after begins room left = (if begins then room else left) - 1
 abbrev pub on_pages : ℕ → ℕ → Bool → List (List ℕ) → Pages
 on_pages room left after_empty [] = record { first = []; further = [] }
 on_pages room left after_empty (line ∷ more) =
-    with_line (begins_page left after_empty line (length (line ∷ more))) line
-    (on_pages room
-    (left_after (begins_page left after_empty line (length (line ∷ more))) room left)
+    with_line (begins_page left after_empty line more) line
+    (on_pages room (left_after (begins_page left after_empty line more) room left)
     (is_empty line) more)
 
 -- The text of pages, each further one of which begins with this.

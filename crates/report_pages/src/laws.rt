@@ -8,12 +8,14 @@ ghost use Rattle.report_pages.specs.Pages.{head, pages_of, repeated, report_on_p
 ghost use Rattle.report_pages.specs.declared.head.TheConstants.{LINES_OF_HEAD};
 ghost use Rattle.report_pages.specs.declared.lines.TheConstants.{BLANK, LINE_FEED};
 ghost use Rattle.report_pages.specs.declared.pages.TheConstants.{FORM_FEED, LINES_OF_PAGE};
+ghost use Rattle.report_pages.specs.declared.pages.TheConstants.{LINES_OF_COLUMNS};
 ghost use Rattle.report_pages.specs.declared.pages.TheConstants.{LINES_OF_SECTION};
 
 /// What definitions cite, in digits.
 pub fn limits()
     ensures page { LINES_OF_PAGE ≡ 60 }
-    ensures section { LINES_OF_SECTION ≡ 6 }
+    ensures section { LINES_OF_SECTION ≡ 8 }
+    ensures columns { LINES_OF_COLUMNS ≡ 3 }
     ensures head { LINES_OF_HEAD ≡ 9 }
     ensures form_feed { FORM_FEED ≡ 12 }
     ensures line_feed { LINE_FEED ≡ 10 }

@@ -46,6 +46,16 @@ pub(crate) fn is_empty(line: &[u8]) -> bool
     first_byte(line) == LINE_FEED
 }
 
+/// Whether the first of these lines is empty.
+pub(crate) fn begins_empty(lines: &[&[u8]]) -> bool
+    ensures { result ≡ spec.begins_empty (map (λ line. line.now) lines.now) }
+{
+    match lines.first() {
+        Some(line) => is_empty(line),
+        None => false,
+    }
+}
+
 /// Whether a line begins with a blank.
 pub(crate) fn begins_with_blank(line: &[u8]) -> bool
     ensures { result ≡ (spec.first_byte line.now == BLANK) }

@@ -6,7 +6,7 @@ ghost use Rattle.std.specs.List.{concat, slice_split};
 ghost use Rattle.report_pages.specs.Pages as spec;
 
 use crate::head::{head_of, push_repeated, repeated_lines};
-use crate::lines::{begins_with_blank, is_empty, line_at, lines_of};
+use crate::lines::{begins_empty, begins_with_blank, is_empty, line_at, lines_of};
 use std::alloc::{AllocError, Global};
 
 /// What a page begins with, but for the first.
@@ -15,9 +15,13 @@ const FORM_FEED: u8 = 0x0C;
 /// The most lines of a page: A4 has some 66, and a printer leaves a margin.
 const LINES_OF_PAGE: usize = 60;
 
-/// The fewest lines of a section at the foot of a page: the two of its title, the titles of its
-/// columns, a row, and the empty lines between them.
-const LINES_OF_SECTION: usize = 6;
+/// The fewest lines of a section at the foot of a page: the two of its title, an empty one, the
+/// titles of its columns, an empty one, and as many as from those titles on, since a row may stand
+/// alone too.
+const LINES_OF_SECTION: usize = 8;
+
+/// The fewest lines from the titles of columns on: they, an empty one and a row.
+const LINES_OF_COLUMNS: usize = 3;
 
 /// Whether a line begins a section.
 fn begins_section(after_empty: bool, line: &[u8]) -> bool
@@ -26,12 +30,32 @@ fn begins_section(after_empty: bool, line: &[u8]) -> bool
     after_empty && !is_empty(line) && !begins_with_blank(line)
 }
 
-/// Whether a page begins at a line, where so many lines are left on the page before and so many are
-/// still to come.
-fn begins_page(left: usize, after_empty: bool, line: &[u8], to_come: usize) -> bool
-    ensures { result ≡ spec.begins_page left after_empty line.now to_come }
+/// Whether a line stands alone between empty ones.
+fn stands_alone(after_empty: bool, line: &[u8], before_empty: bool) -> bool
+    ensures { result ≡ spec.stands_alone after_empty line.now before_empty }
 {
-    left == 0 || begins_section(after_empty, line) && left < LINES_OF_SECTION && left < to_come
+    after_empty && !is_empty(line) && before_empty
+}
+
+/// The fewest lines that stand on a page from a line on, if so many are still to come.
+fn fewest_from(after_empty: bool, line: &[u8], before_empty: bool) -> usize
+    ensures { result ≡ spec.fewest_from after_empty line.now before_empty }
+{
+    if begins_section(after_empty, line) {
+        LINES_OF_SECTION
+    } else if stands_alone(after_empty, line, before_empty) {
+        LINES_OF_COLUMNS
+    } else {
+        1
+    }
+}
+
+/// Whether a page begins at a line before these, where so many lines are left on the page before.
+fn begins_page(left: usize, after_empty: bool, line: &[u8], more: &[&[u8]]) -> bool
+    ensures { result
+        ≡ spec.begins_page left after_empty line.now (map (λ line. line.now) more.now) }
+{
+    left == 0 || left < fewest_from(after_empty, line, begins_empty(more)) && left <= more.len()
 }
 
 /// How many lines are left on a page after a line.
@@ -69,7 +93,7 @@ fn push_pages(
     let mut after_empty = false;
     'lines: for place in 0..lines.len() {
         let line = line_at(lines, place);
-        let begins = begins_page(left, after_empty, line, lines.len() - place);
+        let begins = begins_page(left, after_empty, line, &lines[place + 1..]);
         push_line(pages, line, start, begins)?;
         left = left_after(begins, room, left);
         after_empty = is_empty(line);
