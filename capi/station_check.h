@@ -109,15 +109,20 @@ uint8_t station_check_differences(const void *gsi, size_t gsi_length,
 /* All of a table beside its station, of one reading of each file and one adjustment. Before each part
  * stands a line of its title, a blank, and how many bytes it has: "line", what station_check_compare
  * hands out; "verdict", the same as a row of data below its titles; and where the table was compared,
- * "differences", what station_check_differences hands out, and "report", the report with the table.
- * That names the field file by `path` and the table by `table_path`. `within` is that of
- * station_check_compare. The row has these fields, of which those that are of no use are empty:
+ * "columns", the numbers of its note as such a row, "differences", what station_check_differences
+ * hands out, and "report", the report with the table. That names the field file by `path` and the
+ * table by `table_path`. `within` is that of station_check_compare. The row of the verdict has these
+ * fields, of which those that are of no use are empty:
  *   verdict               "agrees", or the name of the fault, which is Apart where the table is apart
  *   sets, targets         how many the station has, where the table agrees
  *   apart, limit          how far the table is apart, and the limit in force, in units of 0.001 mgon
  *   greatest              the greatest residual in these units, where the table agrees
  *   place, first, second  of which "row" or "columns" of the table, "target" or "observation" of the
  *                         station, or "block" of the field file the fault speaks, from 1
+ * That of the columns, which is left out where the table was read as two, has:
+ *   names, directions     the columns of both, from 1
+ *   before, among, after  how many rows were passed over before, among and after those of targets
+ *   units                 how many units were passed over
  * The status is 0 where the table agrees, else 1, and 3 if the text or the note has too little
  * room. */
 uint8_t station_check_table(const void *gsi, size_t gsi_length,

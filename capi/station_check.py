@@ -256,12 +256,26 @@ class Place(NamedTuple):
     meant_end: int | None
 
 
+class Columns(NamedTuple):
+    """The columns of names and of directions, from 1, by which a table was read, and what was passed
+    over: rows before, among and after those of targets, and units."""
+
+    names: int
+    directions: int
+    before: int
+    among: int
+    after: int
+    units: int
+
+
 class Table(NamedTuple):
     """All of a table that was compared: the line of the agreement, or that it is apart, the verdict
-    in numbers, the text of `differences`, the report with the table, and the table's note."""
+    in numbers, the columns, which are None where it was read as two, the text of `differences`, the
+    report with the table, and the table's note."""
 
     line: str
     verdict: Verdict
+    columns: Columns | None
     differences: str
     report: str
     note: str
@@ -360,8 +374,8 @@ def table(
     line = parts["line"].removesuffix("\n")
     if "report" not in parts:
         raise Refused(line)
-    verdict, note = _verdict(parts["verdict"]), _line(reply.beside)
-    return Table(line, verdict, parts["differences"], parts["report"], note)
+    verdict, columns = _verdict(parts["verdict"]), _columns(parts["columns"])
+    return Table(line, verdict, columns, parts["differences"], parts["report"], _line(reply.beside))
 
 
 def directions(
@@ -580,6 +594,12 @@ def _verdict(text: str) -> Verdict:
     apart, limit = (Decimal(row[title]).scaleb(-3) for title in ("apart", "limit"))
     greatest = Decimal(row["greatest"]).scaleb(-3) if row["greatest"] else None
     return Verdict(row["verdict"] == "agrees", apart, limit, greatest)
+
+
+def _columns(text: str) -> Columns | None:
+    """The columns of a row, where there is one."""
+    _, *rows = csv.reader(text.splitlines())
+    return Columns(*map(int, rows[0])) if rows else None
 
 
 def _observations(text: str) -> Iterator[Observation]:

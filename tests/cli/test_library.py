@@ -708,7 +708,10 @@ class LibraryTest(ProgramTest):
             self.assertEqual(verdict, tuple(map(str, whole.verdict)))
             self.assertEqual(answer_of(["differences", GSI, "P7", path])[1].decode(), whole.differences)
             self.assertEqual(answer_of(["report", f"--table={path}", GSI, "P7"])[1].decode(), whole.report)
-            self.assertEqual("", whole.note)
+            self.assertEqual((None, ""), (whole.columns, whole.note))
+        by_columns = b"".join(b"%d,%s" % row for row in enumerate(table.splitlines(keepends=True)))
+        whole = self.module.table(gsi, "P7", by_columns, str(GSI), "", columns=(2, 3))
+        self.assertEqual((2, 3, 0, 0, 0, 0), whole.columns)
         with self.assertRaisesRegex(self.module.Refused, "^refused: table row 1: Fields$"):
             self.module.table(gsi, "P7", b"P3\n", "", "")
 

@@ -793,9 +793,10 @@ class PageCallsTest(TimedTest):
         self.assertEqual({0, 1}, found)
 
     def test_all_of_a_table_has_the_texts_that_are_handed_out_alone(self):
-        """Of each case of a comparison; the row of the verdict has what its line says."""
+        """Of each case of a comparison; the row of the verdict has what its line says, and that of the
+        columns what the note says."""
         cases = [case for case in cases_of_page() if case.args[:1] == ["compare"]]
-        found = set()
+        found, rows = set(), set()
         for case in cases:
             command, *words = case.args
             words = [case.folder / word if (case.folder / word).is_file() else word for word in words]
@@ -811,9 +812,13 @@ class PageCallsTest(TimedTest):
                 found.add(row["verdict"])
                 self.assertEqual(row_in(line.decode()), row)
                 if "differences" in parts:
+                    self.assertEqual(["line", "verdict", "columns", "differences", "report"], [*parts])
+                    rows.add(parts["columns"].count(b"\n"))
+                    self.assertEqual(model.columns_rows(note), parts["columns"])
                     self.assertEqual(differences, parts["differences"])
                     self.assertIn(b"\nComparison            ", parts["report"])
         self.assertLessEqual({"agrees", "Apart", "Columns", "Missing", "Residual"}, found)
+        self.assertEqual({1, 2}, rows)
 
     @unittest.skipUnless(PROGRAM.exists(), "the program is not built")
     def test_changed_files_have_the_answers_of_the_program(self):

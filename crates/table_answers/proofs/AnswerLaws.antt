@@ -1,5 +1,5 @@
 -- What is answered of a station and a table is one.
-use Rattle.std.proofs.Common.{◌≡◌, ◌⊎◌, ℕ, List, Result, Ok, Err, ap, inl, inr, sym, subst, ◌∙◌}
+use Rattle.std.proofs.Common.{◌≡◌, ℕ, List, Result, Ok, Err, ap, inl, inr, sym, subst, ◌∙◌}
 use Rattle.std.specs.Prelude.{⊤}
 use Rattle.byte_ends.specs.Input.{BrokeOff, Ended, Input, RanPast, input_within}
 use Rattle.byte_ends.specs.Source.{Told}

@@ -1,6 +1,6 @@
 -- From what is said of a station and a table's input to what is answered, and how the readers are
 -- left.
-use Rattle.std.proofs.Common.{◌≡◌, inl, inr, ℕ, List, Some, None, Result, Ok, Err, refl, subst, sym}
+use Rattle.std.proofs.Common.{◌≡◌, inl, inr, ℕ, List, Some, Result, Ok, Err, refl, subst, sym}
 use Rattle.std.specs.Prelude.{MatchResult, OnOk}
 use Rattle.byte_ends.proofs.Coming.{given_as_told, some_left}
 use Rattle.byte_ends.specs.Came.{IsReadOut, Leaves}

@@ -6,3 +6,4 @@ pub mod OtherUnits
 pub mod OneNote
 pub mod ComparedBy
 pub mod PartTables
+pub mod ColumnNotes

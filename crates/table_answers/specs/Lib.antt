@@ -10,6 +10,7 @@ pub mod Telling
 pub mod Runs
 pub mod Comparisons
 pub mod VerdictRows
+pub mod ColumnRows
 pub mod Wholes
 pub mod WholeParts
 -- The inside.

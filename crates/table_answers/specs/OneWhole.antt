@@ -5,6 +5,7 @@ use Rattle.station_book.specs.declared.result_limits.ResultLimits.{ResultLimits}
 use Rattle.row_forms.specs.declared.form.RowForm.TheVariants.{Commas}
 use Rattle.station_differences.proofs.TextLaws.{one_text}
 use Rattle.station_differences.specs.DifferenceTexts.{differences_text}
+use Rattle.table_answers.specs.ColumnRows.{table_columns}
 use Rattle.table_answers.specs.OneCompared.{one_compared}
 use Rattle.table_answers.specs.Wholes.{IsWhole, WholeValue, beyond_in, whole_text}
 use Rattle.table_report.proofs.OneReport.{one_of_table}
@@ -25,5 +26,7 @@ one_whole asked limits its bytes a b p q =
     (record { text = q.report; beyond = beyond_in b.compared }) p.is_report q.is_report in
     let report : p.report ≡ q.report = ap (λ (r : ReportValue). r.text) reports in
     let text : a.text ≡ b.text =
-    p.text_is ∙ (λ i. whole_text (compared i) (differences i) (report i)) ∙ sym q.text_is in
+    p.text_is ∙ (λ i. whole_text (compared i)
+    (table_columns asked.form its.station.targets bytes) (differences i) (report i))
+    ∙ sym q.text_is in
     (λ i. record { compared = compared i; text = text i })

@@ -11,6 +11,7 @@ use Rattle.station_compare.specs.declared.fault.CompareFault.{CompareFault}
 use Rattle.station_compare.specs.declared.how_far.HowFar.{HowFar}
 use Rattle.row_forms.specs.declared.form.RowForm.TheVariants.{Commas}
 use Rattle.station_differences.specs.Stating.{IsDifferencesText}
+use Rattle.table_answers.specs.ColumnRows.{table_columns}
 use Rattle.table_answers.specs.Comparisons.{SaysComparison, verdict}
 use Rattle.table_answers.specs.Printing.{PrintsVerdict}
 use Rattle.table_answers.specs.VerdictRows.{verdict_rows}
@@ -34,11 +35,14 @@ abbrev pub verdict_parts : Result Agreement CompareFault → List ℕ
 verdict_parts v =
     part_text (codes "line") (verdict_line v) ++ part_text (codes "verdict") (verdict_rows v)
 
--- the parts of a table that was compared: those of its verdict, its differences, and the report
-abbrev pub whole_text : Compared → List ℕ → List ℕ → List ℕ
-whole_text compared differences report =
+-- the parts of a table that was compared: those of its verdict, the columns by which it was read,
+-- its differences, and the report
+abbrev pub whole_text : Compared → List ℕ → List ℕ → List ℕ → List ℕ
+whole_text compared columns differences report =
     verdict_parts (verdict compared)
-    ++ (part_text (codes "differences") differences ++ part_text (codes "report") report)
+    ++ (part_text (codes "columns") columns
+    ++ (part_text (codes "differences") differences
+    ++ part_text (codes "report") report))
 
 -- A table that was compared, and the text of its parts.
 pub record WholeValue : Type 0 where
@@ -54,7 +58,8 @@ abbrev pub PrintsWhole : {A : Type 0} → WholeValue → Result A CompareFault �
 PrintsWhole whole r out = PrintsVerdict whole.text (beyond_in whole.compared) r out
 
 -- These are the parts of a station and the bytes of a table, as the report is asked for: the
--- comparison, the differences, and the report, which says the same of how far the table is apart.
+-- comparison, the columns by which the bytes are read, the differences, and the report, which says
+-- the same of how far the table is apart.
 pub record IsWhole (asked : ReportAsked) (limits : ResultLimits) (its : SurveyedStation)
     (bytes : List ℕ) (whole : WholeValue) : Type 0 where
   pub compares : SaysComparison asked.form asked.within limits its bytes whole.compared
@@ -63,4 +68,5 @@ pub record IsWhole (asked : ReportAsked) (limits : ResultLimits) (its : Surveyed
   pub report : List ℕ
   pub is_report : IsReportOfTable asked limits its bytes
       (record { text = report; beyond = beyond_in whole.compared })
-  pub text_is : whole.text ≡ whole_text whole.compared differences report
+  pub text_is : whole.text ≡ whole_text whole.compared
+      (table_columns asked.form its.station.targets bytes) differences report

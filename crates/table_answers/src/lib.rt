@@ -11,6 +11,7 @@
 
 mod answer;
 mod answering;
+mod columns_row;
 mod compared;
 mod comparison;
 mod differences;

@@ -1,12 +1,14 @@
 //! All that is answered of a table beside its station, as one answer.
-ghost use Rattle.std.specs.Prelude.{◌≡◌, ◌≤◌, ◌++◌, Err, IfOk, codes, decimal, length, map};
+ghost use Rattle.std.specs.Prelude.{◌≡◌, ◌≤◌, ◌++◌, Err, IfOk, OnOk, codes, decimal, length, map};
 ghost use Rattle.adjust_kernel.specs.declared.bounds.TheConstants.{LARGEST_RESIDUAL_LIMIT};
 ghost use Rattle.byte_ends.specs.Writers.{writer_change};
+ghost use Rattle.direction_table.specs.TableNotes.{told_note};
 ghost use Rattle.exact_adjustment.specs.Exact.{IsExact, KeepsLimit};
 ghost use Rattle.exact_adjustment.specs.LeastOf.{AreTied};
 ghost use Rattle.row_forms.specs.declared.form.RowForm.TheVariants.{Commas};
 ghost use Rattle.station_differences.specs.DifferenceTexts.{differences_text};
 ghost use Rattle.station_differences.specs.declared.line.TargetLine.TheVariants.{Compared as InLine};
+ghost use Rattle.table_answers.specs.ColumnRows.{columns_rows as rows_of_note};
 ghost use Rattle.table_answers.specs.Comparisons.{IsComparedBy};
 ghost use Rattle.table_answers.specs.OneFault.{never_refused, one_refused, refused_of_bytes};
 ghost use Rattle.table_answers.specs.OneCompared.{comparable};
@@ -20,6 +22,7 @@ ghost use Rattle.table_report.specs.Stating.{beyond_of};
 ghost use Rattle.table_report.specs.Values.{asked_of};
 
 use crate::answer::TableAnswer;
+use crate::columns_row::columns_rows;
 use crate::compared::Compared;
 use crate::comparison::compared_by;
 use crate::noted::{Noted, note_of};
@@ -28,20 +31,20 @@ use crate::verdict_row::{verdict_line, verdict_rows};
 use adjust_kernel::Station;
 use arrayvec::ArrayVec;
 use byte_ends::Sink;
-use direction_table::read_stated_table;
+use direction_table::{ByColumns, read_stated_table};
 use exact_adjustment::{Adjustment, adjust};
 use row_forms::RowForm;
 use station_answers::push_part;
 use station_book::{ResultLimits, Surveyed};
 use station_check::{LONGEST_VERDICT_LINE, VerdictLine, add, add_numbered, write_whole};
-use station_compare::CompareFault;
+use station_compare::{Agreement, CompareFault};
 use station_differences::{lines_of, text_of};
 use std::alloc::{AllocError, Global};
 use table_report::{Asked, Beside, StatedDirections, beside_by};
 
 /// All of a table beside its station, of one adjustment: the line of the verdict, the verdict as a
-/// row, the differences, and the report with the table, each after a line of its title and of how
-/// many bytes it has.
+/// row, the columns by which the table was read, the differences, and the report with the table,
+/// each after a line of its title and of how many bytes it has.
 ///
 /// The verdict, the differences and the report are those of [`crate::Comparison`],
 /// [`crate::Differences`] and [`Asked`], to the byte.
@@ -93,7 +96,7 @@ impl<'a, 'n> TableAnswer for Whole<'a, 'n> {
             limit,
         };
         let beside = beside_by(alloc, asked, limits, surveyed, &adjustment, &stated)?;
-        let answer = whole_by(alloc, station, &adjustment, &beside)?;
+        let answer = whole_by(alloc, station, &adjustment, table.by_columns, &beside)?;
         Ok(Noted { answer, note })
     }
 
@@ -119,13 +122,15 @@ impl<'a, 'n> TableAnswer for Whole<'a, 'n> {
     ghost of_bytes = { λ whole. refused_of_bytes whole.asked.form };
 }
 
-/// All of a table beside its station, of its rows, how far it is apart, and its report.
+/// All of a table beside its station, of how it was read, its rows, how far it is apart, and its
+/// report.
 ///
 /// The only error is that memory was refused.
 fn whole_by(
     alloc: Global,
     station: &Station,
     adjustment: &Adjustment,
+    by_columns: Option<ByColumns>,
     beside: &Beside,
 ) -> Result<WholeTable, AllocError>
     requires exact { IsExact station.now adjustment.now }
@@ -136,31 +141,43 @@ fn whole_by(
     ensures beyond { IfOk result (λ whole.
         beyond_in whole.compared ≡ beyond_of beside.now.how_far) }
     ensures text { IfOk result (λ whole. whole.text.items ≡ spec.whole_text whole.compared
+        (rows_of_note (told_note by_columns))
         (differences_text Commas (map InLine beside.now.rows.items)) beside.now.report.items) }
 {
     let compared = compared_by(alloc, station, adjustment, beside.how_far)?;
     let lines = lines_of(alloc, &beside.rows)?;
     let differences = text_of(alloc, &lines, RowForm::Commas)?;
-    let text = whole_text(alloc, &compared, &differences, &beside.report)?;
+    let text = whole_text(alloc, &compared, by_columns, &differences, &beside.report)?;
     Ok(WholeTable { compared, text })
+}
+
+/// Adds the parts of a verdict to a text.
+fn push_verdict(
+    text: &mut Vec<u8>,
+    verdict: &Result<Agreement, CompareFault>,
+) -> Result<(), AllocError>
+    ensures { OnOk result
+        (text.new.items ≡ text.old.items ++ spec.verdict_parts verdict.now) }
+{
+    push_part(text, b"line", verdict_line(verdict).as_slice())?;
+    push_part(text, b"verdict", verdict_rows(verdict).as_slice())
 }
 
 /// The parts in one text.
 fn whole_text(
     alloc: Global,
     compared: &Compared,
+    by_columns: Option<ByColumns>,
     differences: &[u8],
     report: &[u8],
 ) -> Result<Vec<u8>, AllocError>
-    ensures { IfOk result (λ text.
-        text.items ≡ spec.whole_text compared.now differences.now report.now) }
+    ensures { IfOk result (λ text. text.items ≡ spec.whole_text compared.now
+        (rows_of_note (told_note by_columns)) differences.now report.now) }
 {
-    let verdict = compared.verdict();
-    let line = verdict_line(&verdict);
-    let row = verdict_rows(&verdict);
+    let columns = columns_rows(by_columns);
     let mut text = Vec::new(alloc);
-    push_part(&mut text, b"line", line.as_slice())?;
-    push_part(&mut text, b"verdict", row.as_slice())?;
+    push_verdict(&mut text, &compared.verdict())?;
+    push_part(&mut text, b"columns", columns.as_slice())?;
     push_part(&mut text, b"differences", differences)?;
     push_part(&mut text, b"report", report)?;
     Ok(text)

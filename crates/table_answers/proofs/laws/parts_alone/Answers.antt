@@ -1,9 +1,10 @@
-use Rattle.std.proofs.Common.{ℕ, List}
+use Rattle.std.proofs.Common.{ℕ, List, refl}
 use Rattle.byte_ends.specs.Source.{Told}
 use Rattle.gsi_file.specs.FileAnswers.{FileAnswers}
 use Rattle.station_book.specs.Stations.{SurveyedStation}
 use Rattle.station_book.specs.declared.result_limits.ResultLimits.{ResultLimits}
 use Rattle.table_answers.specs.Answers.{StatesBeside}
+use Rattle.table_answers.specs.ColumnRows.{table_columns}
 use Rattle.table_answers.specs.Wholes.{IsWhole, WholeValue, beyond_in}
 use Rattle.table_report.specs.Stating.{ReportAsked}
 use Rattle.table_answers.proofs.laws.parts_alone.Goals as goal
@@ -25,9 +26,12 @@ answered asked limits file stated name whole s value said = record {
 pub returns : goal.returns
 returns c = λ asked limits file stated name whole s.
     let parts = s.said in
+    let columns = table_columns asked.form s.its.station.targets s.bytes in
     record {
       states_comparison = answered asked limits file stated name whole s whole.compared
           parts.compares;
+      columns = columns;
+      states_columns = answered asked limits file stated name whole s columns refl;
       differences = parts.differences;
       states_differences = answered asked limits file stated name whole s parts.differences
           parts.are_differences;

@@ -1,4 +1,4 @@
-use Rattle.std.proofs.Common.{◌≡◌, Err, rules}
+use Rattle.std.proofs.Common.{rules}
 use Rattle.table_answers.proofs.json_lines.JsonLinesTableAnswer.of_table.Goals as goal
 
 pub returns-clause-tells : goal.returns-clause-tells

@@ -1,5 +1,6 @@
-use Rattle.std.proofs.Common.{◌≡◌, Err, Ok, Result, ap, map, refl, rules}
+use Rattle.std.proofs.Common.{◌≡◌, ◌∙◌, Err, Ok, Result, ap, map, refl, rules}
 use Rattle.std.specs.Result.{IsErr, IsErrAnd}
+use Rattle.direction_table.specs.TableNotes.{table_note, told_note}
 use Rattle.station_compare.specs.declared.fault.CompareFault.{CompareFault}
 use Rattle.station_compare.specs.declared.fault.CompareFault.TheVariants.{Memory}
 use Rattle.row_forms.specs.declared.form.RowForm.TheVariants.{Commas}
@@ -7,6 +8,8 @@ use Rattle.station_differences.proofs.TextLaws.{text_of_rows}
 use Rattle.station_differences.specs.DifferenceTexts.{differences_text}
 use Rattle.station_differences.specs.declared.line.TargetLine.TheVariants.{Compared as InLine}
 use Rattle.table_answers.proofs.ComparedBy.{by_how_far}
+use Rattle.table_answers.specs.ColumnRows.{columns_rows}
+use Rattle.table_answers.specs.Wholes.{whole_text}
 use Rattle.table_answers.proofs.whole.WholeTableAnswer.of_table.Goals as goal
 
 pub returns-clause-tells : goal.returns-clause-tells
@@ -16,7 +19,9 @@ returns-clause-tells c =
     let bytes = c.args.bytes.now in
     let directions = c.in_ok-table.table.directions.items in
     let beside = c.in_ok-beside.beside in
-    let compared = c.in_ok-answer.answer.compared in (
+    let compared = c.in_ok-answer.answer.compared in
+    let note : told_note c.in_ok-table.table.by_columns
+    ≡ table_note asked.form its.station.targets bytes = search rules in (
       record {
         compares = by_how_far asked.form its.station c.args.limits.residual bytes asked.within
             beside.how_far compared
@@ -38,7 +43,8 @@ returns-clause-tells c =
           states = search rules;
           beside = search rules;
         };
-        text_is = c.in_ok-answer.ensures.text;
+        text_is = c.in_ok-answer.ensures.text ∙ (λ i. whole_text compared (columns_rows (note i))
+            (differences_text Commas (map InLine beside.rows.items)) beside.report.items);
       },
       rw c.station-station.ensures at c.in_ok-note.ensures,
     )
