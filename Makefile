@@ -109,14 +109,15 @@ try:
 
 # Makes the page that checks in a browser, one file, of the proved calls. The crates that it stands on
 # are proved only where it is older than its sources: so the gate, which makes it of what it has proved
-# itself, leaves nothing to prove again.
+# itself, leaves nothing to prove again. The calls themselves are proved where they are compiled.
 page: $(PAGE)
 
 $(PAGE): $(SOURCES) $(wildcard page/*.py page/*.js page/*.css page/refusals/*.json) page/heap.c \
   page/station_check.html $(wildcard examples/job.gsi examples/station_p7_directions.csv)
 	@$(NEED_TOOLCHAIN)
 	@$(MAKE) --no-print-directory --silent IS_WITHIN=page $(PAGE_CRATES:%=$(PROVED)/%)
-	@RT='$(RT)' $(PYTHON) page/build.py $@
+	@$(call say,proving the calls of the page$(comma) which takes minutes)
+	@RT='$(RT)' $(PYTHON) page/build.py --jobs $$($(PYTHON) tools/order.py station_page $(JOBS)) $@
 
 # Makes the library for C and Python, of the same build of the proved calls as the page. Needs a C compiler.
 library: $(LIBRARY)

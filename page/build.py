@@ -1,4 +1,4 @@
-"""Makes the page: `python3 page/build.py [--proved] OUT.html`, as `make page` calls it.
+"""Makes the page: `python3 page/build.py [--proved] [--jobs N] OUT.html`, as `make page` calls it.
 
 rattle proves the crate station_page and compiles it for x86-64. On the way the module that it hands
 to clang is kept; it is retargeted to wasm64, compiled by the kit's clang with the marks that rattle
@@ -7,7 +7,7 @@ module with 32-bit memory, which every browser runs. README.md says what is trus
 it isn't done by `rt lib` alone.
 
 `--proved` takes the libraries below as `rt ci` left them, which has proved them: the gate calls it
-so.
+so. `--jobs` processes share the proof of the crate itself.
 """
 
 import argparse
@@ -102,14 +102,15 @@ def keeping_toolchain(kit: Path, kept: Path, tools: Path) -> None:
     clang.chmod(0o755)
 
 
-def proved_module(kit: Path, crate: Path, room: Path, built: Callable[[str], Path]) -> Path:
+def proved_module(kit: Path, crate: Path, room: Path, built: Callable[[str], Path], jobs: int = 1) -> Path:
     """The module that rattle makes of a crate that it proves for x86-64, over the libraries that are
-    built there."""
+    built there. Such a build is a proof of its own: it takes none that a check before it made, but for
+    what a build of the same sources kept."""
     kept = room / "module.bc"
     # (rt takes no links inside the repository)
     with tempfile.TemporaryDirectory(prefix="page-toolchain-") as tools:
         keeping_toolchain(kit, kept, Path(tools))
-        words = [*prove.words_of(kit, crate, built), "--crate-type", "staticlib", "--jobs", "1"]
+        words = [*prove.words_of(kit, crate, built), "--crate-type", "staticlib", "--jobs", str(jobs)]
         words += ["--incremental", "out/incremental"]
         to = ["--toolchain", tools, "-o", str(room / "lib.a")]
         run(kit / "bin" / "rattle", "build", *words, *to, cwd=crate)
@@ -217,6 +218,7 @@ def asked_for() -> argparse.Namespace:
     words.add_argument("out", metavar="OUT.html", type=Path)
     proved = "the libraries lie there as rt ci proved them"
     words.add_argument("--proved", action="store_true", help=proved)
+    words.add_argument("--jobs", type=int, default=1, help="processes that share the proof")
     return words.parse_args()
 
 
@@ -226,7 +228,8 @@ def main() -> None:
     shutil.rmtree(ROOM, ignore_errors=True)
     ROOM.mkdir(parents=True)
     wasm = ROOM / "page.wasm"
-    linked(kit, compiled(kit, proved_module(kit, CRATE, ROOM, built), ROOM), wasm, ROOM)
+    proved = proved_module(kit, CRATE, ROOM, built, asked.jobs)
+    linked(kit, compiled(kit, proved, ROOM), wasm, ROOM)
     module = lowered(wasm, ROOM / "page32.wasm")
     asked.out.write_text(page(module.read_bytes()))
     print(f"{asked.out}: {asked.out.stat().st_size} bytes")

@@ -24,7 +24,7 @@ SUPPORT = str(HERE / "support")
 
 # Words of the tests that take longest: they begin first.
 LONGEST = [
-    "test_page_calls",
+    "test_calls",
     "test_plain",
     "test_retarget",
     "test_want_of_memory_is_a_refusal",

@@ -196,7 +196,8 @@ class Page:
     """The page, made beside the other proofs once `rt ci` has proved the crates that it stands on.
 
     By then the libraries lie there as they were proved; after its end `rt ci` gives the crates back
-    what they had before, and then they would be proved once more. Only the exports are proved again.
+    what they had before, and then they would be proved once more. Only the calls are proved again: of
+    a static library `rt ci` leaves nothing that could be compiled.
     """
 
     def __init__(self, room: str) -> None:

@@ -91,7 +91,7 @@ class ProgressTest(unittest.TestCase):
         edits = list(ROOT.glob("crates/*/must-fail/*.edit"))
         self.assertEqual(len(edits), sum(progress.wrong.values()))
         self.assertEqual(list(progress.wrong), progress.lacking())
-        self.assertIn("page_calls", progress.of_page)
+        self.assertIn("refusal_places", progress.of_page)
         self.assertLess(progress.of_page, folders)
 
     def test_it_says_how_far_the_proofs_are(self):

@@ -21,8 +21,8 @@ CRATES = {
     "station_compare": ["middle"],
     "station_explain": ["low"],
     "not_of_the_program": ["low"],
-    "page_calls": ["station_compare"],
-    "station_page staticlib": ["page_calls"],
+    "only_of_the_page": ["station_compare"],
+    "station_page staticlib": ["only_of_the_page"],
     "station_program": ["station_compare", "station_explain", "clap"],
 }
 PROVED = ["low", "other_low", "middle", "station_compare", "station_explain", "station_program"]
@@ -198,7 +198,7 @@ class MakeTest(ProgramTest):
             (self.folder / "page" / name).touch()
         made = self.make("page")
         self.assertEqual(0, made.returncode, made.stderr)
-        page = ["low", "middle", "other_low", "page_calls", "station_compare"]
+        page = ["low", "middle", "only_of_the_page", "other_low", "station_compare"]
         self.assertEqual(page, sorted(self.begun()))
         self.assertEqual("5 of 5", re.findall(r"is proved, (.*)$", made.stderr, re.MULTILINE)[-1])
         self.assertNotIn("warning", made.stderr)

@@ -40,7 +40,7 @@ WITHIN = {"LONGEST_FAULT_NAME", "LARGEST_RESIDUAL"}
 # command line's, explanations, the page's own); and what is too short to tell.
 PRINTED = re.compile(r'codes "((?:[^"\\]|\\.)*)"')
 OF_NO_RUN = {
-    "changed_lines", "gsi_word", "command_line", "command_run", "station_explain", "page_calls",
+    "changed_lines", "gsi_word", "command_line", "command_run", "station_explain", "station_page",
     "refusal_places",
 }
 SHORT = 6

@@ -6,7 +6,7 @@ from pathlib import Path
 import books
 from driven import Driven
 from program import EXAMPLE, EXAMPLE_SHEET, EXAMPLE_TABLE, TimedTest
-from test_page_calls import EXAMPLES, JOB
+from test_calls import EXAMPLES, JOB
 
 P7 = "Station P7: Accepted. Greatest residual 0.320 mgon, set 4, TOWER."
 S1 = "Station S1: Accepted. Greatest residual 0.005 mgon, set 1, A."

@@ -10,7 +10,7 @@ from pathlib import Path
 
 import browser
 from program import TimedTest
-from test_page_calls import PAGE, RT, make_page
+from test_calls import PAGE, RT, make_page
 
 FOLDER = Path(os.environ.get("FIELD_FILES", ""))
 

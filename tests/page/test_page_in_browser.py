@@ -24,7 +24,7 @@ import books
 import browser
 import model
 from program import ROOT, TimedTest
-from test_page_calls import PAGE, RT, make_page
+from test_calls import PAGE, RT, make_page
 
 sys.path[:0] = [str(ROOT / "bench"), str(ROOT / "tools"), str(ROOT / "tests" / "cli")]
 import bench  # noqa: E402

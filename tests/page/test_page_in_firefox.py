@@ -11,7 +11,7 @@ import firefox
 from driven import until
 from program import ROOT
 from steps import StepsTest
-from test_page_calls import EXAMPLES, PAGE, RT, make_page
+from test_calls import EXAMPLES, PAGE, RT, make_page
 
 sys.path[:0] = [str(ROOT / "bench")]
 import bench  # noqa: E402

@@ -6,7 +6,7 @@ import unittest
 import webkit
 from driven import until
 from steps import StepsTest
-from test_page_calls import EXAMPLES, PAGE, RT, is_lowered, make_page
+from test_calls import EXAMPLES, PAGE, RT, is_lowered, make_page
 
 
 class PageInWebKitTest(StepsTest):

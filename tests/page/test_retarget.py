@@ -10,7 +10,7 @@ from functools import partial
 from pathlib import Path
 
 from program import ROOT, TimedTest
-from test_page_calls import RT, make_page
+from test_calls import RT, make_page
 
 sys.path[:0] = [str(ROOT / "page")]
 import build  # noqa: E402

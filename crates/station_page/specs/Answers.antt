@@ -1,0 +1,378 @@
+-- What each call answers, of the very bytes that it was given. `room` is how many bytes there is
+-- room for, `answered` the status, and `shown` what was handed out.
+use Rattle.std.specs.Prelude.{◌≡◌, ◌≢◌, ◌⊎◌, ◌<◌, ◌≤◌, ◌+◌, ◌*◌, ℕ, Bool, List, [], length, Option, Some}
+use Rattle.std.specs.Prelude.{Result, Ok, Err, IfErr, ⊤}
+use Rattle.std.specs.Borrow.{Bor}
+use Rattle.byte_digests.specs.DigestLines.{digest_line}
+use Rattle.byte_digests.specs.declared.put_line.TheConstants.{MOST_BESIDE_NAME}
+use Rattle.direction_table.specs.declared.form.TableForm.{TableForm}
+use Rattle.gsi_file.specs.FileAnswers.{file_answers}
+use Rattle.adjust_kernel.specs.declared.accepted.Accepted.{Accepted}
+use Rattle.station_answers.specs.Answers.{TellsOf}
+use Rattle.station_answers.specs.Saying.{SaysDirections, SaysReport, SaysResiduals, SaysWhole}
+use Rattle.station_book.specs.Limits.{FaceLimits}
+use Rattle.station_book.specs.ResultLimits.{of_faces}
+use Rattle.station_book.specs.Stations.{SurveyedStation}
+use Rattle.station_book.specs.declared.result_limits.ResultLimits.{ResultLimits}
+use Rattle.set_marks.specs.Markings.{AnswersMark}
+use Rattle.job_statements.specs.Numbers.{said_in}
+use Rattle.job_statements.specs.declared.beginnings.Beginnings.{Beginnings}
+use Rattle.set_marks.specs.declared.fault.MarkFault.TheVariants as mark
+use Rattle.set_marks.specs.declared.marked.Marked.{Marked}
+use Rattle.set_marks.specs.declared.refused.Refused.{Refused}
+use Rattle.job_statements.specs.declared.stated.Stated.{Stated}
+use Rattle.station_check.specs.Came.{source_of}
+use Rattle.station_check.specs.Answerable.{IsOfCheck}
+use Rattle.sha2.specs.Sha256.{sha256}
+use Rattle.station_check.specs.declared.fault.Fault.{Fault}
+use Rattle.station_check.specs.declared.fault.Fault.TheVariants.{Memory, Write}
+use Rattle.station_check.specs.RunEndings.{status_of}
+use Rattle.station_check.specs.Listing.{WritesList}
+use Rattle.station_check.specs.Means.{WritesMeans}
+use Rattle.station_check.specs.Promise.{KeepsPromise}
+use Rattle.station_check.specs.Words.{WritesWords}
+use Rattle.station_check.specs.declared.runs.TheConstants.{ACCEPTED, REFUSED}
+use Rattle.station_check.specs.declared.verdict_line.TheConstants.{LONGEST_VERDICT_LINE}
+use Rattle.station_compare.specs.Answers.{Compares}
+use Rattle.station_compare.specs.declared.agreement.Agreement.{Agreement}
+use Rattle.station_compare.specs.declared.fault.CompareFault.{CompareFault}
+use Rattle.station_explain.specs.Table.{Explanation, IsTheTable}
+use Rattle.station_report.specs.NoteTexts.{unnoted}
+use Rattle.table_answers.specs.Answers.{TellsBeside}
+use Rattle.table_answers.specs.Comparisons.{SaysComparison, noted_verdict, verdict}
+use Rattle.table_answers.specs.Noting.{Noting}
+use Rattle.report_phrases.specs.declared.language.Language.{Language}
+use Rattle.report_rows.specs.Stating.{AreReportRows}
+use Rattle.row_forms.specs.declared.form.RowForm.{RowForm}
+use Rattle.row_forms.specs.declared.form.RowForm.TheVariants.{Commas, Semicolons}
+use Rattle.table_answers.specs.Refusing.{RefusesComparison, RefusesDifferences}
+use Rattle.table_answers.specs.Saying.{SaysDifferences}
+use Rattle.table_answers.specs.Wholes.{IsWhole, WholeValue, verdict_parts}
+use Rattle.table_answers.specs.declared.compared.Compared.{Compared}
+use Rattle.table_report.specs.Stating.{ReportAsked}
+use Rattle.station_mark.specs.FaultTexts.{refusal_line}
+use Rattle.station_mark.specs.declared.fault.PrintFault.TheVariants.{Mark}
+use Rattle.changed_lines.specs.Answers.{IsChanged, IsFault}
+use Rattle.changed_lines.specs.Sayings.{SayChanges}
+use Rattle.changed_lines.specs.declared.change.Change.{Change}
+use Rattle.changed_lines.specs.declared.fault.ChangeFault.{ChangeFault}
+use Rattle.changed_lines.specs.declared.fault.ChangeFault.TheVariants as change
+use Rattle.station_page.specs.Changes.{copy_or_refusal}
+use Rattle.station_change.specs.FaultTexts.{change_line}
+use Rattle.station_page.specs.Explained.{AnswersLine, explanation_or_refusal}
+use Rattle.station_page.specs.HandedOut.{HandsOut, verdict_line, text_or_refusal, refusal_text}
+use Rattle.station_page.specs.HandedOut.{comparison_line, table_or_refusal, copy_text}
+use Rattle.station_page.specs.HandedOut.{copy_or_refusal_line, listed_or_refusal, notes_or_refusal}
+use Rattle.station_page.specs.HandedOut.{rows_told}
+use Rattle.station_page.specs.Limits.{States, stated_limit}
+use Rattle.station_page.specs.Listed.{TellsListed}
+use Rattle.station_page.specs.Placed.{TellsPlace}
+use Rattle.station_page.specs.Recorded.{TellsRecorded}
+use Rattle.station_page.specs.declared.explain.Unexplained.{Unexplained}
+use Rattle.station_page.specs.declared.hand_out.TheConstants.{OUT_OF_RANGE}
+
+-- The status and the line are those of the verdict on these bytes, of which the whole promise is
+-- kept; with room for the longest line of one it is answered.
+pub record IsCheckOf (two_c two_i : ℕ) (is_stated : Bool) (residual : ℕ) (gsi sheet : List ℕ)
+    (room answered : ℕ) (shown : List ℕ) : Type 0 where
+  pub limits : FaceLimits
+  pub states : States two_c two_i limits
+  pub verdict : Result Accepted Fault
+  pub promise : KeepsPromise limits (stated_limit is_stated residual)
+      (source_of gsi) (source_of sheet) verdict
+  pub of_check : IfErr verdict IsOfCheck
+  pub hands_out : HandsOut (status_of verdict) (verdict_line verdict) room answered shown
+  pub answers : LONGEST_VERDICT_LINE ≤ room → answered < 2
+
+-- The status and the text are those of the list of these bytes; no write fails.
+pub record IsListOf (two_c two_i : ℕ) (gsi : List ℕ) (room answered : ℕ) (shown : List ℕ)
+    : Type 0 where
+  pub limits : FaceLimits
+  pub states : States two_c two_i limits
+  pub answer : Result ⊤ Fault
+  pub text : List ℕ
+  pub writes : WritesList limits (file_answers (source_of gsi)) answer (Some []) (Some text)
+  pub unfailed : answer ≢ Err Write
+  pub hands_out : HandsOut (status_of answer) (text_or_refusal text answer) room answered shown
+
+-- The status and the text are those of the sheet of means of the station of this name; no write
+-- fails.
+pub record IsMeansOf (two_c two_i : ℕ) (gsi name : List ℕ) (room answered : ℕ) (shown : List ℕ)
+    : Type 0 where
+  pub limits : FaceLimits
+  pub states : States two_c two_i limits
+  pub answer : Result ⊤ Fault
+  pub text : List ℕ
+  pub writes : WritesMeans limits (file_answers (source_of gsi)) name answer
+      (Some []) (Some text)
+  pub unfailed : answer ≢ Err Write
+  pub hands_out : HandsOut (status_of answer) (text_or_refusal text answer) room answered shown
+
+-- The status, the text and the line of a refusal are those of the words of these bytes; no write
+-- fails. At a fault of the file its line stands beside the words of the blocks before it; where
+-- memory ran out it stands alone.
+pub record IsWordsOf (gsi : List ℕ) (refusal_room : ℕ) (refusal : List ℕ) (room answered : ℕ)
+    (shown : List ℕ) : Type 0 where
+  pub answer : Result ℕ Fault
+  pub text : List ℕ
+  pub writes : WritesWords answer (Some []) (Some text) (file_answers (source_of gsi))
+  pub unfailed : answer ≢ Err Write
+  pub alone : answer ≡ Err Memory → text ≡ []
+  pub status : ℕ
+  pub hands_text_out : HandsOut (status_of answer) text room status shown
+  pub hands_line_out : HandsOut status (refusal_text answer) refusal_room answered refusal
+
+-- The status and the text are those of the list of these bytes as rows, with how many of its
+-- readings went unchecked.
+pub record IsListRowsOf (two_c two_i : ℕ) (gsi : List ℕ) (room answered : ℕ) (shown : List ℕ)
+    : Type 0 where
+  pub limits : FaceLimits
+  pub states : States two_c two_i limits
+  pub answer : Result (List ℕ) Fault
+  pub tells : TellsListed limits (file_answers (source_of gsi)) answer
+  pub hands_out : HandsOut (status_of answer) (listed_or_refusal answer) room answered shown
+
+-- The status and the text are those of what is answered of the station of this name in these bytes,
+-- by the largest limit of residuals.
+pub record IsTextOf (Says : ResultLimits → SurveyedStation → List ℕ → Type 0) (two_c two_i : ℕ)
+    (gsi name : List ℕ) (room answered : ℕ) (shown : List ℕ) : Type 0 where
+  pub limits : FaceLimits
+  pub states : States two_c two_i limits
+  pub answer : Result (List ℕ) CompareFault
+  pub tells : TellsOf (Says (of_faces limits)) (of_faces limits) (file_answers (source_of gsi))
+      name answer
+  pub hands_out : HandsOut (status_of answer) (table_or_refusal answer) room answered shown
+
+-- It is the table of its least-squares directions, with so many decimals.
+abbrev pub IsDirectionsOf : ℕ → ℕ → List ℕ → List ℕ → ℕ → ℕ → ℕ → List ℕ → Type 0
+IsDirectionsOf two_c two_i gsi name decimals =
+    IsTextOf (λ limits. SaysDirections Commas decimals) two_c two_i gsi name
+
+-- The same with semicolons between its cells and commas in its numbers.
+abbrev pub IsCommaDirectionsOf : ℕ → ℕ → List ℕ → List ℕ → ℕ → ℕ → ℕ → List ℕ → Type 0
+IsCommaDirectionsOf two_c two_i gsi name decimals =
+    IsTextOf (λ limits. SaysDirections Semicolons decimals) two_c two_i gsi name
+
+-- It is the rows of its report, with semicolons between their cells and commas in their numbers.
+abbrev pub IsCommaRowsOf : ℕ → ℕ → List ℕ → List ℕ → ℕ → ℕ → List ℕ → Type 0
+IsCommaRowsOf two_c two_i gsi name =
+    IsTextOf (λ limits. AreReportRows Semicolons) two_c two_i gsi name
+
+-- It is its residuals, observation by observation.
+abbrev pub IsResidualsOf : ℕ → ℕ → List ℕ → List ℕ → ℕ → ℕ → List ℕ → Type 0
+IsResidualsOf two_c two_i gsi name = IsTextOf (λ limits. SaysResiduals) two_c two_i gsi name
+
+-- It is its report, which names the field file by these bytes of a path, and notes nothing.
+abbrev pub IsReportOf : ℕ → ℕ → List ℕ → List ℕ → List ℕ → ℕ → ℕ → List ℕ → Type 0
+IsReportOf two_c two_i gsi path name = IsTextOf (SaysReport (unnoted path)) two_c two_i gsi name
+
+-- It is all of it: its directions with so many decimals, the rows of its report, how accurate it
+-- is, and its report, which names the field file by these bytes of a path.
+abbrev pub IsWholeOf : ℕ → ℕ → List ℕ → List ℕ → List ℕ → ℕ → ℕ → ℕ → List ℕ → Type 0
+IsWholeOf two_c two_i gsi path name decimals =
+    IsTextOf (SaysWhole decimals path) two_c two_i gsi name
+
+-- the note of the table of an answer; a fault before it was compared has none
+abbrev pub note_of : {V : Type 0} → Result (V × List ℕ) CompareFault → List ℕ
+note_of (Ok noted) = noted.1
+note_of (Err fault) = []
+
+-- The status and the line are those of the comparison of these bytes of a table, read in this form,
+-- with the station of this name in these bytes of a field file, by the largest limit of residuals,
+-- of which the whole promise is kept; the note is that of the table, and a refusal before it was
+-- compared has none. With room for the longest line of a verdict and for the note it is answered.
+pub record IsComparisonOf (two_c two_i : ℕ) (form : TableForm) (within : Option ℕ)
+    (gsi table name : List ℕ) (note_room : ℕ) (note : List ℕ) (room answered : ℕ) (shown : List ℕ)
+    : Type 0 where
+  pub limits : FaceLimits
+  pub states : States two_c two_i limits
+  pub answer : Result (Compared × List ℕ) CompareFault
+  pub tells : TellsBeside (Noting (SaysComparison form within (of_faces limits)) form)
+      (RefusesComparison form (of_faces limits)) (of_faces limits) (file_answers (source_of gsi))
+      (source_of table) name answer
+  pub compares : Compares form (of_faces limits) (file_answers (source_of gsi)) (source_of table)
+      name within (noted_verdict answer)
+  pub status : ℕ
+  pub hands_line_out : HandsOut (status_of (noted_verdict answer))
+      (comparison_line (noted_verdict answer)) room status shown
+  pub hands_note_out : HandsOut status (note_of answer) note_room answered note
+  pub answers : LONGEST_VERDICT_LINE ≤ room → length (note_of answer) ≤ note_room → answered < 2
+
+-- An answer without the note of its table.
+abbrev pub answer_alone : Result (List ℕ × List ℕ) CompareFault → Result (List ℕ) CompareFault
+answer_alone (Ok noted) = Ok noted.0
+answer_alone (Err fault) = Err fault
+
+-- The status and the text are those of the differences of these bytes of a table, read in this form,
+-- from the station of this name in these bytes of a field file, target by target, by the largest
+-- limit of residuals, as rows of this form; the note is that of the table, and a refusal has none.
+pub record IsDifferencesOf (rows : RowForm) (two_c two_i : ℕ) (form : TableForm)
+    (gsi table name : List ℕ) (note_room : ℕ) (note : List ℕ) (room answered : ℕ)
+    (shown : List ℕ) : Type 0 where
+  pub limits : FaceLimits
+  pub states : States two_c two_i limits
+  pub answer : Result (List ℕ × List ℕ) CompareFault
+  pub tells : TellsBeside (Noting (SaysDifferences form rows) form)
+      (RefusesDifferences form (of_faces limits)) (of_faces limits) (file_answers (source_of gsi))
+      (source_of table) name answer
+  pub status : ℕ
+  pub hands_text_out : HandsOut (status_of answer) (table_or_refusal (answer_alone answer)) room
+      status shown
+  pub hands_note_out : HandsOut status (note_of answer) note_room answered note
+
+-- the parts of an answer: of a table that was compared its text; of a refusal its line and its row
+abbrev pub parts_of : Result (WholeValue × List ℕ) CompareFault → List ℕ
+parts_of (Ok noted) = noted.0.text
+parts_of (Err fault) = verdict_parts (Err fault)
+
+-- the verdict of an answer
+abbrev pub whole_verdict : Result (WholeValue × List ℕ) CompareFault → Result Agreement CompareFault
+whole_verdict (Ok noted) = verdict noted.0.compared
+whole_verdict (Err fault) = Err fault
+
+-- The status and the text are those of all that is answered of these bytes of a table beside the
+-- station of this name in these bytes of a field file, as its report is asked for, by the largest
+-- limit of residuals; the note is that of the table, and a refusal before it was compared has none.
+pub record IsTableOf (two_c two_i : ℕ) (asked : ReportAsked) (gsi table name : List ℕ)
+    (note_room : ℕ) (note : List ℕ) (room answered : ℕ) (shown : List ℕ) : Type 0 where
+  pub limits : FaceLimits
+  pub states : States two_c two_i limits
+  pub answer : Result (WholeValue × List ℕ) CompareFault
+  pub tells : TellsBeside (Noting (IsWhole asked (of_faces limits)) asked.form)
+      (RefusesComparison asked.form (of_faces limits)) (of_faces limits)
+      (file_answers (source_of gsi)) (source_of table) name answer
+  pub status : ℕ
+  pub hands_text_out : HandsOut (status_of (whole_verdict answer)) (parts_of answer) room status
+      shown
+  pub hands_note_out : HandsOut status (note_of answer) note_room answered note
+
+-- The status, the copy and what is told of it, or the text of the refusal, are those of putting
+-- codes into these bytes, by beginnings and by what is stated of the file.
+pub record IsMarkOf (AreBeginnings : Beginnings → Type 0) (IsStated : Stated → Type 0)
+    (gsi : List ℕ) (notes_room : ℕ) (notes : List ℕ) (room answered : ℕ) (shown : List ℕ)
+    : Type 0 where
+  pub beginnings : Beginnings
+  pub are_beginnings : AreBeginnings beginnings
+  pub stated : Stated
+  pub is_stated : IsStated stated
+  pub answer : Result Marked Refused
+  pub marks : AnswersMark beginnings (said_in stated) gsi (file_answers (source_of gsi)) answer
+  pub status : ℕ
+  pub hands_copy_out : HandsOut (status_of answer) (copy_text gsi answer) room status shown
+  pub hands_notes_out : HandsOut status (notes_or_refusal answer) notes_room answered notes
+
+-- Memory ran out for what is stated: no copy is handed out, and in the place of the notes the line
+-- that says so.
+pub record RanOut (notes_room : ℕ) (notes : List ℕ) (room answered : ℕ) (shown : List ℕ)
+    : Type 0 where
+  pub status : ℕ
+  pub hands_no_copy_out : HandsOut REFUSED [] room status shown
+  pub hands_line_out : HandsOut status (refusal_line (Mark mark.Memory)) notes_room answered notes
+
+-- What is stated can't be: nothing is handed out, and the status says so.
+pub record IsBeyond (AreBeginnings : Beginnings → Type 0) (IsStated : Stated → Type 0)
+    (notes : List ℕ) (answered : ℕ) (shown : List ℕ) : Type 0 where
+  pub none : (beginnings : Beginnings) (stated : Stated) → AreBeginnings beginnings
+      → ¬ (IsStated stated)
+  pub status : answered ≡ OUT_OF_RANGE
+  pub no_copy : shown ≡ []
+  pub no_notes : notes ≡ []
+
+-- One of these is answered.
+abbrev pub IsMarkAnswer : (Beginnings → Type 0) → (Stated → Type 0) → List ℕ → ℕ → List ℕ → ℕ → ℕ
+    → List ℕ → Type 0
+IsMarkAnswer AreBeginnings IsStated gsi notes_room notes room answered shown =
+    IsMarkOf AreBeginnings IsStated gsi notes_room notes room answered shown
+    ⊎ RanOut notes_room notes room answered shown
+    ⊎ IsBeyond AreBeginnings IsStated notes answered shown
+
+-- The status, the copy or the line of the refusal, and the rows of what is told are those of putting
+-- codes into these bytes, by beginnings and by what is stated of the file.
+pub record IsMarkRowsOf (AreBeginnings : Beginnings → Type 0) (IsStated : Stated → Type 0)
+    (gsi : List ℕ) (rows_room : ℕ) (rows : List ℕ) (room answered : ℕ) (shown : List ℕ)
+    : Type 0 where
+  pub beginnings : Beginnings
+  pub are_beginnings : AreBeginnings beginnings
+  pub stated : Stated
+  pub is_stated : IsStated stated
+  pub answer : Result Marked Refused
+  pub marks : AnswersMark beginnings (said_in stated) gsi (file_answers (source_of gsi)) answer
+  pub status : ℕ
+  pub hands_copy_out : HandsOut (status_of answer) (copy_or_refusal_line gsi answer) room status
+      shown
+  pub hands_rows_out : HandsOut status (rows_told answer) rows_room answered rows
+
+-- Memory ran out: in the place of the copy the line that says so is handed out, and no rows.
+pub record RanOutOfRows (rows_room : ℕ) (rows : List ℕ) (room answered : ℕ) (shown : List ℕ)
+    : Type 0 where
+  pub status : ℕ
+  pub hands_line_out : HandsOut REFUSED (refusal_line (Mark mark.Memory)) room status shown
+  pub hands_no_rows_out : HandsOut status [] rows_room answered rows
+
+-- One of these is answered.
+abbrev pub IsMarkRowsAnswer : (Beginnings → Type 0) → (Stated → Type 0) → List ℕ → ℕ → List ℕ → ℕ
+    → ℕ → List ℕ → Type 0
+IsMarkRowsAnswer AreBeginnings IsStated gsi rows_room rows room answered shown =
+    IsMarkRowsOf AreBeginnings IsStated gsi rows_room rows room answered shown
+    ⊎ RanOutOfRows rows_room rows room answered shown
+    ⊎ IsBeyond AreBeginnings IsStated rows answered shown
+
+-- The line of these bytes' digest and of this name is handed out; with so much room it always is.
+pub record IsDigestOf (file name : List ℕ) (room answered : ℕ) (shown : List ℕ) : Type 0 where
+  pub hands_out : HandsOut ACCEPTED (digest_line (sha256 file) name) room answered shown
+  pub answers : MOST_BESIDE_NAME + 2 * length name ≤ room → answered ≡ ACCEPTED
+
+-- The status and the text are those of the explanation that a line asks for, of the faults of a
+-- table.
+pub record IsExplanationFrom (table : List (Bor (List Explanation))) (line : List ℕ)
+    (room answered : ℕ) (shown : List ℕ) : Type 0 where
+  pub answer : Result (List ℕ) Unexplained
+  pub answers : AnswersLine table line answer
+  pub hands_out : HandsOut (status_of answer) (explanation_or_refusal answer) room answered shown
+
+-- The same of the faults of the program's own table.
+pub record IsExplanationOf (line : List ℕ) (room answered : ℕ) (shown : List ℕ) : Type 0 where
+  pub table : List (Bor (List Explanation))
+  pub is_the_table : IsTheTable table
+  pub explains : IsExplanationFrom table line room answered shown
+
+-- The status and the text are those of where the line of a refusal stands in these bytes of a field
+-- file and of another file; or memory ran out.
+pub record IsPlaceOf (line gsi other : List ℕ) (room answered : ℕ) (shown : List ℕ) : Type 0 where
+  pub answer : Result (List ℕ) Fault
+  pub tells : TellsPlace line gsi other answer
+  pub hands_out : HandsOut (status_of answer) (listed_or_refusal answer) room answered shown
+
+-- The status and the text are those of what these bytes recorded of instrument and time, in a
+-- language; or memory ran out.
+pub record IsInstrumentOf (language : Language) (gsi : List ℕ) (room answered : ℕ)
+    (shown : List ℕ) : Type 0 where
+  pub answer : Result (List ℕ) Fault
+  pub tells : TellsRecorded language gsi answer
+  pub hands_out : HandsOut (status_of answer) (listed_or_refusal answer) room answered shown
+
+-- What comes of these changes of a field file: the copy, or the fault.
+abbrev pub Changes : List ℕ → List Change → Result (List ℕ) ChangeFault → Type 0
+Changes gsi cs (Ok copy) = IsChanged gsi cs copy
+Changes gsi cs (Err fault) = IsFault gsi cs fault
+
+-- The status and the text are those of the changes that these bytes say, of this field file.
+pub record IsChangeOf (gsi changes : List ℕ) (room answered : ℕ) (shown : List ℕ) : Type 0 where
+  pub cs : List Change
+  pub say : SayChanges changes cs
+  pub answer : Result (List ℕ) ChangeFault
+  pub answers : Changes gsi cs answer
+  pub hands_out : HandsOut (status_of answer) (copy_or_refusal answer) room answered shown
+
+-- The bytes say no changes: nothing is handed out, and the status says so.
+pub record SaysNone (changes : List ℕ) (answered : ℕ) (shown : List ℕ) : Type 0 where
+  pub none : (cs : List Change) → ¬ (SayChanges changes cs)
+  pub status : answered ≡ OUT_OF_RANGE
+  pub nothing : shown ≡ []
+
+-- One of these is answered; or memory ran out for the changes, and the line says so.
+abbrev pub IsChangeAnswer : List ℕ → List ℕ → ℕ → ℕ → List ℕ → Type 0
+IsChangeAnswer gsi changes room answered shown =
+    IsChangeOf gsi changes room answered shown
+    ⊎ HandsOut REFUSED (change_line change.Memory) room answered shown
+    ⊎ SaysNone changes answered shown

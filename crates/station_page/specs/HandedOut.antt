@@ -1,0 +1,101 @@
+-- What a call hands out: its status, and a text at the front of the room that it was given.
+use Rattle.std.specs.Prelude.{◌≡◌, ◌<◌, ◌≤◌, ℕ, List, [], length, take, drop, Result, Ok, Err}
+use Rattle.adjust_kernel.specs.declared.accepted.Accepted.{Accepted}
+use Rattle.station_check.specs.declared.fault.Fault.{Fault}
+use Rattle.station_check.specs.VerdictLines.{accepted_line, refusal_line}
+use Rattle.station_compare.specs.AgreementTexts.{agreement_line}
+use Rattle.station_compare.specs.FaultTexts as compare
+use Rattle.station_compare.specs.declared.agreement.Agreement.{Agreement}
+use Rattle.station_compare.specs.declared.fault.CompareFault.{CompareFault}
+use Rattle.set_marks.specs.Markings.{copy_of, fault_in, told_in}
+use Rattle.set_marks.specs.declared.marked.Marked.{Marked}
+use Rattle.set_marks.specs.declared.refused.Refused.{Refused}
+use Rattle.station_mark.specs.FaultTexts.{unmarked}
+use Rattle.station_mark.specs.FaultTexts.{refusal_line as refusal_line_of_mark}
+use Rattle.station_mark.specs.FaultTexts.{refusal_text as refusal_text_of_mark}
+use Rattle.station_mark.specs.Notes.{notes_of}
+use Rattle.station_mark.specs.ToldRows.{told_rows}
+use Rattle.station_mark.specs.declared.fault.PrintFault.TheVariants.{Mark}
+use Rattle.station_page.specs.declared.hand_out.TheConstants.{OUT_OF_RANGE, TOO_LITTLE_ROOM}
+
+-- The text is handed out whole, with this status, exactly where there is room for it; else nothing
+-- is, and the status says so.
+pub record HandsOut (status : ℕ) (text : List ℕ) (room answered : ℕ) (shown : List ℕ) : Type 0 where
+  pub fits : length text ≤ room → (answered ≡ status) × (shown ≡ text)
+  pub too_little : room < length text → (answered ≡ TOO_LITTLE_ROOM) × (shown ≡ [])
+
+-- A call leaves its room as it was after so many bytes at the front.
+pub record Leaves (old new : List ℕ) (written : ℕ) : Type 0 where
+  pub fits : written ≤ length old
+  pub rest : drop written new ≡ drop written old
+
+-- It is so of the room that a call was given, of what it answered, and of the bytes that it handed
+-- out, which stand at the front.
+pub record Shows (IsSo : ℕ → ℕ → List ℕ → Type 0) (old new : List ℕ) (written answered : ℕ)
+    : Type 0 where
+  pub shows : IsSo (length old) answered (take written new)
+  pub leaves : Leaves old new written
+
+-- The same where what is stated is in its range; else nothing is handed out, and the status says
+-- so.
+pub record ShowsInRange (InRange : Type 0) (IsSo : ℕ → ℕ → List ℕ → Type 0) (old new : List ℕ)
+    (written answered : ℕ) : Type 0 where
+  pub shows : InRange → IsSo (length old) answered (take written new)
+  pub beyond : ¬ InRange → (answered ≡ OUT_OF_RANGE) × (written ≡ 0)
+  pub leaves : Leaves old new written
+
+-- A call leaves its room so; where what is stated is out of its range, nothing stands at the front.
+pub record LeavesInRange (InRange : Type 0) (old new : List ℕ) (written : ℕ) : Type 0 where
+  pub beyond : ¬ InRange → written ≡ 0
+  pub leaves : Leaves old new written
+
+-- the line of a verdict
+abbrev pub verdict_line : Result Accepted Fault → List ℕ
+verdict_line (Ok accepted) = accepted_line accepted
+verdict_line (Err fault) = refusal_line fault
+
+-- the text of an answer; of a refusal its line, in the place of any text
+abbrev pub text_or_refusal : {A : Type 0} → List ℕ → Result A Fault → List ℕ
+text_or_refusal text (Ok x) = text
+text_or_refusal text (Err fault) = refusal_line fault
+
+-- the text that is answered of a list as rows; or the line of the refusal in its place
+abbrev pub listed_or_refusal : Result (List ℕ) Fault → List ℕ
+listed_or_refusal (Ok text) = text
+listed_or_refusal (Err fault) = refusal_line fault
+
+-- the line of a refusal, where the answer is one
+abbrev pub refusal_text : {A : Type 0} → Result A Fault → List ℕ
+refusal_text (Ok x) = []
+refusal_text (Err fault) = refusal_line fault
+
+-- the line of a comparison: that of the agreement, or of the refusal
+abbrev pub comparison_line : Result Agreement CompareFault → List ℕ
+comparison_line (Ok agreement) = agreement_line agreement
+comparison_line (Err fault) = compare.refusal_line fault
+
+-- the table that is answered, of directions, residuals or differences, or the report; or the line
+-- of the refusal in its place
+abbrev pub table_or_refusal : Result (List ℕ) CompareFault → List ℕ
+table_or_refusal (Ok table) = table
+table_or_refusal (Err fault) = compare.refusal_line fault
+
+-- the copy of these bytes, with codes; at a refusal nothing
+abbrev pub copy_text : List ℕ → Result Marked Refused → List ℕ
+copy_text gsi (Ok m) = copy_of gsi m
+copy_text gsi (Err refused) = []
+
+-- what is told of it, or the text of the refusal
+abbrev pub notes_or_refusal : Result Marked Refused → List ℕ
+notes_or_refusal (Ok m) = notes_of m
+notes_or_refusal (Err refused) = refusal_text_of_mark (unmarked refused)
+
+-- the copy of these bytes, with codes; at a refusal its line
+abbrev pub copy_or_refusal_line : List ℕ → Result Marked Refused → List ℕ
+copy_or_refusal_line gsi (Ok m) = copy_of gsi m
+copy_or_refusal_line gsi (Err refused) = refusal_line_of_mark (Mark (fault_in refused))
+
+-- the rows of its stations; at a refusal of those that were judged
+abbrev pub rows_told : Result Marked Refused → List ℕ
+rows_told (Ok m) = told_rows m.stations.items
+rows_told (Err refused) = told_rows (told_in refused)
