@@ -18,5 +18,6 @@ station_check_digest = station_page_digest;
 station_check_explain = station_page_explain;
 station_check_place = station_page_place;
 station_check_instrument = station_page_instrument;
+station_check_records = station_page_records;
 
 VERSION { STATION_CHECK_1 { global: station_check_*; local: *; }; }

@@ -305,6 +305,13 @@ uint8_t station_check_place(const char *line, size_t line_length,
 uint8_t station_check_instrument(const void *gsi, size_t gsi_length, uint32_t language,
                                  char *text, size_t room, size_t *length);
 
+/* The records of a text whose fields `separator` separates, the byte of a comma, a semicolon, a tab
+ * or a blank: of each a line of how many bytes its fields have, with commas between, and then the
+ * bytes of its fields, one after the other. Quotes around a field belong to none, and of two within
+ * them one stands for both; lines without bytes are no records. */
+uint8_t station_check_records(const void *csv, size_t csv_length, uint32_t separator,
+                              char *text, size_t room, size_t *length);
+
 #ifdef __cplusplus
 }
 #endif

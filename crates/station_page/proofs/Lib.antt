@@ -1,2 +1,3 @@
+mod FieldTexts
 mod Comparisons
 pub mod NamedFaults

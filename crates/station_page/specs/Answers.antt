@@ -68,6 +68,7 @@ use Rattle.station_page.specs.Limits.{States, stated_limit}
 use Rattle.station_page.specs.Listed.{TellsListed}
 use Rattle.station_page.specs.Placed.{TellsPlace}
 use Rattle.station_page.specs.Recorded.{TellsRecorded}
+use Rattle.station_page.specs.TextRecords.{TellsTheRecords}
 use Rattle.station_page.specs.declared.explain.Unexplained.{Unexplained}
 use Rattle.station_page.specs.declared.hand_out.TheConstants.{OUT_OF_RANGE}
 
@@ -349,6 +350,14 @@ pub record IsInstrumentOf (language : Language) (gsi : List ℕ) (room answered 
     (shown : List ℕ) : Type 0 where
   pub answer : Result (List ℕ) Fault
   pub tells : TellsRecorded language gsi answer
+  pub hands_out : HandsOut (status_of answer) (listed_or_refusal answer) room answered shown
+
+-- The status and the text are those of the records of this text, whose fields this byte separates;
+-- or memory ran out.
+pub record IsRecordsOf (separator : ℕ) (text : List ℕ) (room answered : ℕ) (shown : List ℕ)
+    : Type 0 where
+  pub answer : Result (List ℕ) Fault
+  pub tells : TellsTheRecords separator text answer
   pub hands_out : HandsOut (status_of answer) (listed_or_refusal answer) room answered shown
 
 -- What comes of these changes of a field file: the copy, or the fault.

@@ -9,6 +9,7 @@ pub mod Listed
 pub mod Placed
 pub mod Languages
 pub mod Recorded
+pub mod TextRecords
 pub mod Answers
 pub mod HandedOut
 pub mod Explained

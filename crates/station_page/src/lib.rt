@@ -23,6 +23,7 @@
 //! | `digest` | hands out the line of a file's SHA-256 digest |
 //! | `instrument` | hands out what a field file recorded of instrument and time |
 //! | `explain` | hands out what the fault means that a text names |
+//! | `records` | hands out the records of a text, whose fields a byte separates |
 //! | `place` | hands out where the line of a refusal stands, as a row |
 //!
 //! Each is given whole files as slices, and numbers in the place of options. It hands out its text
@@ -53,6 +54,7 @@ mod mark;
 mod mark_rows;
 mod means;
 mod place;
+mod records;
 mod report;
 mod residuals;
 mod statement;
