@@ -374,8 +374,8 @@ def table(
     line = parts["line"].removesuffix("\n")
     if "report" not in parts:
         raise Refused(line)
-    verdict, columns = _verdict(parts["verdict"]), _columns(parts["columns"])
-    return Table(line, verdict, columns, parts["differences"], parts["report"], _line(reply.beside))
+    verdict, read_by = _verdict(parts["verdict"]), _columns(parts["columns"])
+    return Table(line, verdict, read_by, parts["differences"], parts["report"], _line(reply.beside))
 
 
 def directions(

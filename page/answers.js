@@ -3,11 +3,12 @@
 import { ask, digestOf } from './work.js';
 import { nameIn, readFaults } from './faults.js';
 import {
-  UNITS, fieldOfSheet, originalOf, stationOfSheet, stationOfTable, stemOf, tellApart, withTaken,
+  UNITS, fieldOfSheet, originalOf, stationOfSheet, stationOfTable, stemOf, tellApart, tellingPartOf,
+  withTaken,
 } from './files.js';
 import { commandOf, isWithin } from './limits.js';
 import {
-  accuracyIn, each, greatestOf, namedIn, partsIn, recognizedIn, residualsIn, rowsIn,
+  accuracyIn, columnsIn, each, greatestOf, namedIn, partsIn, recognizedIn, residualsIn, rowsIn,
 } from './records.js';
 import { LANGUAGES, spoken } from './texts.js';
 
@@ -19,13 +20,14 @@ import { LANGUAGES, spoken } from './texts.js';
  * be compared, or something is to be done first.
  * @typedef {'good' | 'bad' | 'read' | 'open'} Mood
  * The answer of a command: its line or text, where it is a refusal the fault in the words of the
- * program and what it names, the greatest residual where it accepts a sheet, the verdict on a table in fields, with the
- * text of the differences where it was compared and the note of one that was read by a pair of its
- * columns, what it told of each station where it puts codes in, and whether there a line further on
- * sets up a station.
+ * program and what it names, the greatest residual where it accepts a sheet, the verdict on a table
+ * in fields, with the text of the differences where it was compared, its note, and the columns where
+ * it was read by a pair of them, what it told of each station where it puts codes in, and whether
+ * there a line further on sets up a station.
  * @typedef {{ command: string, asked: string, status: number, line: string, explanation: string,
- *   named?: import('./records.js').Named, field: Input, other?: Input, station?: Station, greatest?: import('./records.js').Residual,
- *   verdict?: import('./records.js').Verdict, differences?: string, note?: string,
+ *   named?: import('./records.js').Named, field: Input, other?: Input, station?: Station,
+ *   greatest?: import('./records.js').Residual, verdict?: import('./records.js').Verdict,
+ *   differences?: string, note?: string, columns?: import('./records.js').Columns,
  *   told?: import('./records.js').Recognized[], isSetUpLater?: boolean }} Answer
  * What came of the limit of residuals, to which each station is held: whether it is kept, the
  * residuals of which that was seen, with the greatest, and the command by which the program itself
@@ -280,6 +282,18 @@ async function answerOfMark(field, station = '') {
 
 // ---------------------------------------------------------------- sheets and tables
 
+/** Has the rows of a sheet or a table at hand, as the core reads them: several blanks are one. */
+async function readRows(/** @type {Input} */ file) {
+  if (file.rows) return;
+  const { part, separators } = tellingPartOf(file);
+  const read = separators.map(async separator => {
+    /** @type {{ told?: string[][] }} */
+    const { told = [] } = await ask('records', part, separator.charCodeAt(0));
+    return separator === ' ' ? told.map(fields => fields.filter(field => field !== '')) : told;
+  });
+  file.rows = (await Promise.all(read)).flat();
+}
+
 /**
  * The answer to a sheet, with the greatest residual where it is accepted.
  * @param {Input} sheet
@@ -319,13 +333,14 @@ async function answerOfTable(table, station, limits) {
   const files = [field.bytes, field.name, table.bytes, table.name];
   const { status, bytes, beside: note } =
     await ask('table', ...files, name, twoC, twoI, ...form, within);
-  const { line: text = '', verdict = '', differences } = partsIn(bytes);
+  const { line: text = '', verdict = '', columns: read = '', differences } = partsIn(bytes);
   const operands = [field.name, name, table.name], stated = [
     ...unit === 'gon' ? [] : [`--${unit}`], ...columns ? ['--columns', columns.join(',')] : [],
   ];
   const command = commandOf('compare', ['twoC', 'twoI', 'within'], limits, operands, stated);
   const about = { asked: 'compare', field, other: table, station, command, note, differences };
-  return answered({ status, text }, { ...about, verdict: rowsIn(verdict)[0] });
+  const said = { verdict: rowsIn(verdict)[0], columns: columnsIn(read) };
+  return answered({ status, text }, { ...about, ...said });
 }
 
 // ---------------------------------------------------------------- the limit of residuals
@@ -404,6 +419,7 @@ export async function makeCards(inputs, limits, cards, told) {
   const stations = () => cards.flatMap(card => card.station ?? []);
   const read = () => each(cards.flatMap(card => card.field ?? []));
   try {
+    for (const file of others) await readRows(file);
     for (const field of fields) {
       tell(field);
       field.digest ||= await digestOf(field);

@@ -190,12 +190,14 @@ def later() -> str:
 
 
 def stored(texts: dict[str, dict[str, str]]) -> dict[str, Any]:
-    """What the page has beside the module: its texts, those of faults by their languages, the files
-    of its example, the script that is run later, and that of the worker."""
+    """What the page has beside the module: the script of the worker, and that which is run later, its
+    texts, those of faults by their languages, and the files of its example."""
     refusals = {path.stem: json.loads(path.read_text()) for path in REFUSALS}
     example = {path.name: path.read_bytes().decode() for path in EXAMPLE}
     calls = scripts.dense(scripts.joined(scripts.SCRIPTS["calls"]))
-    return {"texts": texts, "refusals": refusals, "example": example, "later": later(), "calls": calls}
+    # (modules that both scripts have are packed once, as long as these stand beside each other)
+    rest = {"texts": texts, "refusals": refusals, "example": example}
+    return {"calls": calls, "later": later(), **rest}
 
 
 def page(module: bytes) -> str:

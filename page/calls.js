@@ -129,5 +129,6 @@ export const calls = {
   explain: (core, line) => callOf(core, 'station_page_explain', [line], []),
   instrument: (core, gsi, language) =>
     callOf(core, 'station_page_instrument', [gsi], [language]),
+  records: (core, text, separator) => callOf(core, 'station_page_records', [text], [separator]),
   place: (core, line, gsi, other) => callOf(core, 'station_page_place', [line, gsi, other], []),
 };

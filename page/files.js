@@ -1,5 +1,5 @@
 // What a file is, by what it holds, and which station a result belongs to, by names and by content.
-import { each, recordsOf } from './records.js';
+import { each } from './records.js';
 
 /**
  * What a file is: a field file, a sheet or a table, or a workbook of which a table is taken; or why
@@ -21,20 +21,20 @@ import { each, recordsOf } from './records.js';
  * `saved` says of the stations of a field file by their names what was saved of them last, and
  * `unfolded` has those whose readings the user unfolded. `recorded` has by the language the lines of
  * what it recorded of instrument and time, and is there with the digest once the file was judged.
+ * `rows` has the fields of the first rows of a sheet, and of the rows of a table by each separator
+ * that it may have: the core reads them before the file is judged.
  * @typedef {{ name: string, path: string, handle?: any, shown: string, bytes: Uint8Array,
  *   kind: Kind, digest: string, choice?: { field: Input, name: string }, unit?: Unit,
  *   columns?: number[], station?: string, typed?: string, original?: Input, taken?: Input,
  *   numbers?: Map<string, Numbers>, typing?: Map<string, Record<string, string>>, code?: string,
  *   typedCode?: string, again?: Again, others?: boolean,
  *   saved?: Map<string, () => string>, unfolded?: Set<string>, recorded?: Record<string, string[]>,
- *   changes?: import('./changes.js').Change[], given?: Input }} Input
+ *   rows?: string[][], changes?: import('./changes.js').Change[], given?: Input }} Input
  * How many sets were read to the end at a station, and how many targets they have: each 0 where it
  * is not stated.
  * @typedef {{ sets: number, targets: number }} Numbers
- * The unit of a table's directions; by which of its columns one was read, and what was passed over.
+ * The unit of a table's directions.
  * @typedef {'gon' | 'degrees' | 'dmmss'} Unit
- * @typedef {{ names: number, directions: number, before: number, among: number, after: number,
- *   units: number }} Columns
  * What a station is whose name comes again: the same set-up, whose readings go on, or another one.
  * @typedef {'same' | 'another'} Again
  * A station of a field file, with all that is answered of it once that was asked for.
@@ -45,8 +45,8 @@ import { each, recordsOf } from './records.js';
 /** So many bytes at the beginning of a file tell what it is. */
 export const HEAD = 4096;
 
-/** So many bytes of a sheet have the station of its first row: it is asked for again and again. */
-const FIRST_ROW = 256;
+/** So many bytes of a sheet have the station of its first row; no table of a station has more. */
+const FIRST_ROW = 256, MOST_OF_TABLE = 2 ** 20;
 
 /** The first two bytes of a text in UTF-16, in either order. */
 const UTF16_MARKS = [0xfffe, 0xfeff];
@@ -159,11 +159,22 @@ export function kindOf(/** @type {string} */ name, /** @type {Uint8Array} */ byt
 
 // ---------------------------------------------------------------- what belongs together
 
-/** The station that a sheet is of, by its first row. */
-export function stationOfSheet(/** @type {Input} */ sheet) {
-  const text = textOf(sheet.bytes.subarray(0, FIRST_ROW)), separator = text.match(SHEET)?.[1];
-  return recordsOf(text, separator)[0]?.fields[2] ?? '';
+/**
+ * Of a sheet or a table that which tells its station, and by what its fields may be separated.
+ * @param {Input} file
+ */
+export function tellingPartOf({ kind, bytes }) {
+  const isSheet = kind === 'sheet', most = isSheet ? FIRST_ROW : MOST_OF_TABLE;
+  // (a part that isn't copied would be handed over with all of the file)
+  const part = bytes.length > most ? bytes.slice(0, most) : bytes;
+  const [, ofSheet = ','] = textOf(part.subarray(0, FIRST_ROW)).match(SHEET) ?? [];
+  // (by one that it doesn't have each row is a single field)
+  const separators = SEPARATORS.filter(one => part.includes(one.charCodeAt(0)));
+  return { part, separators: isSheet ? [ofSheet] : separators };
 }
+
+/** The station that a sheet is of, by its first row, once that was read. */
+export const stationOfSheet = (/** @type {Input} */ { rows = [] }) => rows[0]?.[2] ?? '';
 
 /**
  * The field files with the longest name that begins this one, as in a folder: `NAME.STATION.csv`.
@@ -228,46 +239,26 @@ export function fieldOfSheet(sheet, all, stations) {
 const hasPart = (/** @type {string} */ stem, /** @type {string} */ name) =>
   ` ${stem.replace(/[._-]/g, ' ')} `.includes(` ${name.replace(/[._-]/g, ' ')} `);
 
-/** The rows of a table by one of the separators: several blanks are one. */
-const rowsBy = (/** @type {Input} */ table, /** @type {string} */ separator) =>
-  recordsOf(textOf(table.bytes), separator)
-    .map(({ fields }) => separator === ' ' ? fields.filter(field => field !== '') : fields);
-
 /**
  * What may be the names of a table: the first fields of its rows, so many or all, however they are
  * separated.
  * @param {Input} table
  * @param {number} [most]
  */
-const namesIn = (table, most) => new Set(SEPARATORS.flatMap(separator =>
-  rowsBy(table, separator).flatMap(fields => fields.slice(0, most).map(field => field.trim()))));
-
-/** The numbers of the note of a table, in their order. */
-const NOTED_OF_TABLE = ['names', 'directions', 'before', 'among', 'after', 'units'];
-
-/**
- * What the note of a table says that was read by a pair of its columns: which they are, from 1, and
- * how many rows and units were passed over; nothing where there is no note.
- * @returns {Columns | undefined}
- */
-export function columnsIn(note = '') {
-  const found = note.startsWith('note: table: ') ? note.match(/\d+/g) ?? [] : [];
-  if (found.length !== NOTED_OF_TABLE.length) return undefined;
-  return /** @type {Columns} */ (
-    Object.fromEntries(NOTED_OF_TABLE.map((name, nth) => [name, Number(found[nth])])));
-}
+const namesIn = ({ rows = [] }, most) =>
+  new Set(rows.flatMap(fields => fields.slice(0, most).map(field => field.trim())));
 
 /**
  * How many decimals of a gon a table states of each name: by the columns of names and of
  * directions, counted from 1, or by two columns.
  * @param {Input} table
- * @param {Columns} [columns]
+ * @param {import('./records.js').Columns} [columns]
  */
 export function decimalsIn(table, columns) {
   /** @type {Map<string, number>} */
   const decimals = new Map();
   if ((originalOf(table).unit ?? 'gon') !== 'gon') return decimals;
-  for (const fields of SEPARATORS.flatMap(separator => rowsBy(table, separator))) {
+  for (const fields of table.rows ?? []) {
     const [first = '', ...rest] = fields;
     const [name = '', direction = ''] = columns
       ? [fields[columns.names - 1], fields[columns.directions - 1]]

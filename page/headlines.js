@@ -3,7 +3,7 @@ import {
   ACCEPTED, OUT_OF_RANGE, TOO_LITTLE_ROOM, isCountedOtherwise, isTwice, isUncounted, isWithoutName,
 } from './answers.js';
 import { toldOf } from './faults.js';
-import { columnsIn, isUsed, originalOf, stationOfSheet } from './files.js';
+import { isUsed, originalOf, stationOfSheet } from './files.js';
 import { APART, HALF, mgonOf } from './numbers.js';
 import { differencesIn, sizeOf } from './records.js';
 import { signedNumeral, text } from './texts.js';
@@ -63,10 +63,8 @@ export function furthestOf(/** @type {string} */ differences) {
 }
 
 /** By which columns a table was read, in words; nothing where it has two. */
-export function columnsText(/** @type {Answer} */ { note }) {
-  const columns = columnsIn(note);
-  return columns ? text('columnsRead', columns) : '';
-}
+export const columnsText = (/** @type {Answer} */ { columns }) =>
+  columns ? text('columnsRead', columns) : '';
 
 /** The answer in words, and what the fault of a refusal is. */
 export const saidOf = (/** @type {Answer} */ answer) =>
@@ -156,9 +154,9 @@ export function waitingText(/** @type {Card} */ { mood, marked, isStopped, waiti
 /** What a file is, in words. */
 export function kindText(/** @type {Input} */ file) {
   const names = {
-    field: 'kindField', sheet: 'kindSheet', table: 'kindTable', workbook: 'kindWorkbook',
-    spreadsheet: 'kindSpreadsheet', utf16: 'kindUtf16', empty: 'kindEmpty', unread: 'kindUnread',
-    other: 'kindOther',
+    field: 'kindField', sheet: file.rows ? 'kindSheet' : 'kindSheetUnread', table: 'kindTable',
+    workbook: 'kindWorkbook', spreadsheet: 'kindSpreadsheet', utf16: 'kindUtf16',
+    empty: 'kindEmpty', unread: 'kindUnread', other: 'kindOther',
   };
   return text(names[file.kind], { station: file.kind === 'sheet' ? stationOfSheet(file) : '' });
 }

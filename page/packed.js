@@ -5,15 +5,16 @@
 const LETTERS =
   '0123456789ABCDEFGHIJKLMNOPQRSTUVWXYZabcdefghijklmnopqrstuvwxyz!#$%&()*+-;<=>?@^_`{|}~';
 
-/** The bytes that a text in base 85 stands for. */
+/** The bytes that a text in base 85 stands for: a long one takes some milliseconds. */
 export function bytesOfText(/** @type {string} */ text) {
   const groups = Math.ceil(text.length / 5), view = new DataView(new ArrayBuffer(4 * groups));
-  const values = new Map(Array.from(LETTERS, (letter, value) => [letter, value]));
-  for (let group = 0; group < groups; group++) {
-    // (what is missing at the end is as if it were the last letter)
-    const letters = text.slice(5 * group, 5 * group + 5).padEnd(5, LETTERS.at(-1));
+  const values = new Uint8Array(128), base = LETTERS.length;
+  for (let value = 0; value < base; value++) values[LETTERS.charCodeAt(value)] = value;
+  // (what is missing at the end is as if it were the last letter)
+  const whole = text.padEnd(5 * groups, LETTERS.at(-1));
+  for (let group = 0, at = 0; group < groups; group++) {
     let four = 0;
-    for (const letter of letters) four = LETTERS.length * four + (values.get(letter) ?? 0);
+    for (const end = at + 5; at < end; at++) four = base * four + values[whole.charCodeAt(at)];
     view.setUint32(4 * group, four);
   }
   return new Uint8Array(view.buffer, 0, text.length - groups);

@@ -378,7 +378,10 @@ async function checkAll() {
   const turn = now.turn + 1;
   go({ turn, phase: { is: isWrong ? 'wrong' : 'checking' }, loading: [], far: undefined });
   if (isWrong) return;
-  await worked(() => makeCards(inputs, limits, cards, told), () => {
+  await worked(async () => {
+    await worded;
+    await makeCards(inputs, limits, cards, told);
+  }, () => {
     cards.sort((one, other) => ORDER[one.mood] - ORDER[other.mood]);
     return { cards, limits, phase: { is: 'done' } };
   });
@@ -554,8 +557,8 @@ async function readAgain() {
   for (const input of now.inputs.filter(one => one.handle)) {
     const { path, handle } = input, { bytes } = asHandedIn(input), changes = changesOf(input);
     const again = await inputOf(await givenOf(handle, input.given?.path ?? path));
-    const gone = { taken: undefined, given: undefined, changes: undefined, recorded: undefined };
-    Object.assign(input, gone, again);
+    const gone = { taken: undefined, given: undefined, changes: undefined };
+    Object.assign(input, gone, { recorded: undefined, rows: undefined }, again);
     const still = stillOf(changes, bytes, again.bytes);
     // (where that is stopped the file is checked as it is)
     if (still.length > 0) await changeLines(input, still).catch(() => '');

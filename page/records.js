@@ -1,59 +1,32 @@
-// What stands in the texts of the program: records of comma-separated text, the parts of what is
-// answered of a station or a table, what is told of a job without codes, the stations of a list, the
-// residuals and the readings of a station, the differences of a table. Nothing here decides
-// anything.
+// What stands in the texts of the program: the rows that it writes, the records that it reads of a
+// file, the parts of what is answered of a station or a table, what is told of a job without codes,
+// the stations of a list, the residuals and the readings of a station, the columns and the
+// differences of a table. Nothing here decides anything.
 import { turned } from './numbers.js';
 
-/** @typedef {{ first: number, end: number, fields: string[] }} TextRecord */
+/** A cell of a row that the core wrote, and the comma after it. */
+const CELL = /(?:"(?:[^"]|"")*"|[^,\n]*),/gy;
 
-/**
- * The records as the core counts them, from 1: where each begins and ends in the text, and its
- * fields. Lines without bytes are none.
- * @param {string} text
- */
-export function recordsOf(text, separator = ',') {
-  /** @type {TextRecord[]} */
-  const records = [];
-  let fields = [''], first = 0, isQuoted = false, wasQuoted = false;
-  const end = (/** @type {number} */ at) => {
-    if (at > first) records.push({ first, end: at, fields });
-    [fields, first, isQuoted, wasQuoted] = [[''], at + 1, false, false];
-  };
-  const add = (/** @type {string} */ letter) => { fields[fields.length - 1] += letter; };
-  for (let at = 0; at < text.length; at++) {
-    const letter = text[at];
-    if (isQuoted) {
-      if (letter !== '"') add(letter);
-      else if (text[at + 1] === '"') add(text[++at]);
-      else isQuoted = false;
-    } else if (letter === '"' && fields.at(-1) === '' && !wasQuoted) {
-      isQuoted = wasQuoted = true;
-    } else if (letter === separator) {
-      fields.push('');
-      wasQuoted = false;
-    } else if (letter === '\n' || letter === '\r') {
-      end(at);
-    } else {
-      add(letter);
-    }
-  }
-  end(text.length);
-  return records;
+/** What a cell says, with the comma after it: quotes around it are left out, and are one of two. */
+function fieldIn(/** @type {string} */ cell) {
+  const said = cell.slice(0, -1);
+  return said.startsWith('"') ? said.slice(1, -1).replaceAll('""', '"') : said;
 }
-
-/** The lines of a text that the core wrote. */
-const linesOf = (/** @type {string} */ text) => text.split('\n').filter(line => line !== '');
 
 /** The fields of a row that the core wrote: it stands on one line. */
 const fieldsOf = (/** @type {string} */ line) =>
-  line.includes('"') ? recordsOf(line)[0].fields : line.split(',');
+  line.includes('"') ? Array.from(`${line},`.match(CELL) ?? [], fieldIn) : line.split(',');
+
+/** The lines of a text that the core wrote, each in its fields. */
+export const linesIn = (/** @type {string} */ text) =>
+  text.split('\n').filter(line => line !== '').map(fieldsOf);
 
 /**
  * The rows below the titles of a text, each with its fields by these.
  * @returns {Record<string, string>[]}
  */
 export function rowsIn(/** @type {string} */ text) {
-  const [titles, ...rows] = linesOf(text).map(fieldsOf);
+  const [titles, ...rows] = linesIn(text);
   return rows.map(fields =>
     Object.fromEntries(titles.map((title, nth) => [title, fields[nth]])));
 }
@@ -62,21 +35,41 @@ export function rowsIn(/** @type {string} */ text) {
 const LINE_FEED = 10;
 
 /**
+ * The text of some of the bytes of a call.
+ * @type {(bytes: Uint8Array, first: number, end: number) => string}
+ */
+const textAt = (bytes, first, end) => new TextDecoder().decode(bytes.subarray(first, end));
+
+/**
  * The parts of a text, by their titles: before each stands a line of its title and of how many bytes
  * it has.
  */
 export function partsIn(/** @type {Uint8Array} */ bytes) {
   /** @type {Record<string, string>} */
   const parts = {};
-  const textIn = (/** @type {number} */ first, /** @type {number} */ end) =>
-    new TextDecoder().decode(bytes.subarray(first, end));
   for (let at = 0; at < bytes.length;) {
     const first = bytes.indexOf(LINE_FEED, at) + 1;
-    const [title, count] = textIn(at, first).split(' ');
+    const [title, count] = textAt(bytes, at, first).split(' ');
     at = first + Number(count);
-    parts[title] = textIn(first, at);
+    parts[title] = textAt(bytes, first, at);
   }
   return parts;
+}
+
+/**
+ * The fields of the records that the core read of a file: before those of each record stands a line
+ * of how many bytes each of them has.
+ */
+export function recordsIn(/** @type {Uint8Array} */ bytes) {
+  /** @type {string[][]} */
+  const records = [];
+  for (let at = 0; at < bytes.length;) {
+    const first = bytes.indexOf(LINE_FEED, at) + 1;
+    const counts = textAt(bytes, at, first).split(',').map(Number);
+    at = first;
+    records.push(counts.map(count => textAt(bytes, at, at += count)));
+  }
+  return records;
 }
 
 /**
@@ -175,9 +168,6 @@ export function namedIn(/** @type {string} */ text) {
  *   targetNames: string[], rows: string }} Listed
  */
 
-/** A field of a row that the core wrote, and the comma after it. */
-const CELL = /(?:"(?:[^"]|"")*"|[^,\n]*),/y;
-
 /** The cell of a row that stands there in a text. */
 function cellAt(/** @type {string} */ text, /** @type {number} */ at) {
   CELL.lastIndex = at;
@@ -191,7 +181,7 @@ function cellAt(/** @type {string} */ text, /** @type {number} */ at) {
  */
 export function stationsOf(/** @type {string} */ text) {
   const after = (/** @type {number} */ at) => text.indexOf('\n', at) + 1;
-  const titles = text.slice(0, after(0)), nameOf = (/** @type {string} */ cell) => fieldsOf(cell)[0];
+  const titles = text.slice(0, after(0));
   /** @type {Listed[]} */
   const stations = [];
   for (let at = titles.length; at < text.length;) {
@@ -204,8 +194,8 @@ export function stationsOf(/** @type {string} */ text) {
       directions += 1;
       cells.add(cellAt(text, at + station.length + set.length));
     }
-    const targetNames = [...cells].map(nameOf), rows = titles + text.slice(first, at);
-    const targets = targetNames.length, name = nameOf(station);
+    const targetNames = [...cells].map(fieldIn), rows = titles + text.slice(first, at);
+    const targets = targetNames.length, name = fieldIn(station);
     stations.push({ name, sets, targets, directions, targetNames, rows });
   }
   return stations;
@@ -290,7 +280,24 @@ export function readingsIn(/** @type {string} */ text) {
   });
 }
 
-// ---------------------------------------------------------------- differences
+// ---------------------------------------------------------------- tables
+
+/**
+ * By which columns a table was read, counted from 1, and how many rows before, among and after its
+ * targets, and units, were passed over.
+ * @typedef {{ names: number, directions: number, before: number, among: number, after: number,
+ *   units: number }} Columns
+ */
+
+/**
+ * The columns by which a table was read; none where it has two.
+ * @returns {Columns | undefined}
+ */
+export function columnsIn(/** @type {string} */ text) {
+  const [row] = rowsIn(text);
+  return row && /** @type {Columns} */ (
+    Object.fromEntries(Object.entries(row).map(([title, number]) => [title, Number(number)])));
+}
 
 /**
  * By target what a table states and the least-squares direction, in gon, and their difference after
@@ -304,7 +311,7 @@ export function readingsIn(/** @type {string} */ text) {
  * @returns {Difference[]}
  */
 export function differencesIn(/** @type {string} */ text) {
-  const [, ...records] = recordsOf(text);
-  return records.map(({ fields: [target, stated, least, difference, fromMedian] }) =>
+  const [, ...rows] = linesIn(text);
+  return rows.map(([target, stated, least, difference, fromMedian]) =>
     ({ target, stated, least, difference, fromMedian }));
 }

@@ -1,7 +1,7 @@
 // The results of a station, on its card and in its protocol.
 import { ACCEPTED } from './answers.js';
 import { element, ofProgram } from './elements.js';
-import { columnsIn, decimalsIn, originalOf } from './files.js';
+import { decimalsIn, originalOf } from './files.js';
 import { hasZeniths } from './notes.js';
 import { showPicture } from './picture.js';
 import { differencesIn, readingsIn, residualsIn } from './records.js';
@@ -73,10 +73,10 @@ function sectionsOf(card, isOnPaper) {
   const { station, results, answers } = card;
   const { directions, residuals, accuracy } = results;
   /** @type {Section[]} */
-  const sections = answers.flatMap(({ differences, other, note }) => differences && other ? [{
+  const sections = answers.flatMap(({ differences, other, columns }) => differences && other ? [{
     title: text('differences', { name: other.shown }),
     fill(part) {
-      differencesTable(differencesIn(differences), decimalsIn(other, columnsIn(note)), part);
+      differencesTable(differencesIn(differences), decimalsIn(other, columns), part);
       element('p', text('differencesNote'), part, { className: 'quiet note' });
     },
   }] : []);

@@ -19,12 +19,12 @@ HERE = Path(__file__).resolve().parent
 SCRIPTS = {
     "calls": ["calls.js", "numbers.js", "packed.js", "records.js", "worker.js"],
     "page": [
-        "texts.js", "numbers.js", "records.js", "files.js", "packed.js", "stored.js", "work.js",
-        "limits.js", "notes.js", "answers.js", "elements.js", "faults.js", "headlines.js",
-        "overview.js", "drawing.js", "gather.js", "page.js",
+        "texts.js", "numbers.js", "files.js", "packed.js", "stored.js", "work.js", "limits.js",
+        "notes.js", "elements.js", "drawing.js", "gather.js", "page.js",
     ],
     "later": [
-        "place.js", "changes.js", "repairs.js", "tables.js", "readings.js", "picture.js", "results.js",
+        "records.js", "faults.js", "answers.js", "headlines.js", "overview.js", "place.js",
+        "changes.js", "repairs.js", "tables.js", "readings.js", "picture.js", "results.js",
         "refusals.js", "protocol.js", "cards.js", "workbook.js",
     ],
     "residuals": [

@@ -1,7 +1,7 @@
 // The results of a station as tables: targets as rows, and sets as columns, in groups that fit on a
 // page.
 import { element, tableOf } from './elements.js';
-import { each, greatestOf, pairsOf, recordsOf, sizeOf } from './records.js';
+import { each, greatestOf, linesIn, pairsOf, sizeOf } from './records.js';
 import { hasComma, numeral, signedNumeral, text } from './texts.js';
 
 /** So many sets stand side by side. */
@@ -44,7 +44,7 @@ function bySets(caption, targets, sets, cell, parent, className) {
  */
 export function directionsTable(table, station, parent) {
   const pairs = pairsOf(station.listed);
-  const rows = recordsOf(table).map(({ fields: [target, direction] }) => {
+  const rows = linesIn(table).map(([target, direction]) => {
     const n = pairs.filter(pair => pair.target === target).length;
     const seen = text('ofSets', { n, all: station.listed.sets });
     return [target, { text: numeral(direction) }, { text: seen, mark: 'quiet' }];

@@ -67,6 +67,7 @@ export const TEXTS = {
   remove: { en: 'Remove {name}', de: '{name} entfernen', fr: 'Retirer {name}' },
   kindField: { en: 'field file', de: 'Messdatei', fr: 'fichier de terrain' },
   kindSheet: { en: 'sheet of {station}', de: 'Ergebnisblatt von {station}', fr: 'résultat exact de {station}' },
+  kindSheetUnread: { en: 'sheet', de: 'Ergebnisblatt', fr: 'résultat exact' },
   kindTable: { en: 'table of directions', de: 'Richtungstabelle', fr: 'table de directions' },
   kindWorkbook: {
     en: 'table of directions, of the first sheet',

@@ -1,7 +1,7 @@
 // Answers one call after the other beside the page, so that no file holds the window.
 import { calls } from './calls.js';
 import { unpacked } from './packed.js';
-import { partsIn, stationsOf } from './records.js';
+import { partsIn, recordsIn, stationsOf } from './records.js';
 
 /** @type {Promise<WebAssembly.Module>} */
 let core;
@@ -31,8 +31,17 @@ async function stations(module, ...inputs) {
   return { status, shown: [], told: { stations: stationsOf(rows), readings: Number(unchecked) } };
 }
 
+/**
+ * The records of a text, which may be many too.
+ * @type {typeof stations}
+ */
+async function records(module, ...inputs) {
+  const { status, shown } = await calls.records(module, ...inputs);
+  return { status, shown: [], told: status === 0 ? recordsIn(shown[0]) : [] };
+}
+
 /** @type {typeof calls} */
-const asked = { ...calls, stations };
+const asked = { ...calls, stations, records };
 
 onmessage = async ({ data: { module, id, name, inputs, forget } }) => {
   if (forget) return files.delete(forget);

@@ -4,7 +4,7 @@
 // `station FILE NAME` gives all of a station, `table FILE NAME TABLE` all of a table, `list-rows FILE` a list as rows, `explain-bytes FILE` explains the bytes of a file, `place LINE FILE [OTHER]` tells where a refusal stands,
 // `instrument FILE [LANGUAGE]` what a file recorded of instrument and time, by the number of a language,
 // `digest FILE NAME` gives the line of its digest with this name, `change FILE N..` the copy with changes,
-// each `N` or `N=NAME`, `mark-rows FILE` what `mark` is told, with rows in the place of its notes and the line
+// each `N` or `N=NAME`, `records FILE N` its records with the separator of this number, `mark-rows FILE` what `mark` is told, with rows in the place of its notes and the line
 // of a refusal in that of the copy, and `time COMMAND WORD..` the milliseconds that the fastest of some runs takes. With
 // `--room=N` each text has room for so many bytes, and a call is not made again with more; with `--left=N`
 // so many pages of memory are left to a call, of all that 32 bits address.
@@ -99,6 +99,7 @@ const answers = {
     nameOf(name), ...faces, ...form, options['--within']),
   mark: gsi => marked('mark', gsi),
   'mark-rows': gsi => marked('markRows', gsi),
+  records: (file, separator) => calls.records(core, bytesOf(file), Number(separator)),
   change: (gsi, ...changes) => calls.change(core, bytesOf(gsi), nameOf(changes.join('\n'))),
   digest: (file, name) => calls.digest(core, bytesOf(file), nameOf(name)),
   explain: (line = '') => calls.explain(core, nameOf(line)),

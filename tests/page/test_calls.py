@@ -22,6 +22,7 @@ from fractions import Fraction
 from pathlib import Path
 
 import model
+import records
 from kinds import refusal_in, without_hint
 from program import EXAMPLE, PROGRAM, ROOT, SWEEP, TimedTest, answer_to
 from rows import answer_of_residuals, as_call, has_titles, residuals_in
@@ -509,6 +510,7 @@ class PageCallsTest(TimedTest):
             ["mark", "--targets=P\u00e47=3", gsi],
             ["mark-rows", "--station=SEVENTEEN LETTERS", gsi],
             ["mark-rows", "--sets=three", gsi],
+            *(["records", table, str(separator)] for separator in (0, ord("."), 0xFFFFFFFF)),
             ["comma-rows", "--two-i=1000001", gsi, "P7"],
             ["directions", "--decimal-comma", "--decimals=9", gsi, "P7"],
             ["differences", "--decimal-comma", "--columns=2,2", gsi, "P7", table],
@@ -673,6 +675,7 @@ class PageCallsTest(TimedTest):
             ["directions", "--decimal-comma", gsi, "P7"],
             ["differences", "--decimal-comma", *noted],
             ["digest", gsi, "two\\lines\n"],
+            ["records", table, "44"],
             # The same of a refusal; of words it stands beside the words, of which there are none here.
             ["check", gsi, table],
             ["list", sheet],
@@ -712,6 +715,21 @@ class PageCallsTest(TimedTest):
                     self.assertIn(hashlib.sha256(data).hexdigest().encode(), shown.stdout)
                     answer = answer_to([*self.command(), "digest", path, name])
                     self.assertEqual((0, shown.stdout, b""), answer)
+
+    def test_the_records_of_a_text_are_those_of_the_model(self):
+        """Of changed sheets and tables too, by each separator that these may have."""
+        chance = random.Random(13)
+        files = [path.read_bytes() for path in EXAMPLES[1:]]
+        texts = [*records.TEXTS, *files, *(changed(with_ends(chance.choice(files), chance), chance) for _ in range(CHANGED))]
+        with tempfile.TemporaryDirectory() as folder:
+            path = Path(folder) / "table.csv"
+            for text in texts:
+                path.write_bytes(text)
+                for separator in records.SEPARATORS:
+                    expected = records.handed_out(model.records_of(text, bytes([separator])))
+                    with self.subTest(text, separator=separator):
+                        answer = answer_to([*self.command(), "records", path, str(separator)])
+                        self.assertEqual((0, expected, b""), answer)
 
     def test_a_copy_with_changed_lines_is_that_of_the_model(self):
         chance = random.Random(11)

@@ -1113,6 +1113,17 @@ class PageInBrowserTest(TimedTest):
         self.assertEqual("good", self.cards(page)[0][0])
         self.assertTrue(page.text(".columns").endswith("Units passed over: 6."), page.text(".columns"))
 
+    def test_the_station_of_a_sheet_is_that_of_its_first_row_once_it_was_read(self):
+        """Whatever it is checked with: that begins when no limit is wrong."""
+        page = self.page(self.file("quoted.csv", b'\xef\xbb\xbf"sheet","1","P ""7"\r\ntarget,1\r\n'))
+        self.assertEqual(['sheet of P "7'], page.texts("#inputs .kind"))
+        page.empty()
+        page.fill("two-c", "x")
+        page.give(SHEET)
+        self.assertEqual(["sheet"], page.texts("#inputs .kind"))
+        page.fill("two-c", "20")
+        self.assertEqual(["sheet of S1"], page.texts("#inputs .kind"))
+
     def test_it_is_told_by_which_columns_a_table_was_read(self):
         """Beside the answer, beside a refusal of a table that is apart, and on paper."""
         rows = [b"%d;%s;%s" % (nth, *row.split(b",")) for nth, row in enumerate(FOUR_DECIMALS.split(), 1)]
