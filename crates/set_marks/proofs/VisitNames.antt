@@ -1,5 +1,5 @@
 -- The names of set-ups where a name that comes again is another set-up.
-use Rattle.std.proofs.Common.{◌≡◌, ℕ, ◌+◌, arith, true, ◌&&◌, List, [], ◌∷◌, length, Option}
+use Rattle.std.proofs.Common.{◌≡◌, ℕ, ◌+◌, arith, true, ◌&&◌, List, [], ◌∷◌, ◌++◌, length, Option}
 use Rattle.std.proofs.Common.{refl, sym, ap, ◌∙◌, inl, inr, All}
 use Rattle.std.specs.Prelude.{nat_le, suc, unwrap_or}
 use Rattle.std.specs.Map.{lookup}
@@ -14,7 +14,7 @@ use Rattle.adjust_kernel.specs.declared.name.TheConstants.{FIRST_PRINTABLE, LAST
 use Rattle.adjust_kernel.specs.Names.{IsName, IsPrintable}
 use Rattle.gsi_word.specs.Names.{name_of}
 use Rattle.set_marks.specs.Visits.{Visits, is_printable, is_read_so, numbered}
-use Rattle.set_marks.specs.Visits.{once_more, times, visit_name}
+use Rattle.set_marks.specs.Visits.{all_once_more, once_more, times, visit_name}
 use Rattle.station_book.proofs.lists.Elements.{same_bytes}
 use Rattle.station_book.proofs.lists.NameMaps.{name_eq, names_by_bytes}
 use Rattle.set_marks.proofs.BareNames.{IsBareName}
@@ -100,18 +100,21 @@ pub read_as : (bytes name bare : List ℕ) → name ≡ bytes → IsName name �
 read_as bytes name bare same is bare_is =
     ap is_read_so (sym same) ∙ name_is_read_so name is ∙ ap (λ b. bytes_eq b name) (sym bare_is)
 
-pub count_found : (entries visits : Visits) (name : List ℕ) (o : Option ℕ)
-    → o ≡ lookup (name_eq name) entries → entries ≡ visits → unwrap_or o 0 ≡ times visits name
-count_found entries visits name o found same =
+pub count_found : (entries : Visits) (name : List ℕ) (o : Option ℕ)
+    → o ≡ lookup (name_eq name) entries → unwrap_or o 0 ≡ times entries name
+count_found entries name o found =
     ap (λ (p : Option ℕ). unwrap_or p 0) found ∙ found_times entries name
-    ∙ ap (λ (vs : Visits). times vs name) same
 
-pub count_added : (entries visits after : Visits) (name : List ℕ) (n count : ℕ)
-    → after ≡ insert_entry name_eq entries name n → n ≡ count + 1 → count ≡ times visits name
-    → entries ≡ visits → after ≡ once_more visits name
-count_added entries visits after name n count is more found same =
+pub count_added : (entries after : Visits) (name : List ℕ) (n count : ℕ)
+    → after ≡ insert_entry name_eq entries name n → n ≡ count + 1 → count ≡ times entries name
+    → after ≡ once_more entries name
+count_added entries after name n count is more found =
     let next : n ≡ suc (times entries name) =
-    more ∙ ap (λ (k : ℕ). k + 1) (found ∙ ap (λ (vs : Visits). times vs name) (sym same))
-    ∙ omega arith in
+    more ∙ ap (λ (k : ℕ). k + 1) found ∙ omega arith in
     is ∙ ap (λ (k : ℕ). insert_entry name_eq entries name k) next ∙ with_one_more entries name
-    ∙ ap (λ (vs : Visits). once_more vs name) same
+
+-- A name that came after others.
+pub one_after : (visits : Visits) (names : List (List ℕ)) (name : List ℕ)
+    → all_once_more visits (names ++ name ∷ []) ≡ once_more (all_once_more visits names) name
+one_after visits [] name = refl
+one_after visits (first ∷ names) name = one_after (once_more visits first) names name

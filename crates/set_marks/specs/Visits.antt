@@ -23,6 +23,11 @@ once_more [] name = (name, 1) ∷ []
 once_more ((other, n) ∷ visits) name =
     if bytes_eq other name then (other, suc n) ∷ visits else (other, n) ∷ once_more visits name
 
+-- each of these names came once more
+abbrev pub all_once_more : Visits → List (List ℕ) → Visits
+all_once_more visits [] = visits
+all_once_more visits (name ∷ names) = all_once_more (once_more visits name) names
+
 -- The bytes of the name of a set-up, after so many of its name.
 abbrev pub numbered : List ℕ → ℕ → List ℕ
 numbered name zero = name

@@ -1,6 +1,6 @@
 //! What each station is judged to be, by its readings and its name.
 
-ghost use Rattle.std.specs.Prelude.{◌≡◌, ◌≤◌, [], ◌∷◌, IfNone, IfOk, length, option_map};
+ghost use Rattle.std.specs.Prelude.{◌≡◌, ◌≤◌, [], ◌∷◌, IfNone, IfOk, OnOk, length, option_map};
 ghost use Rattle.station_book.specs.Faults.{first_of};
 ghost use Rattle.adjust_kernel.specs.declared.bounds.TheConstants.{MOST_TARGETS};
 ghost use Rattle.set_marks.specs.declared.fault.MarkKind.TheVariants.{TooManyTargets};
@@ -53,15 +53,21 @@ impl StationNames {
 
     /// What a station is called, after the stations of these names: by the name of this visit, where
     /// it isn't without sets, and a name that comes again is another set-up.
-    pub(crate) fn called(&self, again: bool, name: &Name, sights: &[Sight]) -> Name
-        ensures { result ≡ (called again (before_in self.now)
-            (record { name = name.now; sights = sights.now })).name }
+    pub(crate) fn called(
+        &mut self,
+        again: bool,
+        name: &Name,
+        sights: &[Sight],
+    ) -> Result<Name, AllocError>
+        ensures value { IfOk result (λ given. given ≡ (called again (before_in self.old)
+            (record { name = name.now; sights = sights.now })).name) }
+        ensures unchanged { OnOk result (self.new ≡ self.old) }
     {
         if again && !has_no_sets(sights) {
-            visit_name(name, self.visits.count(name))
-        } else {
-            *name
+            let earlier = self.visits.count(name)?;
+            return Ok(visit_name(name, earlier));
         }
+        Ok(*name)
     }
 
     /// Whether a name is among them.

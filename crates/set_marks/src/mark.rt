@@ -1,12 +1,14 @@
 //! A code line that is put in.
 
-ghost use Rattle.std.specs.Prelude.{◌≡◌, ◌<◌, ◌≤◌, ◌+◌, ◌-◌, ◌++◌, ◌∷◌, length, replicate};
+ghost use Rattle.std.specs.Prelude.{◌≡◌, ◌<◌, ◌≤◌, ◌+◌, ◌-◌, ◌++◌, codes, length, replicate};
 ghost use Rattle.arrayvec.specs.ArrayVec.{array_vec_len};
-ghost use Rattle.gsi_word.specs.declared.index.TheConstants.{CODE_NUMBER, CODE_INFORMATION};
+ghost use Rattle.gsi_word.specs.declared.index.TheConstants.{CODE_NUMBER};
 ghost use Rattle.gsi_word.specs.declared.word.TheConstants.{GSI_16};
-ghost use Rattle.gsi_word.specs.Bytes.{blank, zero_digit};
+ghost use Rattle.gsi_word.specs.Bytes.{zero_digit};
 ghost use Rattle.gsi_word.specs.Words.{spelled};
-ghost use Rattle.set_marks.specs.Marks.{width_of, word_of, digits, HasRoom, line_of, words_text};
+ghost use Rattle.set_marks.specs.declared.mark.Code.TheVariants.{Station, Set, Close};
+ghost use Rattle.set_marks.specs.Marks.{width_of, word_of, digits, star, HasRoom, line_of};
+ghost use Rattle.set_marks.specs.Marks.{words_text};
 
 use adjust_kernel::Name;
 use arrayvec::ArrayVec;
@@ -51,11 +53,11 @@ pub struct BlockMark {
 /// Bytes of a code word, at most: an index of 2, an information of 4, a sign, and a content.
 const LONGEST_CODE_WORD: usize = 2 + 4 + 1 + GSI_16;
 
-/// Bytes of the words of a code line, at most: two, and a blank.
-const LONGEST_CODE_WORDS: usize = 2 * LONGEST_CODE_WORD + 1;
+/// Bytes of the `*` and the words of a code line, at most: two words, and a blank.
+const LONGEST_CODE_TEXT: usize = 1 + 2 * LONGEST_CODE_WORD + 1;
 
 /// Bytes of a code line, at most: the `*`, its words, and its end.
-pub const LONGEST_CODE_LINE: usize = LONGEST_CODE_WORDS + 3;
+pub const LONGEST_CODE_LINE: usize = LONGEST_CODE_TEXT + 2;
 
 /// The bytes of a code line, in no memory but its own.
 pub type CodeLine = ArrayVec<u8, LONGEST_CODE_LINE>;
@@ -86,40 +88,43 @@ fn add(line: &mut CodeLine, bytes: &[u8])
     line.try_extend_from_slice(bytes).unwrap();
 }
 
-/// Adds a word of these first bytes, whose content is the name, filled with zeros.
-fn add_word(line: &mut CodeLine, front: &[u8], wide: bool, name: &[u8])
-    requires name { length name.now ≤ width_of wide }
-    requires room { array_vec_len line.old + length front.now + GSI_16 ≤ LONGEST_CODE_LINE }
-    ensures items { line.new.items ≡ line.old.items
-        ++ (front.now ++ (replicate (width_of wide - length name.now) zero_digit ++ name.now)) }
-    ensures len { array_vec_len line.new
-        ≤ array_vec_len line.old + length front.now + GSI_16 }
+/// What stands in a code line of code 10 before the zeros that fill the name of a station, and it.
+fn before_name(wide: bool) -> &'static [u8]
+    ensures text { result.now ≡ star wide
+        ++ (spelled (word_of (width_of wide) CODE_NUMBER (codes "10")) ++ codes " 42....+") }
+    ensures short { length result.now ≤ LONGEST_CODE_TEXT - GSI_16 }
 {
-    add(line, front);
-    add(line, zeros(width(wide) - name.len()));
-    add(line, name);
+    if wide {
+        b"*41....+0000000000000010 42....+"
+    } else {
+        b"41....+00000010 42....+"
+    }
 }
 
-/// Adds a code word: the number of the code, filled with zeros.
-fn add_code(line: &mut CodeLine, wide: bool, code: &[u8])
-    requires code { length code.now ≡ 2 }
-    requires room { array_vec_len line.old + LONGEST_CODE_WORD ≤ LONGEST_CODE_LINE }
-    ensures items { line.new.items
-        ≡ line.old.items ++ spelled (word_of (width_of wide) CODE_NUMBER code.now) }
-    ensures len { array_vec_len line.new ≤ array_vec_len line.old + LONGEST_CODE_WORD }
+/// What stands before the two digits of the number of a set in a code line of code 20.
+fn before_digits(wide: bool) -> &'static [u8]
+    ensures text { result.now ≡ star wide
+        ++ (spelled (word_of (width_of wide) CODE_NUMBER (codes "20"))
+        ++ (codes " 42....+" ++ replicate (width_of wide - 2) zero_digit)) }
+    ensures short { length result.now ≤ LONGEST_CODE_TEXT - 2 }
 {
-    add_word(line, b"41....+", wide, code);
+    if wide {
+        b"*41....+0000000000000020 42....+00000000000000"
+    } else {
+        b"41....+00000020 42....+000000"
+    }
 }
 
-/// Adds a blank and a word of first information.
-fn add_information(line: &mut CodeLine, wide: bool, name: &[u8])
-    requires name { length name.now ≤ width_of wide }
-    requires room { array_vec_len line.old + 1 + LONGEST_CODE_WORD ≤ LONGEST_CODE_LINE }
-    ensures items { line.new.items
-        ≡ line.old.items ++ blank ∷ spelled (word_of (width_of wide) CODE_INFORMATION name.now) }
-    ensures len { array_vec_len line.new ≤ array_vec_len line.old + 1 + LONGEST_CODE_WORD }
+/// A code line of code 30, without its end.
+fn close_text(wide: bool) -> &'static [u8]
+    ensures text { result.now ≡ star wide ++ words_text wide Close }
+    ensures short { length result.now ≤ LONGEST_CODE_TEXT }
 {
-    add_word(line, b" 42....+", wide, name);
+    if wide {
+        b"*41....+0000000000000030"
+    } else {
+        b"41....+00000030"
+    }
 }
 
 /// The two digits of a number.
@@ -130,23 +135,42 @@ fn digits(number: u8) -> [u8; 2]
     [b'0' + number / 10, b'0' + number % 10]
 }
 
-/// Adds the words of a code line.
-fn add_words(line: &mut CodeLine, wide: bool, code: &Code)
+/// Adds a code line of code 10, without its end.
+fn add_station(line: &mut CodeLine, wide: bool, name: &[u8])
+    requires name { length name.now ≤ width_of wide }
+    requires room { array_vec_len line.old + LONGEST_CODE_TEXT ≤ LONGEST_CODE_LINE }
+    ensures items { line.new.items
+        ≡ line.old.items ++ (star wide ++ words_text wide (Station name.now)) }
+    ensures len { array_vec_len line.new ≤ array_vec_len line.old + LONGEST_CODE_TEXT }
+{
+    add(line, before_name(wide));
+    add(line, zeros(width(wide) - name.len()));
+    add(line, name);
+}
+
+/// Adds a code line of code 20, without its end.
+fn add_set(line: &mut CodeLine, wide: bool, number: u8)
+    requires number { number < 100 }
+    requires room { array_vec_len line.old + LONGEST_CODE_TEXT ≤ LONGEST_CODE_LINE }
+    ensures items { line.new.items
+        ≡ line.old.items ++ (star wide ++ words_text wide (Set number)) }
+    ensures len { array_vec_len line.new ≤ array_vec_len line.old + LONGEST_CODE_TEXT }
+{
+    add(line, before_digits(wide));
+    add(line, &digits(number));
+}
+
+/// Adds a code line, without its end.
+fn add_text(line: &mut CodeLine, wide: bool, code: &Code)
     requires code { HasRoom wide code.now }
-    requires room { array_vec_len line.old + LONGEST_CODE_WORDS ≤ LONGEST_CODE_LINE }
-    ensures items { line.new.items ≡ line.old.items ++ words_text wide code.now }
-    ensures len { array_vec_len line.new ≤ array_vec_len line.old + LONGEST_CODE_WORDS }
+    requires room { array_vec_len line.old + LONGEST_CODE_TEXT ≤ LONGEST_CODE_LINE }
+    ensures items { line.new.items ≡ line.old.items ++ (star wide ++ words_text wide code.now) }
+    ensures len { array_vec_len line.new ≤ array_vec_len line.old + LONGEST_CODE_TEXT }
 {
     match code {
-        Code::Station(name) => {
-            add_code(line, wide, b"10");
-            add_information(line, wide, name.bytes());
-        }
-        Code::Set(number) => {
-            add_code(line, wide, b"20");
-            add_information(line, wide, &digits(*number));
-        }
-        Code::Close => add_code(line, wide, b"30"),
+        Code::Station(name) => add_station(line, wide, name.bytes()),
+        Code::Set(number) => add_set(line, wide, *number),
+        Code::Close => add(line, close_text(wide)),
     }
 }
 
@@ -156,10 +180,7 @@ pub fn code_line(mark: &Mark) -> CodeLine
     ensures { result.items ≡ line_of mark.now }
 {
     let mut line = CodeLine::new();
-    if mark.wide {
-        add(&mut line, b"*");
-    }
-    add_words(&mut line, mark.wide, &mark.code);
+    add_text(&mut line, mark.wide, &mark.code);
     add(&mut line, mark.line_end.bytes());
     line
 }

@@ -274,6 +274,18 @@ impl Marking {
         Ok(())
     }
 
+    /// What a station of the name of a set-up line is called, after those that were taken.
+    fn called(&mut self, line: &Name, sights: &[Sight]) -> Result<Name, AllocError>
+        requires room { All IsRoomy self.old.marks.items }
+        ensures room { All IsRoomy self.new.marks.items }
+        ensures value { IfOk result (λ given. given
+            ≡ (called self.old.stated.again (before_in self.old.names)
+            (record { name = line.now; sights = sights.now })).name) }
+        ensures unchanged { OnOk result (self.new ≡ self.old) }
+    {
+        self.names.called(self.stated.again, line, sights)
+    }
+
     /// Takes a station of the name of a set-up line, which was written again so often: it is judged
     /// by the name that it is called.
     pub(crate) fn take(
@@ -291,7 +303,7 @@ impl Marking {
             (judged_called (said_in self.old.stated) (before_in self.old.names)
             (record { name = line.now; sights = sights.now })) self.old self.new) }
     {
-        let name = self.names.called(self.stated.again, line, sights);
+        let name = self.called(line, sights)?;
         self.take_called(alloc, line, &name, sights, written_again)
     }
 

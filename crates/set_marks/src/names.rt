@@ -101,6 +101,10 @@ impl Names {
         ensures value { result ≡ is_among self.old name.now }
         ensures unchanged { self.new ≡ self.old }
     {
+        // Mostly no station has a fault, and then no hash of a name is needed.
+        if self.kept.is_empty() {
+            return false;
+        }
         match self.kept.get_index_of(name) {
             Some(place) => {
                 self.last = place;

@@ -1,9 +1,9 @@
 //! Names of set-ups, where one that comes again is another set-up.
 
-ghost use Rattle.std.specs.Prelude.{◌≡◌, ◌≤◌, ◌+◌, ◌∷◌, ◌++◌, [], OnOk, Some, None, codes, decimal};
-ghost use Rattle.std.specs.Prelude.{if◌then◌else◌, length};
+ghost use Rattle.std.specs.Prelude.{◌≡◌, ◌≤◌, ◌+◌, ◌∷◌, ◌++◌, [], IfOk, OnOk, Some, None, codes};
+ghost use Rattle.std.specs.Prelude.{decimal, if◌then◌else◌, length};
 ghost use Rattle.arrayvec.specs.ArrayVec.{array_vec_len};
-ghost use Rattle.set_marks.specs.Visits.{is_read_so, once_more, times, visit_name};
+ghost use Rattle.set_marks.specs.Visits.{all_once_more, is_read_so, once_more, times, visit_name};
 
 use adjust_kernel::{LONGEST_NAME, Name};
 use arrayvec::ArrayVec;
@@ -13,17 +13,56 @@ use std::alloc::{AllocError, Global};
 use std::marker::Model;
 
 /// How often each name came.
+///
+/// The names that came are counted once one is asked for. Where a name that comes again is no other
+/// set-up, none is, and no table of them is made.
 #[derive(Drop)]
 pub(crate) struct Visits {
     counts: IndexMap<Name, u32>,
+    /// The names that came since one was asked for, which are not counted yet.
+    uncounted: Vec<Name>,
 }
 
 impl Model for Visits {
     ghost use Rattle.std.specs.Prelude.{List, ℕ};
+    ghost use Rattle.set_marks.specs.Visits.{all_once_more};
 
     ghost Value = { List (List ℕ × ℕ) };
 
-    ghost view = { λ v. v.counts.entries };
+    ghost view = { λ v. all_once_more v.counts.entries v.uncounted.items };
+}
+
+/// How often a name was counted.
+fn count_in(counts: &IndexMap<Name, u32>, name: &Name) -> u32
+    ensures { result ≡ times counts.now.entries name.now }
+{
+    match counts.get(name) {
+        Some(count) => *count,
+        None => 0,
+    }
+}
+
+/// Counts that a name came once more. What no count of 32 bits can hold is no memory.
+fn count_one(counts: &mut IndexMap<Name, u32>, name: &Name) -> Result<(), AllocError>
+    ensures { OnOk result (counts.new.entries ≡ once_more counts.old.entries name.now) }
+{
+    let Some(count) = count_in(counts, name).checked_add(1) else {
+        return Err(AllocError);
+    };
+    counts.insert(*name, count)?;
+    Ok(())
+}
+
+/// Counts that each of these names came once more.
+fn count_all(counts: &mut IndexMap<Name, u32>, names: &[Name]) -> Result<(), AllocError>
+    ensures { OnOk result (counts.new.entries ≡ all_once_more counts.old.entries names.now) }
+{
+    let mut left = names;
+    'names: while let Some((name, rest)) = left.split_first() {
+        count_one(counts, name)?;
+        left = rest;
+    }
+    Ok(())
 }
 
 impl Visits {
@@ -33,27 +72,26 @@ impl Visits {
     {
         Visits {
             counts: IndexMap::new(alloc),
+            uncounted: Vec::new(alloc),
         }
     }
 
     /// How often this name came.
-    pub(crate) fn count(&self, name: &Name) -> u32
-        ensures { result ≡ times self.now name.now }
+    pub(crate) fn count(&mut self, name: &Name) -> Result<u32, AllocError>
+        ensures value { IfOk result (λ count. count ≡ times self.old name.now) }
+        ensures unchanged { OnOk result (self.new ≡ self.old) }
     {
-        match self.counts.get(name) {
-            Some(count) => *count,
-            None => 0,
-        }
+        count_all(&mut self.counts, &self.uncounted)?;
+        self.uncounted.clear();
+        Ok(count_in(&self.counts, name))
     }
 
-    /// Counts that this name came once more. What no count of 32 bits can hold is no memory.
+    /// Takes note that this name came once more.
+    #[tactic(auto, using(crate::proofs::VisitNames::one_after))]
     pub(crate) fn add(&mut self, name: &Name) -> Result<(), AllocError>
         ensures { OnOk result (self.new ≡ once_more self.old name.now) }
     {
-        let Some(count) = self.count(name).checked_add(1) else {
-            return Err(AllocError);
-        };
-        self.counts.insert(*name, count)?;
+        self.uncounted.push(*name)?;
         Ok(())
     }
 }
