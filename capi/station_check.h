@@ -10,11 +10,10 @@
  * not made from a signal handler, nor in the child that a process with threads forked.
  *
  * Texts: `text` has room for `room` bytes. The call writes the text to its beginning, without a
- * zero at the end, and its length to `*length`. If there is too little room nothing is written but
- * the length 0, and the status is 3: call again with more.
- * STATION_CHECK_LINE bytes are enough for each line of station_check_check and
- * station_check_compare, and for the note of a table; any other text may have more bytes than the
- * files.
+ * zero at the end, and its length to `*length`. If there is too little room for a text nothing of it
+ * is written but the length 0, and the status is 3: call again with more. STATION_CHECK_LINE bytes
+ * are enough for each line of station_check_check and station_check_compare, and
+ * STATION_CHECK_NOTE for the note of a table; any other text may have more bytes than the files.
  *
  * Limits: those of face differences, `two_c` and `two_i`, are in units of 0.01 mgon, at most
  * 1,000,000, and usually STATION_CHECK_FACES. Where `is_stated` is 0 there is no limit of
@@ -25,8 +24,9 @@
  * Tables of directions: `unit` is one of those below. `names` and `directions` state the columns of
  * the names and of their directions, two, counted from 1, at most 999,999; where both are 0 none are
  * stated: the table has two, or the one pair of its columns that fits is found. What was read by a
- * pair of columns is told in `note`, a line that says which they are, and how much was passed over;
- * else `note` is empty, and so it is at a refusal before the table was compared.
+ * pair of columns is told in `note`, by a line that says which they are, and how much was passed
+ * over; and of a table that is apart a line names another unit in which it agrees. Else `note` is
+ * empty, and so it is at a refusal before the table was compared.
  *
  * Names of stations have 1 to 16 bytes from 20 to 7E (hex), without a zero at the end.
  *
@@ -50,11 +50,12 @@ enum {
     STATION_CHECK_DONE = 0,            /* accepted, agrees, or written: the text says it */
     STATION_CHECK_REFUSED = 1,         /* the text is the line of the refusal */
     STATION_CHECK_OUT_OF_RANGE = 2,    /* a number or a name is out of its range: no text */
-    STATION_CHECK_TOO_LITTLE_ROOM = 3  /* the text has more bytes than there is room for: no text */
+    STATION_CHECK_TOO_LITTLE_ROOM = 3  /* a text has more bytes than there is room for: not there */
 };
 
 /* Room for any line of a check or a comparison, and for the note of a table, in bytes. */
 #define STATION_CHECK_LINE 192
+#define STATION_CHECK_NOTE 320
 
 /* The limits of face differences that are usual, in units of 0.01 mgon: 20 mgon. */
 #define STATION_CHECK_FACES 2000
@@ -308,7 +309,8 @@ uint8_t station_check_instrument(const void *gsi, size_t gsi_length, uint32_t la
 /* The records of a text whose fields `separator` separates, the byte of a comma, a semicolon, a tab
  * or a blank: of each a line of how many bytes its fields have, with commas between, and then the
  * bytes of its fields, one after the other. Quotes around a field belong to none, and of two within
- * them one stands for both; lines without bytes are no records. */
+ * them one stands for both; lines without bytes are no records, and a byte order mark at the
+ * beginning is part of none. CR, LF or both end a record. */
 uint8_t station_check_records(const void *csv, size_t csv_length, uint32_t separator,
                               char *text, size_t room, size_t *length);
 

@@ -22,7 +22,7 @@ A table of directions states gon, or by its `unit` "degrees", or "dmmss", which 
 minutes after the point and then the seconds. `columns` are those of names and of directions,
 counted from 1; where none are stated the table has two, or the one pair of its columns that fits is
 found. The `note` of the answer, or of a refusal, tells which columns were read, and how much was
-passed over; it is empty where there are two.
+passed over, where there are more than two; and another unit in which a table that is apart agrees.
 
 The library is the one that STATION_CHECK_LIBRARY names, else that of the installation which this
 file belongs to, else the one that the system finds.

@@ -314,7 +314,7 @@ STATED = r"""
 #include <stdlib.h>
 #include <station_check.h>
 
-static char gsi[1 << 16], other[1 << 16], out[1 << 16], note[STATION_CHECK_LINE];
+static char gsi[1 << 16], other[1 << 16], out[1 << 16], note[STATION_CHECK_NOTE];
 
 static size_t read_file(const char *path, char *bytes) {
     FILE *file = fopen(path, "rb");
@@ -462,13 +462,17 @@ class LibraryTest(ProgramTest):
             with self.subTest(case.name):
                 self.assertEqual(without_hint(case.expected), self.answer(*call))
 
-    def test_the_longest_note_of_a_table_has_room_for_a_line(self) -> None:
-        """Each number of a note is at most that of a table's bytes."""
-        note: str = self.module.compare(EXAMPLE.read_bytes(), "S1", b"1;A;0\n2;B;50.00003\n").note
-        longest = re.sub(r"\d+", str(model.LONGEST_TABLE), note) + "\n"
-        line = re.search(r"STATION_CHECK_LINE (\d+)", HEADER.read_text())
-        assert line
-        self.assertLessEqual(len(longest), int(line[1]))
+    def test_the_longest_note_of_a_table_has_the_room_that_the_header_says(self) -> None:
+        """Each number of its first line is at most that of a table's bytes, and its second names a unit."""
+        gsi, degrees = EXAMPLE.read_bytes(), b"1;A;0\n2;B;45.000027\n"
+        with self.assertRaises(self.module.Refused) as raised:
+            self.module.compare(gsi, "S1", degrees)
+        first, second = raised.exception.note.splitlines()
+        self.assertEqual(model.UNIT_NOTES["degrees"], f"{second}\n".encode())
+        longest = max(map(len, model.UNIT_NOTES.values()))
+        room = re.search(r"STATION_CHECK_NOTE (\d+)", HEADER.read_text())
+        assert room
+        self.assertLessEqual(len(re.sub(r"\d+", str(model.LONGEST_TABLE), first)) + 1 + longest, int(room[1]))
 
     def test_a_table_of_any_form_is_answered_as_by_the_model(self) -> None:
         """With its note, at a refusal too."""

@@ -35,8 +35,8 @@ begins_section after_empty line =
 abbrev pub stands_alone : Bool → List ℕ → Bool → Bool
 stands_alone after_empty line before_empty = after_empty && (not (is_empty line) && before_empty)
 
--- The fewest lines that stand on a page from a line on, if so many are still to come: of a title
--- and of titles of columns so many that a row is among them.
+-- How many lines have to be left on a page for a line to stand there, if so many are to come: for a
+-- title and for titles of columns so many that a row may follow them.
 abbrev pub fewest_from : Bool → List ℕ → Bool → ℕ
 fewest_from after_empty line before_empty =
     if begins_section after_empty line then LINES_OF_SECTION

@@ -15,12 +15,12 @@ const FORM_FEED: u8 = 0x0C;
 /// The most lines of a page: A4 has some 66, and a printer leaves a margin.
 const LINES_OF_PAGE: usize = 60;
 
-/// The fewest lines of a section at the foot of a page: the two of its title, an empty one, the
-/// titles of its columns, an empty one, and as many as from those titles on, since a row may stand
-/// alone too.
+/// How many lines have to be left on a page for a section to begin there: the two of its title, an
+/// empty one, the titles of its columns, an empty one, and as many as for those titles, since a row
+/// may stand alone too.
 const LINES_OF_SECTION: usize = 8;
 
-/// The fewest lines from the titles of columns on: they, an empty one and a row.
+/// How many have to be left for the titles of columns: they, an empty one and a row.
 const LINES_OF_COLUMNS: usize = 3;
 
 /// Whether a line begins a section.
@@ -37,7 +37,7 @@ fn stands_alone(after_empty: bool, line: &[u8], before_empty: bool) -> bool
     after_empty && !is_empty(line) && before_empty
 }
 
-/// The fewest lines that stand on a page from a line on, if so many are still to come.
+/// How many lines have to be left on a page for a line to stand there, if so many are to come.
 fn fewest_from(after_empty: bool, line: &[u8], before_empty: bool) -> usize
     ensures { result ≡ spec.fewest_from after_empty line.now before_empty }
 {

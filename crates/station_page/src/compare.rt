@@ -22,7 +22,8 @@ use table_answers::Comparison;
 
 /// Compares the directions that a table states with those of the station of this name in a field
 /// file, both whole, and hands out the line of the agreement or of the refusal; and in `note` the
-/// line of the note, where the table was read by a pair of its columns and compared.
+/// lines of the note, where the table was compared: of the pair of columns by which it was read,
+/// and of another unit in which it agrees.
 ///
 /// The limits of 2c and 2i are in units of 0.00001 gon, at most 1,000,000. `unit` is that of the
 /// table: 0 for gon, 1 for degrees, 2 for degrees with minutes and seconds after the point. `names`

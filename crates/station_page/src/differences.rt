@@ -20,8 +20,8 @@ use table_answers::Differences;
 /// Hands out the differences of a table of directions from the station of this name in a field
 /// file, both whole: a row of titles, and a row for each target, with what the table states, the
 /// least-squares direction, and the difference after the rotation that makes the largest smallest,
-/// exactly rounded; or the line of the refusal. In `note` the line of the note is handed out, where
-/// the table was read by a pair of its columns.
+/// exactly rounded; or the line of the refusal. In `note` the lines of the note are handed out: of
+/// the pair of columns by which the table was read, and of another unit in which it agrees.
 ///
 /// The limits of 2c and 2i are in units of 0.00001 gon, at most 1,000,000. `unit` is that of the
 /// table: 0 for gon, 1 for degrees, 2 for degrees with minutes and seconds after the point. `names`

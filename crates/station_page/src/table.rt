@@ -23,9 +23,10 @@ use table_report::Asked;
 /// Hands out all that is answered of a table beside the station of this name in a field file, both
 /// whole, by one reading of each and one adjustment: the line of the agreement or of the refusal,
 /// the verdict as a row, the numbers of the note as such a row, what `station_page_differences`
-/// hands out, and the report with the table, each after a line of its title and of how many bytes it
-/// has. Where the table was not compared there are the first two alone. In `note` the line of the
-/// note is handed out, where the table was read by a pair of its columns and compared.
+/// hands out, and the report with the table, each after a line of its title and of how many bytes
+/// it has. Where the table was not compared there are the first two alone. In `note` the lines of
+/// the note are handed out, where the table was compared: of the pair of columns by which it was
+/// read, and of another unit in which it agrees.
 ///
 /// The report names the field file by `path` and the table by `table_path`. The limits of 2c and 2i
 /// are in units of 0.00001 gon, at most 1,000,000. `unit` is that of the table: 0 for gon, 1 for
