@@ -3,6 +3,7 @@
 use Rattle.std.specs.Prelude.{◌==◌, ◌+◌, ◌-◌, ℕ, if◌then◌else◌, nat_lt, option_map}
 use Rattle.direction_table.specs.declared.form.ColumnPair.{ColumnPair}
 use Rattle.direction_table.specs.declared.form.TableForm.{TableForm}
+use Rattle.direction_table.specs.declared.reading.ByColumns.{ByColumns}
 
 -- The largest number of 32 bits: no row has so many columns.
 abbrev pub past_all : ℕ
@@ -21,6 +22,10 @@ pair_in_whole pair = record {
   names = column_in_whole pair.names;
   directions = column_in_whole pair.directions;
 }
+
+-- How a part was read, by the columns of the whole.
+abbrev pub read_in_whole : ByColumns → ByColumns
+read_in_whole by = record { pair = pair_in_whole by.pair; passed = by.passed }
 
 abbrev pub pair_in_part : ColumnPair → ColumnPair
 pair_in_part pair = record {

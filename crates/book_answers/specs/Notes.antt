@@ -1,9 +1,9 @@
 -- What is told of stations beside their one text.
-use Rattle.std.specs.Prelude.{◌≡◌, ℕ, List, [], ◌++◌, codes, drop, Option, Some, None, nat_eq}
+use Rattle.std.specs.Prelude.{◌≡◌, ℕ, List, [], ◌++◌, codes, drop, Option, nat_eq, option_map}
 use Rattle.std.specs.Prelude.{if◌then◌else◌}
 use Rattle.std.specs.List.{AllZip, concat, starts_with}
-use Rattle.book_answers.specs.Columns.{form_in_part, pair_in_whole}
-use Rattle.direction_table.specs.TableNotes.{note_line, table_note, told_note}
+use Rattle.book_answers.specs.Columns.{form_in_part, read_in_whole}
+use Rattle.direction_table.specs.TableNotes.{columns_read, told_note}
 use Rattle.direction_table.specs.declared.form.TableForm.{TableForm}
 use Rattle.direction_table.specs.declared.reading.ByColumns.{ByColumns}
 use Rattle.direction_table.specs.declared.unit.AngleUnit.{AngleUnit}
@@ -38,20 +38,18 @@ named_line name line = line_of name line
 -- The columns of a part as of a table of it alone, but with the name of its station, and by those
 -- of the whole table; none of a part of two columns.
 abbrev pub named_columns : List ℕ → Option ByColumns → List ℕ
-named_columns name None = []
-named_columns name (Some by) = named_line name (note_line (pair_in_whole by.pair) by.passed)
+named_columns name by = named_line name (told_note (option_map read_in_whole by))
 
 -- This is the note of a station and of the bytes of its part: by which columns they are read, and
 -- what is passed over of them; and the unit in which they agree, where they are apart as they are
 -- read.
 pub record IsNoteOf (form : TableForm) (its : SurveyedStation) (bytes note : List ℕ)
     : Type 0 where
-  pub by : Option ByColumns
-  pub told : told_note by ≡ table_note form its.station.targets bytes
   pub other : Option AngleUnit
   pub names : IsOtherUnit form its.station bytes other
   pub note_is : note
-      ≡ named_columns its.station.name by ++ named_line its.station.name (unit_note other)
+      ≡ named_columns its.station.name (columns_read form its.station.targets bytes)
+      ++ named_line its.station.name (unit_note other)
 
 -- The same of a station and of its part of these lines, where this form is stated of the whole.
 abbrev pub IsPartNote : TableForm → List (List ℕ) → SurveyedStation → List ℕ → Type 0

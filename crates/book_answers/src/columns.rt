@@ -1,9 +1,9 @@
 //! Columns of a table of all stations, whose first is that of the stations' names, and of the part
 //! of one, which lacks it.
-ghost use Rattle.std.specs.Prelude.{◌≡◌};
+ghost use Rattle.std.specs.Prelude.{◌≡◌, option_map};
 ghost use Rattle.book_answers.specs.Columns as spec;
 
-use direction_table::{ColumnPair, TableForm};
+use direction_table::{ByColumns, ColumnPair, TableForm};
 
 /// A column of a part, by the whole.
 pub(crate) fn column_in_whole(column: u32) -> u32
@@ -24,12 +24,25 @@ fn column_in_part(column: u32) -> u32
 }
 
 /// Columns of a part, by the whole.
-pub(crate) fn pair_in_whole(pair: ColumnPair) -> ColumnPair
+fn pair_in_whole(pair: ColumnPair) -> ColumnPair
     ensures { result ≡ spec.pair_in_whole pair }
 {
     ColumnPair {
         names: column_in_whole(pair.names),
         directions: column_in_whole(pair.directions),
+    }
+}
+
+/// How a part was read, by the whole.
+pub(crate) fn read_in_whole(by: Option<ByColumns>) -> Option<ByColumns>
+    ensures { result ≡ option_map spec.read_in_whole by }
+{
+    match by {
+        Some(by) => Some(ByColumns {
+            pair: pair_in_whole(by.pair),
+            passed: by.passed,
+        }),
+        None => None,
     }
 }
 

@@ -1,13 +1,13 @@
 //! What is told of the part of a station.
 ghost use Rattle.std.specs.Prelude.{◌≡◌, ◌≤◌, ◌++◌, ℕ, IfErr, IfOk, drop, length};
 ghost use Rattle.book_answers.specs.Notes as spec;
-ghost use Rattle.direction_table.specs.TableNotes.{note_line, told_note};
+ghost use Rattle.direction_table.specs.TableNotes.{told_note};
 ghost use Rattle.table_answers.specs.Noting.{IsNote};
 ghost use Rattle.table_answers.specs.Refusing.{HasNoAnswerOf, HasNoDifferences};
 
-use crate::columns::pair_in_whole;
+use crate::columns::read_in_whole;
 use adjust_kernel::Name;
-use direction_table::{ByColumns, ColumnPair, Passed, TableForm, push_note, read_part_table};
+use direction_table::{ByColumns, TableForm, read_part_table, told_note};
 use station_book::Surveyed;
 use station_compare::CompareFault;
 use std::alloc::{AllocError, Global};
@@ -49,38 +49,12 @@ fn named_line(alloc: Global, name: Name, line: &[u8]) -> Result<Vec<u8>, AllocEr
     line_of(alloc, name, line)
 }
 
-/// The line of a pair of columns.
-fn columns_line(alloc: Global, pair: ColumnPair, passed: Passed) -> Result<Vec<u8>, AllocError>
-    ensures { IfOk result (λ line. line.items ≡ note_line pair passed) }
-{
-    let mut line = Vec::new(alloc);
-    push_note(&mut line, pair, passed)?;
-    Ok(line)
-}
-
 /// The line of the columns by which a part was read, with the name of its station, by the columns of
 /// the whole table.
 fn named_columns(alloc: Global, name: Name, by: Option<ByColumns>) -> Result<Vec<u8>, AllocError>
     ensures { IfOk result (λ note. note.items ≡ spec.named_columns name by) }
 {
-    match by {
-        None => Ok(Vec::new(alloc)),
-        Some(by) => named_line(
-            alloc,
-            name,
-            &columns_line(alloc, pair_in_whole(by.pair), by.passed)?,
-        ),
-    }
-}
-
-/// The line of the columns by which a part was read, as it has it alone.
-fn told_columns(alloc: Global, by: Option<ByColumns>) -> Result<Vec<u8>, AllocError>
-    ensures { IfOk result (λ told. told.items ≡ told_note by) }
-{
-    match by {
-        None => Ok(Vec::new(alloc)),
-        Some(by) => columns_line(alloc, by.pair, by.passed),
-    }
+    named_line(alloc, name, &told_note(alloc, read_in_whole(by))?)
 }
 
 /// The notes of a part with the name of its station: that of the columns by which it was read, and
@@ -95,7 +69,7 @@ fn named_notes(
     ensures { IfOk result (λ note. note.items ≡ spec.named_columns name by
         ++ spec.named_line name (drop (length (told_note by)) own.now)) }
 {
-    let told = told_columns(alloc, by)?;
+    let told = told_note(alloc, by)?;
     let mut note = named_columns(alloc, name, by)?;
     note.extend_from_slice(&named_line(alloc, name, &own[told.len()..])?)?;
     Ok(note)

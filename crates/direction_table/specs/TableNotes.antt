@@ -60,28 +60,33 @@ unfoldable pub numbered : List ℕ → ℕ → List ℕ
 numbered text number = text ++ decimal number
 
 -- The line of a note.
-abbrev pub note_line : ColumnPair → Passed → List ℕ
-note_line pair passed =
-    numbered (codes "note: table: targets in column ") (pair.names + 1)
-    ++ (numbered (codes ", directions in column ") (pair.directions + 1)
-    ++ (numbered (codes "; rows passed over: ") passed.before
-    ++ (numbered (codes " before, ") passed.among
-    ++ (numbered (codes " among, ") passed.after
-    ++ (numbered (codes " after them; units passed over: ") passed.units
+abbrev pub note_line : ToldColumns → List ℕ
+note_line by =
+    numbered (codes "note: table: targets in column ") (by.pair.names + 1)
+    ++ (numbered (codes ", directions in column ") (by.pair.directions + 1)
+    ++ (numbered (codes "; rows passed over: ") by.passed.before
+    ++ (numbered (codes " before, ") by.passed.among
+    ++ (numbered (codes " among, ") by.passed.after
+    ++ (numbered (codes " after them; units passed over: ") by.passed.units
     ++ codes "\n")))))
 
--- The note of a way to read bytes: none, where they are read as two columns.
-abbrev pub note_by : AngleUnit → List (List ℕ) → List ℕ → Way → List ℕ
-note_by unit targets bytes TwoColumns = []
-note_by unit targets bytes (ByColumns separator pair) =
-    note_line pair (passed_by unit targets pair (rows_by separator bytes))
-note_by unit targets bytes (MoreFit first second) = []
+-- The note of what is told: none, where nothing is.
+abbrev pub told_note : Option ToldColumns → List ℕ
+told_note None = []
+told_note (Some by) = note_line by
+
+-- What is told of bytes that are read in a way: nothing, where they are read as two columns.
+abbrev pub columns_by : AngleUnit → List (List ℕ) → List ℕ → Way → Option ToldColumns
+columns_by unit targets bytes TwoColumns = None
+columns_by unit targets bytes (ByColumns separator pair) =
+    Some
+    (record { pair = pair; passed = passed_by unit targets pair (rows_by separator bytes) })
+columns_by unit targets bytes (MoreFit first second) = None
+
+-- What is told of a table.
+abbrev pub columns_read : TableForm → List (List ℕ) → List ℕ → Option ToldColumns
+columns_read form targets bytes = columns_by form.unit targets bytes (way_of form targets bytes)
 
 -- The note of a table.
 abbrev pub table_note : TableForm → List (List ℕ) → List ℕ → List ℕ
-table_note form targets bytes = note_by form.unit targets bytes (way_of form targets bytes)
-
--- The same of what was told of a table in memory.
-abbrev pub told_note : Option ToldColumns → List ℕ
-told_note None = []
-told_note (Some by) = note_line by.pair by.passed
+table_note form targets bytes = told_note (columns_read form targets bytes)

@@ -1,7 +1,7 @@
 -- What is read of bytes in a way, and what their fault is.
 use Rattle.std.specs.Prelude.{◌≡◌, ◌⊎◌, ℕ, ◌+◌, ◌≤◌, List}
 use Rattle.direction_table.specs.FaultsOfRows.{AreFaultless, IsRowFault}
-use Rattle.direction_table.specs.TableNotes.{note_by, told_note}
+use Rattle.direction_table.specs.TableNotes.{columns_by}
 use Rattle.direction_table.specs.TableRows.{IsOneWay, rows_read, rules_read}
 use Rattle.direction_table.specs.Tables.{stated_by}
 use Rattle.direction_table.specs.UsualLimits.{finest_step}
@@ -14,7 +14,7 @@ use Rattle.direction_table.specs.declared.way.Way.{Way}
 use Rattle.direction_table.specs.declared.way.Way.TheVariants.{TwoColumns, ByColumns, MoreFit}
 
 -- This was read of bytes in a way: one pair of columns, no row of which has a fault, what they
--- state of each target, and the note of it.
+-- state of each target, and what is told of it.
 pub record IsReadIn (unit : AngleUnit) (targets : List (List ℕ)) (bytes : List ℕ) (way : Way)
     (read : ReadTable) : Type 0 where
   pub one_way : IsOneWay way
@@ -23,7 +23,7 @@ pub record IsReadIn (unit : AngleUnit) (targets : List (List ℕ)) (bytes : List
       ≡ stated_by unit (rows_read unit targets bytes way) targets
   pub finest : read.stated.finest_step ≡ finest_step unit (rows_read unit targets bytes way)
   pub small_step : read.stated.finest_step ≤ COARSEST_STEP
-  pub note : told_note read.by_columns ≡ note_by unit targets bytes way
+  pub columns : read.by_columns ≡ columns_by unit targets bytes way
 
 -- The fault of bytes that are read in a way: the first two columns that fit, or that of a row.
 abbrev pub IsWayFault : AngleUnit → List (List ℕ) → List ℕ → Way → TableFault → Type 0

@@ -41,7 +41,7 @@ pub use fault::{RowKind, TableFault};
 pub use form::{ColumnPair, TableForm, stated_columns};
 pub use gon::GON;
 pub use limit::{LARGEST_WITHIN, USUAL_WITHIN};
-pub use note::{Passed, push_note};
+pub use note::{Passed, told_note};
 pub use reading::{
     ByColumns, LONGEST_TABLE, PartTable, StatedTable, read_part_table, read_stated_table,
     read_table,

@@ -1,6 +1,6 @@
 //! What is told of a table that is read by a pair of its columns.
 
-ghost use Rattle.std.specs.Prelude.{◌≡◌, ◌++◌, ◌≤◌, OnOk, filter, length, map, not};
+ghost use Rattle.std.specs.Prelude.{◌≡◌, ◌++◌, ◌≤◌, IfOk, OnOk, filter, length, map, not};
 ghost use Rattle.direction_table.specs.Cells.{names_in};
 ghost use Rattle.std.specs.List.{prefix_len};
 ghost use Rattle.csv.specs.Records.{fields_of};
@@ -9,12 +9,12 @@ ghost use Rattle.direction_table.specs.TableNotes as spec;
 use crate::cell::{GON_WORD, cell, names_in, without_unit};
 use crate::form::ColumnPair;
 use crate::picked::end_of_named;
-use crate::reading::LONGEST_TABLE;
+use crate::reading::{ByColumns, LONGEST_TABLE};
 use crate::unit::AngleUnit;
 use adjust_kernel::Name;
 use csv::ByteRecord;
 use itoa::Buffer;
-use std::alloc::AllocError;
+use std::alloc::{AllocError, Global};
 
 /// What was passed over of a table.
 #[derive(Clone, Copy, Debug, PartialEq, Eq, Drop)]
@@ -113,9 +113,10 @@ fn push_numbered(text: &mut Vec<u8>, bytes: &[u8], number: u64) -> Result<(), Al
 }
 
 /// Adds the line of a note: the columns that were read, and what was passed over.
-pub fn push_note(text: &mut Vec<u8>, pair: ColumnPair, passed: Passed) -> Result<(), AllocError>
-    ensures { OnOk result (text.new.items ≡ text.old.items ++ spec.note_line pair passed) }
+fn push_note(text: &mut Vec<u8>, by: ByColumns) -> Result<(), AllocError>
+    ensures { OnOk result (text.new.items ≡ text.old.items ++ spec.note_line by) }
 {
+    let ByColumns { pair, passed } = by;
     let names = u64::from(pair.names) + 1;
     let directions = u64::from(pair.directions) + 1;
     push_numbered(text, b"note: table: targets in column ", names)?;
@@ -130,4 +131,17 @@ pub fn push_note(text: &mut Vec<u8>, pair: ColumnPair, passed: Passed) -> Result
     )?;
     text.push(b'\n')?;
     Ok(())
+}
+
+/// The note of a table that was read by a pair of its columns: one line. No byte of any other.
+///
+/// The only error is that memory was refused.
+pub fn told_note(alloc: Global, by_columns: Option<ByColumns>) -> Result<Vec<u8>, AllocError>
+    ensures { IfOk result (λ note. note.items ≡ spec.told_note by_columns) }
+{
+    let mut note = Vec::new(alloc);
+    if let Some(by) = by_columns {
+        push_note(&mut note, by)?;
+    }
+    Ok(note)
 }

@@ -17,7 +17,7 @@ ghost use Rattle.direction_table.specs.FaultsOfRows.{IsRowFaultOrMemory};
 ghost use Rattle.direction_table.specs.FieldForms.{tidy};
 ghost use Rattle.direction_table.specs.Separators.{rows_of};
 ghost use Rattle.direction_table.specs.FoundColumns.{found_way, separator_by};
-ghost use Rattle.direction_table.specs.TableNotes.{table_note, told_note};
+ghost use Rattle.direction_table.specs.TableNotes.{columns_read};
 ghost use Rattle.direction_table.specs.TableRows.{table_rows, unstated_way, way_of};
 ghost use Rattle.direction_table.specs.WaysRead.{IsReadIn, IsWayFaultOrMemory};
 ghost use Rattle.direction_table.specs.declared.way.Way.TheVariants as way;
@@ -118,8 +118,8 @@ pub fn read_stated_table(
         ≡ spec.usual_within form.unit (table_rows form targets.now bytes.now)) }
     ensures most_off { IfOk result (λ stated.
         stated.most_off ≡ spec.most_off form.unit (table_rows form targets.now bytes.now)) }
-    ensures note { IfOk result (λ stated.
-        told_note stated.by_columns ≡ table_note form targets.now bytes.now) }
+    ensures columns { IfOk result (λ stated.
+        stated.by_columns ≡ columns_read form targets.now bytes.now) }
     ensures small_off { IfOk result (λ stated. stated.most_off ≤ DEGREE_PARTS) }
     ensures fault { IfErr result (IsTableFaultOrMemory form targets.now bytes.now) }
     ensures too_long { LONGEST_TABLE < length bytes.now → result ≡ Err TooLong }
@@ -176,8 +176,8 @@ pub fn read_part_table(
         part.usual_within ≡ spec.usual_within form.unit (table_rows form targets.now bytes.now)) }
     ensures most_off { IfOk result (λ part.
         part.most_off ≡ spec.most_off form.unit (table_rows form targets.now bytes.now)) }
-    ensures note { IfOk result (λ part.
-        told_note part.by_columns ≡ table_note form targets.now bytes.now) }
+    ensures columns { IfOk result (λ part.
+        part.by_columns ≡ columns_read form targets.now bytes.now) }
     ensures small_off { IfOk result (λ part. part.most_off ≤ DEGREE_PARTS) }
     ensures fault { IfErr result (IsPartFaultOrMemory form targets.now bytes.now) }
     ensures too_long { LONGEST_TABLE < length bytes.now → result ≡ Err TooLong }

@@ -6,4 +6,3 @@ pub mod OtherUnits
 pub mod OneNote
 pub mod ComparedBy
 pub mod PartTables
-pub mod ColumnNotes

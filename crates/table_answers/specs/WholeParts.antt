@@ -13,7 +13,7 @@ use Rattle.table_report.specs.Stating.{ReportAsked}
 
 -- Of what came of both readers the text has the verdict of the comparison, the differences and the
 -- report: each of them is what is answered where it alone is asked for. And it has the columns by
--- which the table was read, as the note of it has them.
+-- which the table was read.
 pub record HasPartsBeside (asked : ReportAsked) (limits : ResultLimits) (file : FileAnswers)
     (stated : Told) (name : List ℕ) (whole : WholeValue) : Type 0 where
   pub states_comparison : StatesBeside (SaysComparison asked.form asked.within limits) limits file

@@ -1,7 +1,6 @@
 //! By which pair of its columns a table was read, as data, in no memory but its own.
 ghost use Rattle.std.specs.Prelude.{◌≡◌, ◌≤◌, ◌+◌, ◌++◌, decimal, length};
 ghost use Rattle.arrayvec.specs.ArrayVec.{array_vec_len};
-ghost use Rattle.direction_table.specs.TableNotes.{told_note};
 ghost use Rattle.station_check.specs.declared.verdict_line.TheConstants.{LONGEST_U64};
 ghost use Rattle.station_check.specs.declared.verdict_line.TheConstants.{LONGEST_VERDICT_LINE};
 ghost use Rattle.table_answers.specs.ColumnRows as spec;
@@ -19,7 +18,7 @@ const LONGEST_ROW: usize = 2 * (LONGEST_U64 + 1) + 4 * (LONGEST_U32 + 1);
 /// which it was read, how many rows were passed over before, among and after those that name a
 /// target, and how many units. Of a table that was read as two columns there are the titles alone.
 pub(crate) fn columns_rows(by_columns: Option<ByColumns>) -> VerdictLine
-    ensures { result.items ≡ spec.columns_rows (told_note by_columns) }
+    ensures { result.items ≡ spec.columns_rows by_columns }
 {
     let mut rows = VerdictLine::new();
     add(&mut rows, b"names,directions,before,among,after,units\n");
@@ -32,7 +31,7 @@ pub(crate) fn columns_rows(by_columns: Option<ByColumns>) -> VerdictLine
 /// Adds the row of a table that was read by a pair of its columns.
 fn add_columns(rows: &mut VerdictLine, by: ByColumns)
     requires { array_vec_len rows.old + LONGEST_ROW ≤ LONGEST_VERDICT_LINE }
-    ensures { rows.new.items ≡ rows.old.items ++ spec.columns_row by.pair by.passed }
+    ensures { rows.new.items ≡ rows.old.items ++ spec.columns_row by }
 {
     add_column(rows, b"", by.pair.names);
     add_column(rows, b",", by.pair.directions);

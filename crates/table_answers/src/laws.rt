@@ -2,7 +2,6 @@
 ghost use Rattle.std.specs.Prelude.{◌≡◌, ◌++◌, ℕ, List, Result, Some};
 ghost use Rattle.adjust_kernel.specs.Stations.{StationValue};
 ghost use Rattle.byte_ends.specs.Source.{Told};
-ghost use Rattle.direction_table.specs.TableNotes.{told_note};
 ghost use Rattle.direction_table.specs.declared.form.TableForm.{TableForm};
 ghost use Rattle.gsi_file.specs.FileAnswers.{FileAnswers};
 ghost use Rattle.station_book.specs.Limits.{AreLimits};
@@ -10,14 +9,12 @@ ghost use Rattle.station_book.specs.declared.result_limits.ResultLimits.{ResultL
 ghost use Rattle.station_compare.specs.OneAnswer.{IsSettled};
 ghost use Rattle.station_compare.specs.declared.fault.CompareFault.{CompareFault};
 ghost use Rattle.table_answers.specs.Answers.{StatesBeside, TellsBeside};
-ghost use Rattle.table_answers.specs.ColumnRows.{columns_row, columns_rows, columns_titles};
 ghost use Rattle.table_answers.specs.Noting.{IsNote};
 ghost use Rattle.table_answers.specs.WholeParts.{HasPartsBeside};
 ghost use Rattle.table_answers.specs.Wholes.{IsWhole, WholeValue};
 ghost use Rattle.table_report.specs.Stating.{ReportAsked};
 
 use crate::answer::TableAnswer;
-use direction_table::ByColumns;
 
 /// What came of two readers has one answer, whatever is asked of the station and the table: the
 /// fault that stands first is one, and so is all that the answer says. Two answers alone may stand
@@ -45,10 +42,4 @@ pub fn parts_alone()
 pub fn one_note()
     ensures { (form : TableForm) (station : StationValue) (bytes a b : List ℕ)
         → IsNote form station bytes a → IsNote form station bytes b → a ≡ b }
-{}
-
-/// The row of a table that was read by a pair of its columns, which has the numbers of its note, has
-/// the columns, counted from 1, and what was passed over.
-pub fn columns_of_note(by: ByColumns)
-    ensures { columns_rows (told_note (Some by)) ≡ columns_titles ++ columns_row by.pair by.passed }
 {}

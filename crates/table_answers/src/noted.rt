@@ -1,7 +1,7 @@
 //! What is told of a table beside the answer.
 ghost use Rattle.std.specs.Prelude.{◌≡◌, ◌≤◌, ◌↔◌, IfOk, IsTrue, length};
 ghost use Rattle.adjust_kernel.specs.declared.bounds.TheConstants.{LARGEST_RESIDUAL_LIMIT};
-ghost use Rattle.direction_table.specs.TableNotes.{table_note, told_note};
+ghost use Rattle.direction_table.specs.TableNotes.{columns_read};
 ghost use Rattle.exact_adjustment.specs.Exact.{IsExact, KeepsLimit};
 ghost use Rattle.exact_adjustment.specs.LeastOf.{AreTied};
 ghost use Rattle.table_answers.specs.NearTables.{IsReadAs};
@@ -10,7 +10,7 @@ ghost use Rattle.table_answers.specs.OtherUnits.{Agrees};
 
 use crate::other_unit::{is_near, other_unit, unit_note};
 use adjust_kernel::Station;
-use direction_table::{ByColumns, DEGREE_PARTS, StatedTable, TableForm, push_note};
+use direction_table::{ByColumns, DEGREE_PARTS, StatedTable, TableForm, told_note};
 use exact_adjustment::Adjustment;
 use std::alloc::{AllocError, Global};
 
@@ -52,8 +52,8 @@ pub(crate) fn note_of(
     requires off { stated.now.most_off ≤ DEGREE_PARTS }
     requires read { IsReadAs form station.now bytes.now stated.now.directions.items
         stated.now.most_off stated.now.usual_within }
-    requires note { told_note stated.now.by_columns
-        ≡ table_note form station.now.targets bytes.now }
+    requires columns { stated.now.by_columns
+        ≡ columns_read form station.now.targets bytes.now }
     ensures { IfOk result (λ note. IsNote form station.now bytes.now note.items) }
 {
     let read = AsRead {
@@ -76,23 +76,12 @@ pub(crate) fn note_by(
     requires limited { KeepsLimit station.now adjustment.now LARGEST_RESIDUAL_LIMIT }
     requires tied { AreTied station.now }
     requires agrees { IsTrue read.agrees ↔ Agrees form station.now bytes.now }
-    requires note { told_note read.by_columns
-        ≡ table_note form station.now.targets bytes.now }
+    requires columns { read.by_columns
+        ≡ columns_read form station.now.targets bytes.now }
     ensures { IfOk result (λ note. IsNote form station.now bytes.now note.items) }
 {
     let other = other_unit(alloc, form, station, adjustment, read.agrees, bytes)?;
-    let mut note = columns_note(alloc, read.by_columns)?;
+    let mut note = told_note(alloc, read.by_columns)?;
     note.extend_from_slice(unit_note(other))?;
-    Ok(note)
-}
-
-/// The line of a table that was read by a pair of its columns, or else no byte.
-fn columns_note(alloc: Global, by_columns: Option<ByColumns>) -> Result<Vec<u8>, AllocError>
-    ensures { IfOk result (λ note. note.items ≡ told_note by_columns) }
-{
-    let mut note = Vec::new(alloc);
-    if let Some(by) = by_columns {
-        push_note(&mut note, by.pair, by.passed)?;
-    }
     Ok(note)
 }

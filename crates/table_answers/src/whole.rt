@@ -2,13 +2,12 @@
 ghost use Rattle.std.specs.Prelude.{◌≡◌, ◌≤◌, ◌++◌, Err, IfOk, OnOk, codes, decimal, length, map};
 ghost use Rattle.adjust_kernel.specs.declared.bounds.TheConstants.{LARGEST_RESIDUAL_LIMIT};
 ghost use Rattle.byte_ends.specs.Writers.{writer_change};
-ghost use Rattle.direction_table.specs.TableNotes.{told_note};
 ghost use Rattle.exact_adjustment.specs.Exact.{IsExact, KeepsLimit};
 ghost use Rattle.exact_adjustment.specs.LeastOf.{AreTied};
 ghost use Rattle.row_forms.specs.declared.form.RowForm.TheVariants.{Commas};
 ghost use Rattle.station_differences.specs.DifferenceTexts.{differences_text};
 ghost use Rattle.station_differences.specs.declared.line.TargetLine.TheVariants.{Compared as InLine};
-ghost use Rattle.table_answers.specs.ColumnRows.{columns_rows as rows_of_note};
+ghost use Rattle.table_answers.specs.ColumnRows.{columns_rows as rows_of};
 ghost use Rattle.table_answers.specs.Comparisons.{IsComparedBy};
 ghost use Rattle.table_answers.specs.OneFault.{never_refused, one_refused, refused_of_bytes};
 ghost use Rattle.table_answers.specs.OneCompared.{comparable};
@@ -141,7 +140,7 @@ fn whole_by(
     ensures beyond { IfOk result (λ whole.
         beyond_in whole.compared ≡ beyond_of beside.now.how_far) }
     ensures text { IfOk result (λ whole. whole.text.items ≡ spec.whole_text whole.compared
-        (rows_of_note (told_note by_columns))
+        (rows_of by_columns)
         (differences_text Commas (map InLine beside.now.rows.items)) beside.now.report.items) }
 {
     let compared = compared_by(alloc, station, adjustment, beside.how_far)?;
@@ -172,7 +171,7 @@ fn whole_text(
     report: &[u8],
 ) -> Result<Vec<u8>, AllocError>
     ensures { IfOk result (λ text. text.items ≡ spec.whole_text compared.now
-        (rows_of_note (told_note by_columns)) differences.now report.now) }
+        (rows_of by_columns) differences.now report.now) }
 {
     let columns = columns_rows(by_columns);
     let mut text = Vec::new(alloc);

@@ -1,5 +1,4 @@
 use Rattle.std.proofs.Common.{◌≡◌, ◌++◌, ◌∙◌, ap, append_assoc, codes, List, ℕ}
-use Rattle.direction_table.specs.TableNotes.{told_note}
 use Rattle.station_answers.specs.Parts.{part_text}
 use Rattle.table_answers.specs.ColumnRows.{columns_rows}
 use Rattle.table_answers.specs.Comparisons.{verdict}
@@ -19,7 +18,7 @@ returns c =
     in_turn c.push_verdict.new.text.items c.push_part.new.text.items
     c.push_part-2.new.text.items c.push_part-3.new.text.items
     (verdict_parts (verdict c.args.compared.now))
-    (part_text (codes "columns") (columns_rows (told_note c.args.by_columns)))
+    (part_text (codes "columns") (columns_rows c.args.by_columns))
     (part_text (codes "differences") c.args.differences.now)
     (part_text (codes "report") c.args.report.now)
     (c.in_ok-push_verdict.ensures

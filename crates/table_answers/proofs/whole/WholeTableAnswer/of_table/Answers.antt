@@ -1,6 +1,6 @@
 use Rattle.std.proofs.Common.{◌≡◌, ◌∙◌, Err, Ok, Result, ap, map, refl, rules}
 use Rattle.std.specs.Result.{IsErr, IsErrAnd}
-use Rattle.direction_table.specs.TableNotes.{table_note, told_note}
+use Rattle.direction_table.specs.TableNotes.{columns_read}
 use Rattle.station_compare.specs.declared.fault.CompareFault.{CompareFault}
 use Rattle.station_compare.specs.declared.fault.CompareFault.TheVariants.{Memory}
 use Rattle.row_forms.specs.declared.form.RowForm.TheVariants.{Commas}
@@ -20,8 +20,8 @@ returns-clause-tells c =
     let directions = c.in_ok-table.table.directions.items in
     let beside = c.in_ok-beside.beside in
     let compared = c.in_ok-answer.answer.compared in
-    let note : told_note c.in_ok-table.table.by_columns
-    ≡ table_note asked.form its.station.targets bytes = search rules in (
+    let columns : c.in_ok-table.table.by_columns
+    ≡ columns_read asked.form its.station.targets bytes = search rules in (
       record {
         compares = by_how_far asked.form its.station c.args.limits.residual bytes asked.within
             beside.how_far compared
@@ -43,7 +43,7 @@ returns-clause-tells c =
           states = search rules;
           beside = search rules;
         };
-        text_is = c.in_ok-answer.ensures.text ∙ (λ i. whole_text compared (columns_rows (note i))
+        text_is = c.in_ok-answer.ensures.text ∙ (λ i. whole_text compared (columns_rows (columns i))
             (differences_text Commas (map InLine beside.rows.items)) beside.report.items);
       },
       rw c.station-station.ensures at c.in_ok-note.ensures,
