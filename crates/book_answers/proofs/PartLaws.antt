@@ -37,6 +37,7 @@ use Rattle.station_compare.specs.declared.fault.CompareFault.TheVariants.{Memory
 use Rattle.station_compare.specs.declared.fault.CompareFault.TheVariants.{Write}
 use Rattle.station_compare.specs.declared.refusal.Refusal.{Refusal}
 use Rattle.station_differences.specs.Stating.{IsDifferencesText}
+use Rattle.station_differences.specs.declared.line_form.LineForm.TheVariants.{Rows}
 use Rattle.station_tables.specs.Lines.{lines_of}
 use Rattle.station_tables.specs.Parts.{part_of}
 use Rattle.table_answers.proofs.Given.{tells_by_input}
@@ -84,8 +85,8 @@ module _ (form : TableForm) (station : StationValue) (residual : ℕ) (bytes : L
 
   says_input : (rows : RowForm) (text : List ℕ) (is_long : Bool)
       → nat_lt LONGEST_TABLE (length bytes) ≡ is_long
-      → IsDifferencesText form rows station bytes text
-      → SaysOfInput (λ b t. IsDifferencesText form rows station b t)
+      → IsDifferencesText form (Rows rows) station bytes text
+      → SaysOfInput (λ b t. IsDifferencesText form (Rows rows) station b t)
       (if is_long then RanPast else Ended bytes) text
   says_input rows text false e h = h
   says_input rows text true e h =
@@ -154,7 +155,7 @@ module _ (limits : ResultLimits) (file : FileAnswers) (table : List ℕ) where
       )
   tells_text form (Differences rows) its own station says held =
       let bytes = part_of its.station.name (lines_of table) in
-      tells_by_input (SaysDifferences form rows) (RefusesDifferences form limits)
+      tells_by_input (SaysDifferences form (Rows rows)) (RefusesDifferences form limits)
       (differs_of_bytes form limits) {T = List ℕ} (λ t. t) limits file
       (told_part table its.station.name) its.station.name its (Ok own) station
       (says_input form its.station limits.residual bytes rows own
@@ -181,7 +182,7 @@ module _ (limits : ResultLimits) (file : FileAnswers) (table : List ℕ) where
       within (Err fault) lacks)
   lacks_text form (Differences rows) its fault station lacks =
       let bytes = part_of its.station.name (lines_of table) in
-      tells_by_input (SaysDifferences form rows) (RefusesDifferences form limits)
+      tells_by_input (SaysDifferences form (Rows rows)) (RefusesDifferences form limits)
       (differs_of_bytes form limits) {T = List ℕ} (λ t. t) limits file
       (told_part table its.station.name) its.station.name its (Err fault) station
       (refuses_input form its.station limits.residual bytes fault

@@ -17,6 +17,7 @@ use Rattle.station_compare.specs.declared.fault.CompareFault.{CompareFault}
 use Rattle.station_compare.specs.declared.fault.CompareFault.TheVariants.{Table}
 use Rattle.station_compare.specs.declared.refusal.Refusal.{Refusal}
 use Rattle.station_differences.specs.Stating.{IsDifferencesText}
+use Rattle.station_differences.specs.declared.line_form.LineForm.TheVariants.{Rows}
 use Rattle.station_tables.specs.Parts.{line_of_row, part_of}
 use Rattle.table_answers.specs.Refusing.{RefusesDifferences}
 
@@ -44,7 +45,7 @@ HasNoAgreement form within limits its bytes fault =
 
 -- The differences of a table from a station, as rows in a form.
 abbrev pub AreDifferences : TableForm → RowForm → SurveyedStation → List ℕ → List ℕ → Type 0
-AreDifferences form rows its bytes own = IsDifferencesText form rows its.station bytes own
+AreDifferences form rows its bytes own = IsDifferencesText form (Rows rows) its.station bytes own
 
 -- What is answered of a station and of the bytes of a table.
 abbrev pub SaysText : TableForm → PartText → ResultLimits → SurveyedStation → List ℕ → List ℕ

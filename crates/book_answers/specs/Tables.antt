@@ -35,6 +35,7 @@ use Rattle.station_compare.specs.declared.fault.CompareFault.{CompareFault}
 use Rattle.station_compare.specs.declared.fault.CompareFault.TheVariants.{File, Memory, Table}
 use Rattle.station_compare.specs.declared.fault.CompareFault.TheVariants.{TableRead, Write}
 use Rattle.station_compare.specs.declared.refusal.Refusal.{Refusal}
+use Rattle.station_differences.specs.declared.line_form.LineForm.TheVariants.{Rows}
 use Rattle.station_tables.specs.Lines.{lines_of}
 use Rattle.station_tables.specs.Parts.{part_of}
 use Rattle.station_tables.specs.Strays.{first_stray}
@@ -57,7 +58,8 @@ TellsText form (Comparison within) limits file stated name (Ok text) =
 TellsText form (Comparison within) limits file stated name (Err fault) =
     Compares form limits file stated name within (Err fault)
 TellsText form (Differences rows) limits file stated name r =
-    TellsBeside (SaysDifferences form rows) (RefusesDifferences form limits) limits file stated name r
+    TellsBeside (SaysDifferences form (Rows rows)) (RefusesDifferences form limits) limits file
+    stated name r
 
 -- The same of the station and its part of the table, where they alone are asked for.
 abbrev pub TellsPart : PartAsked → ResultLimits → FileAnswers → List ℕ → List ℕ

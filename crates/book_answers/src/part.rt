@@ -17,6 +17,7 @@ use direction_table::{TableFault, TableForm};
 use row_forms::RowForm;
 use station_book::{ResultLimits, Surveyed};
 use station_compare::{Agreement, CompareFault, Refusal, agreement_line, station_hint};
+use station_differences::LineForm;
 use station_tables::{line_of_row, part_of};
 use std::alloc::{AllocError, Global};
 use table_answers::{Comparison, Differences, Noted, TableAnswer};
@@ -144,7 +145,8 @@ fn text_of_part(
             compared_text(alloc, Comparison { form, within }, limits, surveyed, bytes)
         }
         PartText::Differences { rows } => {
-            Differences { form, rows }.of_table(alloc, limits, surveyed, bytes)
+            let written = LineForm::Rows(rows);
+            Differences { form, written }.of_table(alloc, limits, surveyed, bytes)
         }
     }
 }

@@ -60,6 +60,8 @@ use Rattle.station_check.specs.VerdictLines.{refusal_line}
 use Rattle.station_check.specs.declared.fault.Fault.TheVariants.{Memory}
 use Rattle.station_compare.specs.Refusals.{refusal_text}
 use Rattle.station_compare.specs.declared.refusal.Refusal.{Refusal}
+use Rattle.station_differences.specs.declared.line_form.LineForm.{LineForm}
+use Rattle.station_differences.specs.declared.line_form.LineForm.TheVariants as line_form
 use Rattle.station_explain.specs.Table.{Explanation}
 use Rattle.station_change.specs.FaultTexts.{refusal_line as change_refusal_line}
 use Rattle.station_change.specs.Notes.{notes_of}
@@ -89,7 +91,7 @@ use Rattle.table_answers.specs.Comparisons.{IsCompareRun}
 use Rattle.table_answers.specs.Printing.{PrintsText}
 use Rattle.table_answers.specs.Refusing.{RefusesDifferences}
 use Rattle.table_answers.specs.Runs.{IsTableRun}
-use Rattle.table_answers.specs.Saying.{SaysDifferences, SaysJsonLines}
+use Rattle.table_answers.specs.Saying.{SaysDifferences}
 use Rattle.table_answers.specs.Telling.{RunTold}
 use Rattle.table_report.specs.Stating.{ReportAsked}
 use Rattle.table_titles.specs.TitledInput.{ComesOfInput}
@@ -159,7 +161,17 @@ asked_of its within notes = record {
   within = within;
 }
 
--- The same of a text of a station and of a table.
+-- The differences of a table from a station were printed with this exit status, with their lines
+-- written so.
+abbrev pub PrintsDifferences : {F : Type 0} → Readers F → WriterChange → WriterChange
+    → TableBeside (NamedReader F) StationName TableForm → LineForm → ℕ → Type 0
+PrintsDifferences {F} files out err its written status =
+    (table' : F) × IsTakenIn files its.station.gsi.reader (λ gsi. RunTold {A = ⊤}
+    (IsTableRun (SaysDifferences its.form written) (RefusesDifferences its.form its.station.limits)
+    PrintsText its.form its.station.limits gsi (change_of files its.file.reader table')
+    (name_bytes its.station.name)) status out err)
+
+-- A text of a station and of a table was printed with this exit status.
 abbrev pub PrintsBeside : {F : Type 0} → Readers F → WriterChange → WriterChange
     → TableBeside (NamedReader F) StationName TableForm → TableText → ℕ → Type 0
 PrintsBeside {F} files out err its (table_text.Comparison within digests.Omitted) status =
@@ -171,16 +183,10 @@ PrintsBeside files out err its (table_text.Comparison within digests.Printed) st
     RunTold {A = ⊤}
     (IsRecordedCompare its.form its.station.limits within (name_bytes its.station.name)
     gsi its.station.gsi.name.now table its.file.name.now) status out err))
-PrintsBeside {F} files out err its (table_text.Differences rows) status =
-    (table' : F) × IsTakenIn files its.station.gsi.reader (λ gsi. RunTold {A = ⊤}
-    (IsTableRun (SaysDifferences its.form rows) (RefusesDifferences its.form its.station.limits)
-    PrintsText its.form its.station.limits gsi (change_of files its.file.reader table')
-    (name_bytes its.station.name)) status out err)
-PrintsBeside {F} files out err its table_text.JsonLines status =
-    (table' : F) × IsTakenIn files its.station.gsi.reader (λ gsi. RunTold {A = ⊤}
-    (IsTableRun (SaysJsonLines its.form) (RefusesDifferences its.form its.station.limits)
-    PrintsText its.form its.station.limits gsi (change_of files its.file.reader table')
-    (name_bytes its.station.name)) status out err)
+PrintsBeside files out err its (table_text.Differences rows) status =
+    PrintsDifferences files out err its (line_form.Rows rows) status
+PrintsBeside files out err its table_text.JsonLines status =
+    PrintsDifferences files out err its line_form.JsonLines status
 PrintsBeside {F} files out err its (table_text.Report within digests.Omitted notes) status =
     (table' : F) × IsTakenIn files its.station.gsi.reader (λ gsi. RunTold {A = ⊤}
     (IsTableReportRun (asked_of its within notes) its.station.limits gsi

@@ -40,6 +40,7 @@ use station_answers::{Directions, run_answer};
 use station_book::Limits;
 use station_change::run_change;
 use station_check::{run_check, run_list, run_means, run_words};
+use station_differences::LineForm;
 use station_explain::Explanation;
 use station_mark::run_mark;
 use station_record::{
@@ -48,7 +49,7 @@ use station_record::{
 };
 use station_report::Head;
 use std::alloc::Global;
-use table_answers::{Differences, JsonLines, run_compare, run_table_answer};
+use table_answers::{Differences, run_compare, run_table_answer};
 use table_report::Asked as ReportAsked;
 use table_titles::{Titles, TitlesFault, titled_columns};
 
@@ -750,7 +751,8 @@ fn print_beside<F: Source, W: Sink, E: Sink>(
             digests: Digests::Printed,
         } => run_compare_recorded(alloc, gsi, table, form, name, limits, within, out, err),
         TableText::Differences { form: rows } => {
-            let asked = Differences { form, rows };
+            let written = LineForm::Rows(rows);
+            let asked = Differences { form, written };
             run_table_answer(
                 alloc,
                 gsi.reader,
@@ -762,16 +764,20 @@ fn print_beside<F: Source, W: Sink, E: Sink>(
                 err,
             )
         }
-        TableText::JsonLines => run_table_answer(
-            alloc,
-            gsi.reader,
-            &mut table.reader,
-            name,
-            limits,
-            &JsonLines { form },
-            out,
-            err,
-        ),
+        TableText::JsonLines => {
+            let written = LineForm::JsonLines;
+            let asked = Differences { form, written };
+            run_table_answer(
+                alloc,
+                gsi.reader,
+                &mut table.reader,
+                name,
+                limits,
+                &asked,
+                out,
+                err,
+            )
+        }
         TableText::Report {
             within,
             digests,

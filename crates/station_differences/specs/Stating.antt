@@ -9,12 +9,18 @@ use Rattle.std.specs.Prelude.{◌≡◌, ℕ, List, ℤ, Option}
 use Rattle.adjust_kernel.specs.Stations.{StationValue}
 use Rattle.direction_table.specs.Tables.{IsPartText}
 use Rattle.direction_table.specs.declared.form.TableForm.{TableForm}
-use Rattle.row_forms.specs.declared.form.RowForm.{RowForm}
 use Rattle.station_differences.specs.DifferenceTexts.{differences_text}
 use Rattle.station_differences.specs.JsonLines.{json_lines}
 use Rattle.station_differences.specs.Lines.{AreLines}
 use Rattle.station_differences.specs.StatedTargets.{IsEnough}
 use Rattle.station_differences.specs.declared.line.TargetLine.{TargetLine}
+use Rattle.station_differences.specs.declared.line_form.LineForm.{LineForm}
+use Rattle.station_differences.specs.declared.line_form.LineForm.TheVariants.{JsonLines, Rows}
+
+-- The text of lines, as they are written.
+abbrev pub written_text : LineForm → List TargetLine → List ℕ
+written_text (Rows form) = differences_text form
+written_text JsonLines = json_lines
 
 -- This is what is written of the lines of the differences of a table's bytes from a station.
 pub record IsTextOfRows (written : List TargetLine → List ℕ) (form : TableForm)
@@ -28,10 +34,6 @@ pub record IsTextOfRows (written : List TargetLine → List ℕ) (form : TableFo
   pub are_lines : AreLines station stated lines
   pub text_is : text ≡ written lines
 
--- This is the text, with its rows in a form, of the differences of a table's bytes from a station.
-abbrev pub IsDifferencesText : TableForm → RowForm → StationValue → List ℕ → List ℕ → Type 0
-IsDifferencesText form printed = IsTextOfRows (differences_text printed) form
-
--- This is the text as JSON lines: one object for each target.
-abbrev pub IsJsonLinesText : TableForm → StationValue → List ℕ → List ℕ → Type 0
-IsJsonLinesText form = IsTextOfRows json_lines form
+-- This is the text, with lines written so, of the differences of a table's bytes from a station.
+abbrev pub IsDifferencesText : TableForm → LineForm → StationValue → List ℕ → List ℕ → Type 0
+IsDifferencesText form written = IsTextOfRows (written_text written) form

@@ -11,7 +11,7 @@ use std::alloc::{AllocError, Global};
 /// The text of the targets of a station as JSON lines: an object for each, in their order.
 ///
 /// The only error is that memory was refused.
-pub fn json_lines_of(alloc: Global, lines: &[TargetLine]) -> Result<Vec<u8>, AllocError>
+pub(crate) fn json_lines_of(alloc: Global, lines: &[TargetLine]) -> Result<Vec<u8>, AllocError>
     ensures { IfOk result (λ text. text.items ≡ spec.json_lines lines.now) }
 {
     let compared = compared_of(alloc, lines)?;

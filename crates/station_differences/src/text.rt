@@ -1,4 +1,4 @@
-//! The text of differences, made in memory.
+//! The differences as rows, made in memory.
 //!
 //! The rows go through `csv`'s writer, which puts quotes where a name asks for them.
 ghost use Rattle.std.specs.Prelude.{◌≡◌, ◌++◌, ◌∷◌, [], ◌-ℤ◌, IfOk, OnOk, OnErr};
@@ -26,7 +26,11 @@ use std::io::Write;
 /// order.
 ///
 /// The only error is that memory was refused.
-pub fn text_of(alloc: Global, lines: &[TargetLine], form: RowForm) -> Result<Vec<u8>, AllocError>
+pub(crate) fn rows_text_of(
+    alloc: Global,
+    lines: &[TargetLine],
+    form: RowForm,
+) -> Result<Vec<u8>, AllocError>
     ensures { IfOk result (λ text. text.items ≡ spec.differences_text form lines.now) }
 {
     let mut writer = rows_in(form, Vec::new(alloc));

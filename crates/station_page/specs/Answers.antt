@@ -36,6 +36,7 @@ use Rattle.station_check.specs.declared.verdict_line.TheConstants.{LONGEST_VERDI
 use Rattle.station_compare.specs.Answers.{Compares}
 use Rattle.station_compare.specs.declared.agreement.Agreement.{Agreement}
 use Rattle.station_compare.specs.declared.fault.CompareFault.{CompareFault}
+use Rattle.station_differences.specs.declared.line_form.LineForm.TheVariants.{Rows}
 use Rattle.station_explain.specs.Table.{Explanation, IsTheTable}
 use Rattle.station_report.specs.NoteTexts.{unnoted}
 use Rattle.table_answers.specs.Answers.{TellsBeside}
@@ -213,7 +214,7 @@ pub record IsDifferencesOf (rows : RowForm) (two_c two_i : ℕ) (form : TableFor
   pub limits : FaceLimits
   pub states : States two_c two_i limits
   pub answer : Result (List ℕ × List ℕ) CompareFault
-  pub tells : TellsBeside (Noting (SaysDifferences form rows) form)
+  pub tells : TellsBeside (Noting (SaysDifferences form (Rows rows)) form)
       (RefusesDifferences form (of_faces limits)) (of_faces limits) (file_answers (source_of gsi))
       (source_of table) name answer
   pub status : ℕ

@@ -14,6 +14,7 @@ use row_forms::RowForm;
 use station_book::Limits;
 use station_check::{ACCEPTED, REFUSED};
 use station_compare::refusal_line;
+use station_differences::LineForm;
 use std::alloc::Global;
 use table_answers::Differences;
 
@@ -148,7 +149,10 @@ fn hand_out_differences(
     let Some(form) = form_of(unit, names, directions) else {
         return OUT_OF_RANGE;
     };
-    let asked = Differences { form, rows };
+    let asked = Differences {
+        form,
+        written: LineForm::Rows(rows),
+    };
     match answer_beside(alloc, gsi, table, name, limits, &asked) {
         Ok(noted) => {
             let status = hand_out(ACCEPTED, &noted.answer, out, written);

@@ -4,6 +4,7 @@ use Rattle.byte_ends.specs.Source.{Told}
 use Rattle.gsi_file.specs.FileAnswers.{FileAnswers}
 use Rattle.station_book.specs.declared.result_limits.ResultLimits.{ResultLimits}
 use Rattle.row_forms.specs.declared.form.RowForm.TheVariants.{Commas}
+use Rattle.station_differences.specs.declared.line_form.LineForm.TheVariants.{Rows}
 use Rattle.table_answers.specs.Answers.{StatesBeside}
 use Rattle.table_answers.specs.ColumnRows.{table_columns}
 use Rattle.table_answers.specs.Comparisons.{SaysComparison}
@@ -22,8 +23,8 @@ pub record HasPartsBeside (asked : ReportAsked) (limits : ResultLimits) (file : 
   pub states_columns : StatesBeside (λ its bytes text.
       text ≡ table_columns asked.form its.station.targets bytes) limits file stated name columns
   pub differences : List ℕ
-  pub states_differences : StatesBeside (SaysDifferences asked.form Commas) limits file stated name
-      differences
+  pub states_differences : StatesBeside (SaysDifferences asked.form (Rows Commas)) limits file
+      stated name differences
   pub report : List ℕ
   pub states_report : StatesBeside (SaysTableReport asked limits) limits file stated name
       (record { text = report; beyond = beyond_in whole.compared })

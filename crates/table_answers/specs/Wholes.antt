@@ -11,6 +11,7 @@ use Rattle.station_compare.specs.declared.fault.CompareFault.{CompareFault}
 use Rattle.station_compare.specs.declared.how_far.HowFar.{HowFar}
 use Rattle.row_forms.specs.declared.form.RowForm.TheVariants.{Commas}
 use Rattle.station_differences.specs.Stating.{IsDifferencesText}
+use Rattle.station_differences.specs.declared.line_form.LineForm.TheVariants.{Rows}
 use Rattle.table_answers.specs.ColumnRows.{table_columns}
 use Rattle.table_answers.specs.Comparisons.{SaysComparison, verdict}
 use Rattle.table_answers.specs.Printing.{PrintsVerdict}
@@ -64,7 +65,7 @@ pub record IsWhole (asked : ReportAsked) (limits : ResultLimits) (its : Surveyed
     (bytes : List ℕ) (whole : WholeValue) : Type 0 where
   pub compares : SaysComparison asked.form asked.within limits its bytes whole.compared
   pub differences : List ℕ
-  pub are_differences : IsDifferencesText asked.form Commas its.station bytes differences
+  pub are_differences : IsDifferencesText asked.form (Rows Commas) its.station bytes differences
   pub report : List ℕ
   pub is_report : IsReportOfTable asked limits its bytes
       (record { text = report; beyond = beyond_in whole.compared })

@@ -2,7 +2,7 @@
 ghost use Rattle.std.specs.Prelude.{ℕ, List};
 ghost use Rattle.byte_ends.specs.Writers.{writer_change};
 ghost use Rattle.station_differences.proofs.TextLaws.{one_text};
-ghost use Rattle.station_differences.specs.DifferenceTexts.{differences_text};
+ghost use Rattle.station_differences.specs.Stating.{written_text};
 ghost use Rattle.table_answers.specs.OneDifferences.{differs_of_bytes, never_differs, one_differs};
 ghost use Rattle.table_answers.specs.Printing.{PrintsText};
 ghost use Rattle.table_answers.specs.Refusing.{RefusesDifferences};
@@ -13,17 +13,16 @@ use crate::noted::Noted;
 use crate::part::lines_of_table;
 use byte_ends::Sink;
 use direction_table::TableForm;
-use row_forms::RowForm;
 use station_book::{ResultLimits, Surveyed};
 use station_check::write_whole;
 use station_compare::CompareFault;
-use station_differences::text_of;
+use station_differences::{LineForm, text_of};
 use std::alloc::Global;
 
-/// The differences of a table from a station: a row of titles, and a row for each of its targets,
-/// with the stated direction and the least-squares direction in gon, and the difference of the two
-/// in mgon. The table may lack targets if it states two or more: their rows have the least-squares
-/// direction alone.
+/// The differences of a table from a station: a line for each of its targets, with the stated
+/// direction and the least-squares direction in gon, and the difference of the two in mgon. The
+/// table may lack targets if it states two or more: their lines have the least-squares direction
+/// alone.
 ///
 /// The least-squares directions are least over all directions, orientations and full turns. One
 /// rotation is taken off the differences: the one that makes the largest of them smallest.
@@ -31,8 +30,8 @@ use std::alloc::Global;
 pub struct Differences {
     /// How the table is to be read; what it states in degrees is rounded to 0.000000001 gon.
     pub form: TableForm,
-    /// How the rows are written.
-    pub rows: RowForm,
+    /// How the lines are written.
+    pub written: LineForm,
 }
 
 impl TableAnswer for Differences {
@@ -44,7 +43,7 @@ impl TableAnswer for Differences {
 
     ghost form_of = { λ asked. asked.form };
 
-    ghost says = { λ asked _. SaysDifferences asked.form asked.rows };
+    ghost says = { λ asked _. SaysDifferences asked.form asked.written };
 
     ghost refuses = { λ asked. RefusesDifferences asked.form };
 
@@ -58,7 +57,7 @@ impl TableAnswer for Differences {
         bytes: &[u8],
     ) -> Result<Noted<Vec<u8>>, CompareFault> {
         let lines = lines_of_table(alloc, self.form, limits, surveyed, bytes)?;
-        let answer = text_of(alloc, &lines.answer, self.rows)?;
+        let answer = text_of(alloc, &lines.answer, self.written)?;
         Ok(Noted {
             answer,
             note: lines.note,
@@ -72,13 +71,14 @@ impl TableAnswer for Differences {
         Ok(())
     }
 
-    ghost one = { λ asked _ its bytes a b p q. one_text (differences_text asked.rows) asked.form
+    ghost one = { λ asked _ its bytes a b p q. one_text (written_text asked.written) asked.form
         its.station bytes a b p q };
 
     ghost one_fault = { λ asked. one_differs asked.form };
 
     ghost never_both = { λ asked limits its bytes text fault held set p.
-        never_differs asked.form limits its bytes (differences_text asked.rows) text fault held set p };
+        never_differs asked.form limits its bytes (written_text asked.written) text fault held set
+        p };
 
     ghost memory = { λ asked limits its bytes. tt };
 

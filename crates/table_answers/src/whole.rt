@@ -37,7 +37,7 @@ use station_answers::push_part;
 use station_book::{ResultLimits, Surveyed};
 use station_check::{LONGEST_VERDICT_LINE, VerdictLine, add, add_numbered, write_whole};
 use station_compare::{Agreement, CompareFault};
-use station_differences::{lines_of, text_of};
+use station_differences::{LineForm, lines_of, text_of};
 use std::alloc::{AllocError, Global};
 use table_report::{Asked, Beside, StatedDirections, beside_by};
 
@@ -145,7 +145,7 @@ fn whole_by(
 {
     let compared = compared_by(alloc, station, adjustment, beside.how_far)?;
     let lines = lines_of(alloc, &beside.rows)?;
-    let differences = text_of(alloc, &lines, RowForm::Commas)?;
+    let differences = text_of(alloc, &lines, LineForm::Rows(RowForm::Commas))?;
     let text = whole_text(alloc, &compared, by_columns, &differences, &beside.report)?;
     Ok(WholeTable { compared, text })
 }

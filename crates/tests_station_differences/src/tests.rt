@@ -9,7 +9,7 @@ use row_forms::RowForm;
 use station_book::{Limits, ResultLimits};
 use station_check::Fault;
 use station_compare::{CompareFault, Refusal};
-use station_differences::{TargetLine, is_enough, json_lines_of, lines_by, text_of};
+use station_differences::{LineForm, TargetLine, is_enough, lines_by, text_of};
 use std::alloc::Global;
 use std::process::Abort;
 use std::test::Fail;
@@ -25,7 +25,7 @@ const IN_GON: Differences = Differences {
         unit: AngleUnit::Gon,
         columns: None,
     },
-    rows: RowForm::Commas,
+    written: LineForm::Rows(RowForm::Commas),
 };
 
 /// What is printed of it.
@@ -81,7 +81,7 @@ fn text(
         all.push(Some(*direction))?;
     }
     let lines = lines(rt, alloc, station, &all)?;
-    Ok(text_of(alloc, &lines, RowForm::Commas)?)
+    Ok(text_of(alloc, &lines, LineForm::Rows(RowForm::Commas))?)
 }
 
 /// Two targets in two sets, whose angles differ by 2 half units: that of the adjustment is
@@ -230,9 +230,10 @@ fn a_target_that_is_not_stated_has_its_least_squares_direction(
     let station = station_of(rt.alloc(), 3, b"ABC", &GAPS)?;
     for (stated, rows, objects) in cases {
         let lines = lines(&rt, rt.alloc(), &station, &stated)?;
-        let text = text_of(rt.alloc(), &lines, RowForm::Commas)?;
+        let text = text_of(rt.alloc(), &lines, LineForm::Rows(RowForm::Commas))?;
         assert_eq!(rt; text.as_slice(), rows);
-        assert_eq!(rt; json_lines_of(rt.alloc(), &lines)?.as_slice(), objects);
+        let text = text_of(rt.alloc(), &lines, LineForm::JsonLines)?;
+        assert_eq!(rt; text.as_slice(), objects);
     }
     Ok(())
 }
@@ -407,7 +408,8 @@ fn differences_are_printed_in_each_form(rt: HostRuntime) -> Result<(), Fail> {
     ] {
         let gsi = Script::new(S1, usize::MAX, false);
         let mut table = Script::new(STATED, usize::MAX, false);
-        let asked = Differences { rows, ..IN_GON };
+        let written = LineForm::Rows(rows);
+        let asked = Differences { written, ..IN_GON };
         let (answer, _gsi) = table_answer_of(
             rt.alloc(),
             gsi,
@@ -507,7 +509,7 @@ B,50.000030000,50.000030,0.000,0.000\n",
                 unit: AngleUnit::Degrees,
                 columns: None,
             },
-            rows: RowForm::Commas,
+            written: LineForm::Rows(RowForm::Commas),
         };
         let (answer, _gsi) = table_answer_of(
             rt.alloc(),
