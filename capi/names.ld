@@ -16,6 +16,7 @@ station_check_words = station_page_words;
 station_check_change = station_page_change;
 station_check_digest = station_page_digest;
 station_check_explain = station_page_explain;
+station_check_explanation = station_page_explanation;
 station_check_place = station_page_place;
 station_check_instrument = station_page_instrument;
 station_check_records = station_page_records;

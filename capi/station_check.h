@@ -286,6 +286,12 @@ uint8_t station_check_digest(const void *file, size_t file_length,
 uint8_t station_check_explain(const char *line, size_t line_length,
                               char *text, size_t room, size_t *length);
 
+/* The same in parts, each after a line of its title and of how many bytes it has: `names` of the
+ * fault, one a line; its `meaning`; `when` it comes; an `example`, a line that names it; and the
+ * `remedy`. Of length 0, no part. */
+uint8_t station_check_explanation(const char *line, size_t line_length,
+                                  char *text, size_t room, size_t *length);
+
 /* Where the line of a refusal stands, in the field file or in the sheet or the table of the call that
  * refused; of length 0 where there is none. A row below titles: `what` it is ("block", "sheet row",
  * "table row"; "target", "set" or "observation" among the sheet's rows of these; "station target",

@@ -826,7 +826,7 @@ class LibraryTest(ProgramTest):
         if not shutil.which("nm"):
             self.skipTest("no nm is found")
         declared = set(re.findall(r"^uint8_t (\w+)\(", HEADER.read_text(), re.MULTILINE))
-        self.assertEqual(23, len(declared))
+        self.assertEqual(24, len(declared))
         shown = subprocess.run(["nm", "-D", LIBRARY], check=True, capture_output=True, text=True).stdout
         kinds = {name.partition("@")[0]: kind for kind, name in re.findall(r"(?:[0-9a-f]{16}| {16}) (\w) (\S+)", shown)}
         self.assertEqual(declared, {name for name, kind in kinds.items() if kind == "T"})

@@ -70,6 +70,7 @@ use Rattle.station_page.specs.Listed.{TellsListed}
 use Rattle.station_page.specs.Placed.{TellsPlace}
 use Rattle.station_page.specs.Recorded.{TellsRecorded}
 use Rattle.station_page.specs.TextRecords.{TellsTheRecords}
+use Rattle.station_page.specs.declared.explain.ExplainedAs.{ExplainedAs}
 use Rattle.station_page.specs.declared.explain.Unexplained.{Unexplained}
 use Rattle.station_page.specs.declared.hand_out.TheConstants.{OUT_OF_RANGE}
 
@@ -326,17 +327,18 @@ pub record IsDigestOf (file name : List ℕ) (room answered : ℕ) (shown : List
 
 -- The status and the text are those of the explanation that a line asks for, of the faults of a
 -- table.
-pub record IsExplanationFrom (table : List (Bor (List Explanation))) (line : List ℕ)
-    (room answered : ℕ) (shown : List ℕ) : Type 0 where
+pub record IsExplanationFrom (form : ExplainedAs) (table : List (Bor (List Explanation)))
+    (line : List ℕ) (room answered : ℕ) (shown : List ℕ) : Type 0 where
   pub answer : Result (List ℕ) Unexplained
-  pub answers : AnswersLine table line answer
+  pub answers : AnswersLine form table line answer
   pub hands_out : HandsOut (status_of answer) (explanation_or_refusal answer) room answered shown
 
 -- The same of the faults of the program's own table.
-pub record IsExplanationOf (line : List ℕ) (room answered : ℕ) (shown : List ℕ) : Type 0 where
+pub record IsExplanationOf (form : ExplainedAs) (line : List ℕ) (room answered : ℕ)
+    (shown : List ℕ) : Type 0 where
   pub table : List (Bor (List Explanation))
   pub is_the_table : IsTheTable table
-  pub explains : IsExplanationFrom table line room answered shown
+  pub explains : IsExplanationFrom form table line room answered shown
 
 -- The status and the text are those of where the line of a refusal stands in these bytes of a field
 -- file and of another file; or memory ran out.

@@ -23,6 +23,7 @@
 //! | `digest` | hands out the line of a file's SHA-256 digest |
 //! | `instrument` | hands out what a field file recorded of instrument and time |
 //! | `explain` | hands out what the fault means that a text names |
+//! | `explanation` | hands out the same, part by part |
 //! | `records` | hands out the records of a text, whose fields a byte separates |
 //! | `place` | hands out where the line of a refusal stands, as a row |
 //!

@@ -1,11 +1,11 @@
-use Rattle.std.proofs.Common.{Ok, Err, rules, string_bytes}
+use Rattle.std.proofs.Common.{Ok, Err, rules}
 use Rattle.station_page.specs.declared.explain.Unexplained.TheVariants.{NotUtf8, NoName, Memory}
 use Rattle.station_page.proofs.explain.hand_out_explanation.Goals as goal
 
 pub returns-in-Ok : goal.returns-in-Ok
 returns-in-Ok c = record {
   shows = record {
-    answer = Ok (string_bytes c.in-Ok.text);
+    answer = Ok c.in-Ok.text.items;
     answers = c.in-Ok.ensures;
     hands_out = search rules;
   };

@@ -4,7 +4,7 @@ pub returns : goal.returns
 returns c = record {
   shows = record {
     table = _;
-    is_the_table = c.all_explanations.ensures;
+    is_the_table = c.all_explanations-table.ensures;
     explains = c.hand_out_explanation.ensures.shows;
   };
   leaves = c.hand_out_explanation.ensures.leaves;
