@@ -1,7 +1,7 @@
 // Which call is asked for which files, and what it answered: a card for each station, and for each
 // file that belongs to none. Nothing here decides a verdict.
 import { ask, digestOf } from './work.js';
-import { nameIn, readFaults } from './faults.js';
+import { explanationIn, nameIn, readFaults } from './faults.js';
 import {
   UNITS, fieldOfSheet, originalOf, stationOfSheet, stationOfTable, stemOf, tellApart, tellingPartOf,
   withTaken,
@@ -24,8 +24,9 @@ import { LANGUAGES, spoken } from './texts.js';
  * in fields, with the text of the differences where it was compared, its note, and the columns where
  * it was read by a pair of them, what it told of each station where it puts codes in, and whether
  * there a line further on sets up a station.
- * @typedef {{ command: string, asked: string, status: number, line: string, explanation: string,
- *   named?: import('./records.js').Named, field: Input, other?: Input, station?: Station,
+ * @typedef {{ command: string, asked: string, status: number, line: string,
+ *   explanation?: import('./faults.js').Explanation, named?: import('./records.js').Named,
+ *   field: Input, other?: Input, station?: Station,
  *   greatest?: import('./records.js').Residual, verdict?: import('./records.js').Verdict,
  *   differences?: string, note?: string, columns?: import('./records.js').Columns,
  *   told?: import('./records.js').Recognized[], isSetUpLater?: boolean }} Answer
@@ -82,10 +83,10 @@ const NAME_TO_TRY = '?';
 /** That no columns of a table are stated: those of names and of directions. */
 const NO_COLUMNS = [0, 0];
 
-/** What a refusal means, in the words of the program; then those of the page are at hand too. */
-async function explanationOf(/** @type {string} */ line) {
-  const [{ status, text }] = await Promise.all([ask('explain', line), readFaults()]);
-  return status === ACCEPTED ? text : '';
+/** What the program says of the fault in a line; then what the page says is at hand too. */
+export async function explanationOf(/** @type {string} */ line) {
+  const [{ status, bytes }] = await Promise.all([ask('explanation', line), readFaults()]);
+  return status === ACCEPTED && bytes.length > 0 ? explanationIn(bytes) : undefined;
 }
 
 /** A file that isn't there. */
@@ -105,7 +106,7 @@ async function namedBy(/** @type {string} */ line, /** @type {Uint8Array[]} */ .
  */
 async function answered({ status, text }, about) {
   const line = text.trimEnd(), { field, other } = about;
-  if (status !== REFUSED) return { ...about, status, line, explanation: '' };
+  if (status !== REFUSED) return { ...about, status, line };
   const files = [field.bytes, other?.bytes ?? NO_BYTES];
   const [explanation, named] = await Promise.all([explanationOf(line), namedBy(line, ...files)]);
   return { ...about, status, line, explanation, named };

@@ -126,7 +126,7 @@ export const calls = {
     callOf(core, 'station_page_mark_rows', [gsi, name, code, sets, targets], flags.map(Number), 2),
   change: (core, gsi, changes) => callOf(core, 'station_page_change', [gsi, changes], []),
   digest: (core, file, name) => callOf(core, 'station_page_digest', [file, name], []),
-  explain: (core, line) => callOf(core, 'station_page_explain', [line], []),
+  explanation: (core, line) => callOf(core, 'station_page_explanation', [line], []),
   instrument: (core, gsi, language) =>
     callOf(core, 'station_page_instrument', [gsi], [language]),
   records: (core, text, separator) => callOf(core, 'station_page_records', [text], [separator]),

@@ -8,6 +8,7 @@ import {
 } from './changes.js';
 import { handOnTo } from './drawing.js';
 import { button, element, menuOf, ofProgram, save } from './elements.js';
+import { nameIn } from './faults.js';
 import { originalOf, stemOf, textOf } from './files.js';
 import {
   columnsText, furthestOf, headlineOf, headlineOfCard, isApart, judgedText, recognizedTexts,
@@ -17,7 +18,7 @@ import { LIMITS, commandOf } from './limits.js';
 import { MOODS } from './overview.js';
 import { mgonOf } from './numbers.js';
 import { pictureFile } from './picture.js';
-import { faultAt, placeOf, seenText } from './place.js';
+import { placeOf, seenText } from './place.js';
 import { nameOfProtocol, protocolFile } from './protocol.js';
 import { isComplete, residualsIn } from './records.js';
 import { showExplanation, showFault, showMeaning, showPlace } from './refusals.js';
@@ -161,9 +162,9 @@ const PROPOSED = {
  * @param {Answer} answer
  * @param {number} block
  */
-function proposalAt({ line, field }, block) {
+function proposalAt({ explanation, field }, block) {
   return field.code ? undefined
-    : proposalFor(field.bytes, block, faultAt(line), field.again === 'another');
+    : proposalFor(field.bytes, block, nameIn(explanation), field.again === 'another');
 }
 
 /**

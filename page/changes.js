@@ -1,6 +1,7 @@
 // Lines of a field file that the user changes in a copy: the proved call makes it. What is changed,
 // and why, stands on the cards, in the protocol and in a log.
-import { ACCEPTED, OUT_OF_RANGE } from './answers.js';
+import { ACCEPTED, OUT_OF_RANGE, explanationOf } from './answers.js';
+import { nameIn } from './faults.js';
 import { originalOf, stemOf } from './files.js';
 import { MOST_SHOWN, lineOf, seen } from './place.js';
 import { text } from './texts.js';
@@ -34,12 +35,19 @@ const saying = (/** @type {Change} */ { block, name }) =>
   name === undefined ? `${block}` : `${block}=${name}`;
 
 /**
- * Why the copy can't be made, by the fault in the line of the refusal.
+ * Why the copy can't be made, by the fault of the refusal.
  * @type {Record<string, string>}
  */
 const WHY_UNCHANGED = {
   NameTooLong: 'nameTooLong', ZeroBefore: 'zeroBefore', NoPoint: 'noPoint',
 };
+
+/** Why the copy can't be made, in words, by what the call replied. */
+async function whyUnchanged(/** @type {import('./work.js').Reply} */ reply) {
+  if (reply.status === OUT_OF_RANGE) return text('noName');
+  const line = reply.text.trimEnd(), why = WHY_UNCHANGED[nameIn(await explanationOf(line))];
+  return why ? text(why) : text('cannotFinish', { why: line });
+}
 
 /**
  * Has a field file changed so: its copy stands in its place, and what was handed in stays at hand.
@@ -51,11 +59,7 @@ export async function changeLines(field, changes) {
   const inOrder = [...changes].sort((one, other) => one.block - other.block);
   const { name, path, shown, bytes, digest } = asHandedIn(field);
   const reply = await ask('change', bytes, inOrder.map(saying).join('\n'));
-  if (reply.status !== ACCEPTED) {
-    const [, fault = ''] = reply.text.match(/: change: (\w+)/) ?? [];
-    const why = reply.status === OUT_OF_RANGE ? 'noName' : WHY_UNCHANGED[fault];
-    return why ? text(why) : text('cannotFinish', { why: reply.text.trimEnd() });
-  }
+  if (reply.status !== ACCEPTED) return whyUnchanged(reply);
   const given = {
     name, path, shown, bytes, kind: field.kind, digest: digest || await digestOf({ name, bytes }),
   };

@@ -84,7 +84,7 @@ export const countsOf = ({ sets, targets, directions }) => ({
 /** What was recognized of the sets of a station, in words. */
 function setsText(/** @type {import('./records.js').Recognized} */ one) {
   const { station, sets, targets, opening, turning, before, after, fault, block } = one;
-  const { explanation = '' } = one;
+  const { explanation } = one;
   if (fault)
     return text('recognizedNot', {
       station, block: String(block), fault: toldOf(explanation).what, n: before,

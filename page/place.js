@@ -154,9 +154,6 @@ function inStation({ what, number }, { listed }) {
 const alone = (where, line) =>
   ({ where, lines: [{ number: '', text: line, isMeant: true }], first: 0, end: line.length });
 
-/** What a refusal says after the block at which it stands: the name of its fault, and its number. */
-export const faultAt = (/** @type {string} */ line) => line.replace(/^refused: block \d+: /, '');
-
 /**
  * What a refusal speaks of; none where it names no place, or there is nothing.
  * @param {import('./answers.js').Answer} answer

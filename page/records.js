@@ -93,7 +93,7 @@ export const each = values => [...new Set(values)];
  *   missing: number, full: number, others: number, isOpenedAgain: boolean,
  *   equal: { earlier: number, later: number }[],
  *   zeniths: { target: string, mgon: number }[], fault?: string, block?: number,
- *   explanation?: string }} Recognized
+ *   explanation?: import('./faults.js').Explanation }} Recognized
  * A row of what is told: of a station two numbers and two names.
  * @typedef {{ first: number, second: number, name: string, other: string }} Told
  */

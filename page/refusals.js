@@ -5,6 +5,8 @@ import { toldOf } from './faults.js';
 import { placeOf } from './place.js';
 import { text } from './texts.js';
 
+/** @typedef {import('./faults.js').Explanation} Explanation */
+
 /** So many pixels are seen right of what is meant, in a line that is longer than its room. */
 const BESIDE_MARK = 24;
 
@@ -39,15 +41,6 @@ export function showPlace({ where, lines, first, end }, parent) {
 }
 
 /**
- * The paragraphs of an explanation, as flowing text without its sample line.
- * @returns {string[]}
- */
-export const paragraphsOf = (/** @type {string} */ explanation) => explanation.trim()
-  .split(/\n\s*\n/)
-  .filter(paragraph => !/^ +refused: /.test(paragraph))
-  .map(paragraph => paragraph.split('\n').map(line => line.trim()).join(' '));
-
-/**
  * What a fault is, as a sentence. What is said in the words of the program is English.
  * @param {string} tag
  * @param {import('./answers.js').Answer} answer
@@ -59,28 +52,26 @@ export function showMeaning(tag, { explanation }, parent, className = '') {
     : element(tag, what, parent, { className });
 }
 
+/** The lines of a text of the program as one, which the page breaks where it has room. */
+const flowing = (/** @type {string} */ lines) => lines.replaceAll('\n', ' ');
+
 /**
- * The whole explanation of the program, folded.
- * @param {string} explanation
+ * When a fault comes and what to do, in full as the program says it, folded.
+ * @param {Explanation} explanation
  * @param {Element} parent
  * @param {boolean} open
  */
-function showInFull(explanation, parent, open) {
+function showInFull({ when, remedy }, parent, open) {
   const part = element('details', '', parent, { open });
   element('summary', text('inFull'), part);
-  const [, ...paragraphs] = paragraphsOf(explanation);
-  for (const paragraph of paragraphs) {
-    const [, lead, rest] = paragraph.match(/^(What to do: )?([^]*)$/) ?? [];
-    const said = ofProgram('p', '', part);
-    if (lead) element('strong', lead, said);
-    said.append(rest);
-  }
+  ofProgram('p', flowing(when), part);
+  element('strong', 'What to do: ', ofProgram('p', '', part)).after(flowing(remedy));
 }
 
 /**
  * What is to be done about a fault, on the page; below it, but not on paper, what the program says
  * of it in full, which is English.
- * @param {string} explanation
+ * @param {Explanation} explanation
  * @param {Element} parent
  */
 export function showExplanation(explanation, parent, isOnPaper = false) {

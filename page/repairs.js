@@ -362,11 +362,16 @@ function brokenSet(/** @type {Reading[]} */ readings) {
 
 // ---------------------------------------------------------------- what is proposed
 
-/** The faults at which closing sights may be in the way, and those of a set that isn't whole. */
-const OF_CLOSING = /^(mark: ReadTwice|mark: OneTarget|FaceTwice)$/;
-const OF_LAST_SET = /^(mark: FaceMissing|mark: EndsElsewhere|OneFace|EmptySet)$/;
-/** That of readings before the first set-up line. */
-const OF_BEFORE = /^mark: NoSetUp$/;
+/**
+ * What may be in the way, by the fault of a refusal: closing sights, a last set that isn't whole, or
+ * readings before the first set-up line.
+ * @type {Record<string, Proposal['what'] | undefined>}
+ */
+const IN_THE_WAY = {
+  ReadTwice: 'closing', OneTarget: 'closing', FaceTwice: 'closing',
+  FaceMissing: 'lastSet', EndsElsewhere: 'lastSet', OneFace: 'lastSet', EmptySet: 'lastSet',
+  NoSetUp: 'before',
+};
 
 /** So many lines before the one at which a refusal stands a closing sight may stand. */
 const CLOSES_BEFORE = 1;
@@ -491,8 +496,7 @@ const RULES = {
  * @returns {Proposal | undefined}
  */
 export function proposalFor(bytes, block, fault, isAnother) {
-  const what = OF_CLOSING.test(fault) ? 'closing' : OF_LAST_SET.test(fault) ? 'lastSet'
-    : OF_BEFORE.test(fault) ? 'before' : undefined;
+  const what = IN_THE_WAY[fault];
   if (!what) return undefined;
   const lines = blockLinesOf(bytes), codes = lines.map(codeIn);
   const blocks = codes.includes(SET_CODE) ? RULES[what].byCodes(lines, codes, block)

@@ -1,7 +1,7 @@
 // The program's command line over the calls of the page: node program.mjs PAGE WORD..
 //
 // The worker's script and the module are taken out of the page as it is. Beside the program's commands,
-// `station FILE NAME` gives all of a station, `table FILE NAME TABLE` all of a table, `list-rows FILE` a list as rows, `explain-bytes FILE` explains the bytes of a file, `place LINE FILE [OTHER]` tells where a refusal stands,
+// `station FILE NAME` gives all of a station, `table FILE NAME TABLE` all of a table, `list-rows FILE` a list as rows, `explanation LINE` the parts of an explanation, `explanation-bytes FILE` of the bytes of a file, `place LINE FILE [OTHER]` tells where a refusal stands,
 // `instrument FILE [LANGUAGE]` what a file recorded of instrument and time, by the number of a language,
 // `digest FILE NAME` gives the line of its digest with this name, `change FILE N..` the copy with changes,
 // each `N` or `N=NAME`, `records FILE N` its records with the separator of this number, `mark-rows FILE` what `mark` is told, with rows in the place of its notes and the line
@@ -102,8 +102,8 @@ const answers = {
   records: (file, separator) => calls.records(core, bytesOf(file), Number(separator)),
   change: (gsi, ...changes) => calls.change(core, bytesOf(gsi), nameOf(changes.join('\n'))),
   digest: (file, name) => calls.digest(core, bytesOf(file), nameOf(name)),
-  explain: (line = '') => calls.explain(core, nameOf(line)),
-  'explain-bytes': file => calls.explain(core, bytesOf(file)),
+  explanation: line => calls.explanation(core, nameOf(line)),
+  'explanation-bytes': file => calls.explanation(core, bytesOf(file)),
   instrument: (gsi, language = 0) => calls.instrument(core, bytesOf(gsi), Number(language)),
   place: (line, gsi, other) => calls.place(
     core, nameOf(line), bytesOf(gsi), other ? bytesOf(other) : nameOf('')),

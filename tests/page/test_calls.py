@@ -353,6 +353,14 @@ def parts_of(text):
         text = rest[int(count) :]
 
 
+def printed_of(parts):
+    """An explanation as the program prints it, of its parts."""
+    said = {title: text.decode() for title, text in parts.items()}
+    names = said["names"].replace("\n", ", ")
+    text = f"{names}: {said['meaning']}\n\n{said['when']}\n\n  {said['example']}\n\nWhat to do: {said['remedy']}\n"
+    return text.encode()
+
+
 def counted(number, thing):
     return f"{number} {thing}" if number == 1 else f"{number} {thing}s"
 
@@ -541,13 +549,14 @@ class PageCallsTest(TimedTest):
     def test_each_refusal_is_explained_as_by_the_program(self):
         refusals = {refusal_in(case.expected[2]) for case in run.cases() if case.expected[0] == 1}
         self.assertGreater(len(refusals), 80)
-        # Names alone, in small letters too, and the list of all.
-        words = [[line] for line in sorted(refusals)] + [["TwoC"], ["twoc"], []]
-        for line in words:
+        # Names alone, in small letters too, and a second one of a fault.
+        for line in [*sorted(refusals), "TwoC", "twoc", "Zenith Unit"]:
             with self.subTest(line):
-                answers = [answer_to([*one, "explain", *line]) for one in ([PROGRAM], self.command())]
-                self.assertEqual(*answers)
-                self.assertEqual(0, answers[0][0])
+                status, text, said = answer_to([*self.command(), "explanation", line])
+                parts = dict(parts_of(text))
+                self.assertEqual(["names", "meaning", "when", "example", "remedy"], [*parts])
+                self.assertEqual(answer_to([PROGRAM, "explain", line]), (status, printed_of(parts), said))
+                self.assertEqual(0, status)
 
     def test_each_refusal_stands_at_its_line_or_its_row(self):
         named = set()
@@ -638,7 +647,7 @@ class PageCallsTest(TimedTest):
     def test_a_text_without_the_name_of_a_fault_is_refused(self):
         for line in ["refused: kernel: Elephant 2", " ", "TwoC\n"]:
             with self.subTest(line):
-                answer = answer_to([*self.command(), "explain", line])
+                answer = answer_to([*self.command(), "explanation", line])
                 self.assertEqual((1, b"", b"refused: no such fault\n"), answer)
 
     def test_bytes_that_are_no_text_are_refused(self):
@@ -647,7 +656,7 @@ class PageCallsTest(TimedTest):
             for line, refusal in NO_TEXTS:
                 path.write_bytes(line)
                 with self.subTest(line):
-                    answer = answer_to([*self.command(), "explain-bytes", path])
+                    answer = answer_to([*self.command(), "explanation-bytes", path])
                     self.assertEqual((1, b"", f"refused: {refusal}\n".encode()), answer)
 
     def test_a_text_is_handed_out_whole_or_its_lack_of_room_is_the_status(self):
@@ -667,7 +676,7 @@ class PageCallsTest(TimedTest):
             ["differences", gsi, "P7", table],
             ["compare", *noted],
             ["differences", *noted],
-            ["explain", "TwoC"],
+            ["explanation", "TwoC"],
             ["place", "refused: block 2: OneFace", gsi],
             ["mark", job],
             ["mark-rows", job],
@@ -688,7 +697,7 @@ class PageCallsTest(TimedTest):
             ["station", gsi, "P8"],
             ["compare", gsi, "P7", sheet],
             ["differences", gsi, "P7", sheet],
-            ["explain", "Elephant"],
+            ["explanation", "Elephant"],
             ["mark", gsi],
             ["mark-rows", gsi],
             ["comma-rows", gsi, "P8"],
@@ -866,7 +875,7 @@ class PageCallsTest(TimedTest):
 
     def test_a_refused_allocation_is_answered(self):
         kit, wasm, module = build.prove.kit_of(RT), build.ROOM / "refused.wasm", build.ROOM / "refused32.wasm"
-        commands = [["check", *EXAMPLES[:2]], ["residuals", EXAMPLE, "S1"], ["explain", "TwoC"]]
+        commands = [["check", *EXAMPLES[:2]], ["residuals", EXAMPLE, "S1"], ["explanation", "TwoC"]]
         usual = [answer_to([*self.command(), *words]) for words in commands]
         # A digest takes no memory.
         digest, line = ["digest", str(JOB), "job"], f"{hashlib.sha256(JOB.read_bytes()).hexdigest()}  job\n"

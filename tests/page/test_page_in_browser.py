@@ -2185,14 +2185,14 @@ class PageInBrowserTest(TimedTest):
     def test_each_fault_is_told_in_each_language(self):
         page = self.page()
         names = page.js(
-            "readFaults().then(() => ask('explain', '')).then(({ text }) =>"
-            " text.trimEnd().split('\\n').map(line => line.split(/ {2,}/)[0]))"
+            "readFaults().then(() => Promise.all(Object.keys(texts.en).map(name => explanationOf(name))))"
+            ".then(all => all.flatMap(({ names }) => names))"
         )
         self.assertGreater(len(names), 80)
         told = {
             code: page.js(
-                f"speak('{code}'), Promise.all({json.dumps(names)}.map(name => ask('explain', name)))"
-                ".then(all => all.map(({ text }) => toldOf(text)))"
+                f"speak('{code}'), Promise.all({json.dumps(names)}.map(name => explanationOf(name)))"
+                ".then(all => all.map(one => toldOf(one)))"
             ) for code in page.js("Object.keys(LANGUAGES)")
         }
         for code, all_of in told.items():

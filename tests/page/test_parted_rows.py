@@ -1,6 +1,6 @@
 """How the page parts what a call hands out: rows that the core writes, as Python's csv has them; the
-records that it reads of a file; the stations of a list; of a table the names by which its station is
-found, and the decimals that it states."""
+records that it reads of a file; the stations of a list; by what a table is parted; of a table the
+names by which its station is found, and the decimals that it states."""
 
 import csv
 import io
@@ -29,6 +29,7 @@ TITLES = ["station", "set", "target", "direction", "2c", "2i"]
 # What the scripts are asked, of each value.
 ROWS = "text => rowsIn(text)"
 RECORDS_IN = "hex => recordsIn(new Uint8Array(Buffer.from(hex, 'hex')))"
+SEPARATORS = "([kind, text]) => tellingPartOf({ kind, bytes: new TextEncoder().encode(text) }).separators"
 STATIONS = (
     "text => stationsOf(text).map(one =>"
     " [one.name, one.sets, one.directions, one.targetNames, pairsOf(one).length])"
@@ -80,6 +81,21 @@ class PartedRowsTest(TimedTest):
                 for name in ("P7", 'P "7', "P,7") for nth in (1, 2) for to in ("A", 'B"', ",")]
         expected = [[name, 2, 6, ["A", 'B"', ","], 6] for name in ("P7", 'P "7', "P,7")]
         self.assertEqual([expected, []], answered(STATIONS, [written([TITLES, *rows]), written([TITLES])]))
+
+    def test_a_table_is_parted_by_the_separators_alone_that_it_has(self):
+        """By another one each row would be a single field. A sheet has the one after its first word."""
+        beyond = "A" * 2**20
+        cases = [
+            ("table", "A;1,5\n", [",", ";"]),
+            ("table", "A\t1.5 gon\n", ["\t", " "]),
+            ("table", "1, A;1\tB\n", [",", ";", "\t", " "]),
+            ("table", "A|1.5\n", []),
+            ("table", f";{beyond}\t", [";"]),
+            ("sheet", "sheet;1;P 7,1\n", [";"]),
+            ("sheet", '"sheet"\t1\tP7\n', ["\t"]),
+        ]
+        expected = [separators for *_, separators in cases]
+        self.assertEqual(expected, answered(SEPARATORS, [[kind, text] for kind, text, _ in cases]))
 
     def test_a_table_tells_its_names_and_its_decimals(self):
         rows = [["Ziel", "Hz"], [" A ", "0.5000"], ["B", " ", "1,25 gon"], ["A", "7"], ["C"], []]

@@ -7,8 +7,10 @@ import shutil
 import subprocess
 import sys
 import unittest
+from collections import Counter
 from typing import NamedTuple
 
+from kinds import REFUSALS
 from program import ROOT, SWEEP, TimedTest
 from worked import STATION
 
@@ -37,8 +39,8 @@ PROPOSALS = """([hex, block, fault, isAnother]) => {
 }"""
 EACH = "console.log(JSON.stringify(JSON.parse(require('fs').readFileSync(0, 'utf8')).map(%s)))"
 
-FAULTS = ("FaceMissing", "EndsElsewhere", "ReadTwice", "OneTarget", "NoSetUp")
-MISSING, ELSEWHERE, TWICE, ONE, UNNAMED = (f"mark: {name}" for name in FAULTS)
+MISSING, ELSEWHERE, TWICE = "FaceMissing", "EndsElsewhere", "ReadTwice"
+ONE, UNNAMED = "OneTarget", "NoSetUp"
 
 
 class Case(NamedTuple):
@@ -71,7 +73,7 @@ CLOSING = [
 
 # Where nothing is proposed, and why.
 DOUBTFUL = [
-    ("all sets are whole after an orientation", "CcAaBbCcAaBbCc", 3, "mark: MayBeShifted"),
+    ("all sets are whole after an orientation", "CcAaBbCcAaBbCc", 3, "MayBeShifted"),
     ("the last set may have two or four readings", "ABbaAB", 6, MISSING),
     ("a name may be misspelled", "ABCcbaABXcba", 10, MISSING),
     ("or that of its last reading", "ABCcbaABCcbz", 10, MISSING),
@@ -82,7 +84,7 @@ DOUBTFUL = [
     ("a pair alone stays outside", "ABCcbaABCcbaAa", 13, TWICE),
     ("a target is sighted again at once", "ABbABCcba", 4, TWICE),
     ("it is just the line of the refusal", "|ABCcba|BAbab", 13, MISSING),
-    ("another fault", "ABCcbaABCc", 10, "mark: Order"),
+    ("another fault", "ABCcbaABCc", 10, "Order"),
 ]
 
 
@@ -169,6 +171,13 @@ class RepairsTest(TimedTest):
         blocks = [one and one[1] for one in found]
         self.assertEqual([[1, 2, 3, 4]] * 3 + [[1, 2]] + [None] * 4, blocks)
         self.assertEqual({"before"}, {one[0] for one in found if one})
+
+    def test_a_fault_at_which_lines_are_proposed_is_told_by_its_name(self):
+        """No other line of a refusal has it."""
+        [names] = answered("() => Object.keys(IN_THE_WAY)", [None])
+        self.assertLessEqual({MISSING, ELSEWHERE, TWICE, ONE, UNNAMED}, {*names})
+        lines = Counter(line.rsplit(": ", 1)[-1] for line in REFUSALS)
+        self.assertEqual({1}, {lines[name] for name in names})
 
     def test_angles_in_other_units_or_without_a_face_are_in_doubt(self):
         field = sights_of("ABCcbaABCc")
