@@ -1,7 +1,7 @@
 -- Names that are found without comparing each, and what is asked of them.
 use Rattle.std.proofs.Common.{◌≡◌, ℕ, zero, suc, ◌+◌, Bool, true, false, ◌&&◌, ◌||◌, not, List, []}
 use Rattle.std.proofs.Common.{◌∷◌, ◌++◌, length, take, drop, refl, sym, ap, ◌∙◌, inl, inr, arith}
-use Rattle.std.proofs.Common.{append_assoc, None}
+use Rattle.std.proofs.Common.{append_assoc, subst, None}
 use Rattle.std.specs.Prelude.{slice_get, if◌then◌else◌, Some, ◌==◌, ◌<◌, ◌≤◌}
 use Rattle.std.specs.Bool.{OnTrue}
 use Rattle.std.proofs.Math.Seq.{take-append_seam}
@@ -19,10 +19,9 @@ use Rattle.set_marks.specs.declared.sight.Sight.{Sight}
 use Rattle.set_marks.specs.Divisions.{is_of, is_same_face, is_again, is_pair, last_target, end_of}
 use Rattle.set_marks.specs.Divisions.{targets_of, names_with, again_from, again_in, alone_among}
 use Rattle.set_marks.specs.Divisions.{alone_in, is_some_known}
-use Rattle.set_marks.specs.Searching.{repeats, names_in, KeepsFaces}
+use Rattle.set_marks.specs.Searching.{repeats, is_read, IsWhole, KeepsFaces}
 use Rattle.set_marks.proofs.AmongDetails.{is_known}
-use Rattle.set_marks.proofs.BeginsAndEnds.{among_with, among_names, or_none}
-use Rattle.set_marks.proofs.Repeated.{same_face}
+use Rattle.set_marks.proofs.BeginsAndEnds.{among_names, or_none}
 
 -- A table of names has a name exactly where it is among them.
 pub among_keys : (name : List ℕ) (keys : List (List ℕ))
@@ -33,11 +32,6 @@ among_keys name keys = λ i. list_any (λ t. (names_by_bytes name t ∙ same_byt
 pub with_key : (keys : List (List ℕ)) (name : List ℕ)
     → insert_key name_eq keys name ≡ with_new keys name
 with_key keys name = ap (λ b. if b then keys else keys ++ name ∷ []) (among_keys name keys)
-
--- What is not new was there.
-pub known_or_new : (is_new known : Bool) → is_new ≡ not known → not is_new ≡ known
-known_or_new is_new true e = ap not e
-known_or_new is_new false e = ap not e
 
 -- A name that stands at a place is among them.
 pub placed_among : (names : List (List ℕ)) (place : ℕ) (name other : List ℕ)
@@ -164,53 +158,25 @@ other_face false false = refl
 
 -- What is a pair with a reading is read in the other face.
 pub pairs_kept : (rs : List Sight) (faces : Faces) → KeepsFaces rs faces → (r : Sight)
-    → is_among (names_in (not r.second) faces) r.target ≡ list_any (is_pair r) rs
-pairs_kept rs faces kept r = kept (flipped r)
+    → is_read (not r.second) r.target faces ≡ list_any (is_pair r) rs
+pairs_kept rs faces keeps r = keeps.kept (flipped r)
     ∙ (λ i. list_any (λ s. is_of r.target s && sym (other_face r.second s.second) i) rs)
 
-not_same : (x y : Bool) → is_same_face x y ≡ false → x ≡ not y
-not_same true true e = cc
-not_same true false e = refl
-not_same false true e = refl
-not_same false false e = cc
-
-and_true : (b : Bool) → ((b && true) || false) ≡ b
-and_true true = refl
-and_true false = refl
-
-and_false : (b : Bool) → ((b && false) || false) ≡ false
-and_false true = refl
-and_false false = refl
+-- One target more is read in one face more.
+abbrev pub ReadsMore : Faces → Faces → Sight → Type 0
+ReadsMore old new s = (face : Bool) (name : List ℕ) → is_read face name new
+    ≡ (is_read face name old || (bytes_eq s.target name && is_same_face face s.second))
 
 -- With a reading more, the faces of all.
-pub faces_more : (rs : List Sight) (old new : Faces) (s : Sight) → KeepsFaces rs old
-    → names_in s.second new ≡ with_new (names_in s.second old) s.target
-    → names_in (not s.second) new ≡ names_in (not s.second) old → KeepsFaces (rs ++ s ∷ []) new
-faces_more rs old new s kept added other r =
-    let more : list_any (is_again r) (rs ++ s ∷ [])
-    ≡ (list_any (is_again r) rs || (is_again r s || false)) =
-    list_any-append (is_again r) rs (s ∷ []) in
-    elim (cases_Bool (is_same_face r.second s.second)) [
-      | inl h ↦
-          let same : r.second ≡ s.second = same_face r.second s.second h in
-          let one : (is_again r s || false) ≡ is_of r.target s =
-          ap (λ b. (is_of r.target s && b) || false) h ∙ and_true (is_of r.target s) in
-          ap (λ b. is_among (names_in b new) r.target) same
-          ∙ ap (λ names. is_among names r.target) added
-          ∙ among_with (names_in s.second old) s.target r.target
-          ∙ ap (λ b. is_among (names_in b old) r.target || is_of r.target s) (sym same)
-          ∙ ap (λ b. b || is_of r.target s) (kept r)
-          ∙ ap (λ b. list_any (is_again r) rs || b) (sym one) ∙ sym more
-      | inr h ↦
-          let differs : r.second ≡ not s.second = not_same r.second s.second h in
-          let none : (is_again r s || false) ≡ false =
-          ap (λ b. (is_of r.target s && b) || false) h ∙ and_false (is_of r.target s) in
-          ap (λ b. is_among (names_in b new) r.target) differs
-          ∙ ap (λ names. is_among names r.target) other
-          ∙ ap (λ b. is_among (names_in b old) r.target) (sym differs) ∙ kept r
-          ∙ sym (or_none (list_any (is_again r) rs))
-          ∙ ap (λ b. list_any (is_again r) rs || b) (sym none) ∙ sym more
-    ]
+pub faces_more : (rs : List Sight) (old new : Faces) (s : Sight) → KeepsFaces rs old → IsWhole new
+    → ReadsMore old new s → KeepsFaces (rs ++ s ∷ []) new
+faces_more rs old new s before whole added = record {
+  whole = whole;
+  kept = λ r. added r.second r.target
+      ∙ ap (λ b. b || is_again r s) (before.kept r)
+      ∙ ap (λ b. list_any (is_again r) rs || b) (sym (or_none (is_again r s)))
+      ∙ sym (list_any-append (is_again r) rs (s ∷ []));
+}
 
 -- What follows from a test that is passed.
 pub on_true : (b : Bool) (P : Type 0) → (b ≡ true → P) → OnTrue b P
@@ -261,25 +227,25 @@ pub record KeptSoFar (set left : List Sight) (faces : Faces) : Type 0 where
   pub read : List Sight
   pub split : set ≡ read ++ left
   pub found : again_from set (length read) left ≡ again_in set
-  pub kept : KeepsFaces read faces
+  pub keeps : KeepsFaces read faces
 
 pub none_kept : (set : List Sight) (faces : Faces) → KeepsFaces [] faces → KeptSoFar set set faces
-none_kept set faces kept = record { read = []; split = refl; found = refl; kept = kept }
+none_kept set faces keeps = record { read = []; split = refl; found = refl; keeps = keeps }
 
 -- whether the next reading was read before
 next_again : (set left rest : List Sight) (faces : Faces) (r : Sight) (k : KeptSoFar set left faces)
     → left ≡ r ∷ rest
-    → list_any (is_again r) (take (length k.read) set) ≡ is_among (names_in r.second faces) r.target
+    → list_any (is_again r) (take (length k.read) set) ≡ is_read r.second r.target faces
 next_again set left rest faces r k is =
     ap (λ l. list_any (is_again r) l)
-    (ap (λ l. take (length k.read) l) k.split ∙ take-append_seam k.read left) ∙ sym (k.kept r)
+    (ap (λ l. take (length k.read) l) k.split ∙ take-append_seam k.read left)
+    ∙ sym (k.keeps.kept r)
 
 pub again_later : (set left rest : List Sight) (old new : Faces) (r : Sight)
     → KeptSoFar set left old → left ≡ r ∷ rest
-    → is_among (names_in r.second old) r.target ≡ false
-    → names_in r.second new ≡ with_new (names_in r.second old) r.target
-    → names_in (not r.second) new ≡ names_in (not r.second) old → KeptSoFar set rest new
-again_later set left rest old new r k is e added other = record {
+    → is_read r.second r.target old ≡ false → IsWhole new → ReadsMore old new r
+    → KeptSoFar set rest new
+again_later set left rest old new r k is e whole added = record {
   read = k.read ++ r ∷ [];
   split = k.split ∙ ap (λ l. k.read ++ l) is ∙ sym (append_assoc k.read (r ∷ []) rest);
   found = ap (λ (n : ℕ). again_from set n rest)
@@ -287,7 +253,7 @@ again_later set left rest old new r k is e added other = record {
       ∙ sym (ap (λ b. if b then Some r else again_from set (suc (length k.read)) rest)
       (next_again set left rest old r k is ∙ e))
       ∙ sym (ap (λ l. again_from set (length k.read) l) is) ∙ k.found;
-  kept = faces_more k.read old new r k.kept added other;
+  keeps = faces_more k.read old new r k.keeps whole added;
 }
 
 -- Where none is left, no target was read again.
@@ -295,14 +261,14 @@ pub all_kept : (set left : List Sight) (faces : Faces) → KeptSoFar set left fa
     → (None ≡ again_in set) × KeepsFaces set faces
 all_kept set [] faces k e =
     let whole : set ≡ k.read = k.split ∙ append-nil k.read in
-    (k.found, λ r. k.kept r ∙ ap (λ l. list_any (is_again r) l) (sym whole))
+    (k.found, subst (λ (rs : List Sight). KeepsFaces rs faces) (sym whole) k.keeps)
 all_kept set (r ∷ left) faces k e = cc
 
 -- The first so many readings of no more are all.
 pub front_kept : (n : ℕ) (set front : List Sight) (faces : Faces) → KeepsFaces front faces
     → front ≡ take n set → length set ≤ n → KeepsFaces set faces
-front_kept n set front faces kept is le r =
-    kept r ∙ ap (λ l. list_any (is_again r) l) (is ∙ take_all n set le)
+front_kept n set front faces keeps is le =
+    subst (λ (rs : List Sight). KeepsFaces rs faces) (is ∙ take_all n set le) keeps
 
 -- The target of the last reading.
 last_more : (rest : List Sight) (r : Sight) → last_target (rest ++ r ∷ []) ≡ r.target

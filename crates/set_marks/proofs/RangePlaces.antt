@@ -1,22 +1,20 @@
 -- Where the range of a target stands among ranges, each of another target.
 use Rattle.std.proofs.Common.{◌≡◌, ℕ, zero, suc, true, false, ◌||◌, List, [], ◌∷◌, ◌++◌}
-use Rattle.std.proofs.Common.{refl, sym, ap, ◌∙◌, inl, inr, arith, ◌+◌}
-use Rattle.std.specs.Prelude.{slice_get, slice_set, Some, None, if◌then◌else◌, length}
-use Rattle.std.specs.List.{position_or_len}
+use Rattle.std.proofs.Common.{refl, sym, ap, ◌∙◌, inl, inr}
+use Rattle.std.specs.Prelude.{slice_get, slice_set, Some, None, length}
 use Rattle.std.specs.Str.{bytes_eq}
 use Rattle.std.proofs.lemmas.Bool.{cases_Bool, false≢true}
 use Rattle.std.proofs.lemmas.List.{length-map}
-use Rattle.std.proofs.lemmas.List.Recursion.{is_position_or_len}
 use Rattle.std.proofs.lemmas.Slice.Eq.{bytes_eq-Decides}
 use Rattle.station_book.proofs.lists.Elements.{same_bytes}
-use Rattle.station_book.proofs.lists.NameMaps.{name_eq, names_by_bytes}
-use Rattle.station_book.specs.Places.{is_among, with_new}
+use Rattle.station_book.specs.Places.{with_new}
 use Rattle.set_marks.specs.declared.sight.Sight.{Sight}
 use Rattle.set_marks.specs.declared.zeniths.ZenithRange.{ZenithRange}
 use Rattle.set_marks.specs.Divisions.{names_with, targets_of}
-use Rattle.set_marks.specs.Ranging.{IsUnique, has_range, place_among, place_in, targets_in}
+use Rattle.set_marks.specs.Ranging.{IsUnique, has_range, place_in, targets_in}
 use Rattle.set_marks.specs.Zeniths.{range_of, with_angle, with_reading, zenith_in_one}
 use Rattle.set_marks.specs.Zeniths.{ranges_of, ranges_with}
+use Rattle.set_marks.proofs.NamePlaces.{after_first}
 
 -- A range at a place is among them.
 pub there : (zs : List ZenithRange) (place : ℕ) (z : ZenithRange) (name : List ℕ)
@@ -96,32 +94,6 @@ stay_unique (z ∷ zs) r unique = elim (cases_Bool (bytes_eq z.target r.target))
     has_as_before zs r z.target (same_bytes r.target z.target ∙ h) ∙ unique.0,
     stay_unique zs r unique.1,
   )
-]
-
--- The place of a name among others is that of the first with its bytes.
-by_bytes : (names : List (List ℕ)) (name : List ℕ)
-    → place_among names name ≡ position_or_len (λ other. bytes_eq other name) names
-by_bytes names name =
-    is_position_or_len (λ (others : List (List ℕ)). place_among others name)
-    (λ other. bytes_eq other name) refl
-    (λ n others.
-    let one : suc (place_among others name) ≡ 1 + place_among others name = omega arith in
-    ap (λ (k : ℕ). if bytes_eq n name then 0 else k) one) names
-
--- A table of names finds a name at its place among them.
-pub key_place : (names : List (List ℕ)) (name : List ℕ)
-    → position_or_len (name_eq name) names ≡ place_among names name
-key_place names name =
-    (λ i. position_or_len (λ other. (names_by_bytes name other ∙ same_bytes name other) i) names)
-    ∙ sym (by_bytes names name)
-
--- A name that is not the first goes last after the others, where it is new.
-after_first : (first : List ℕ) (names : List (List ℕ)) (name : List ℕ)
-    → first ∷ with_new names name
-    ≡ (if is_among names name then first ∷ names else first ∷ (names ++ name ∷ []))
-after_first first names name = elim (cases_Bool (is_among names name)) [
-  | inl h ↦ rw h refl
-  | inr h ↦ rw h refl
 ]
 
 -- With a reading more, its target is one of those of the ranges.

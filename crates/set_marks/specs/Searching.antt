@@ -1,12 +1,14 @@
 -- How sets, and their targets, are looked for without comparing each reading with all: what the
 -- code finds on the way.
 use Rattle.std.specs.Prelude.{◌≡◌, ℕ, suc, Bool, true, false, ◌&&◌, ◌||◌, not, nat_le, List, []}
-use Rattle.std.specs.Prelude.{◌∷◌, ◌<◌, ◌≤◌, length, take, drop, if◌then◌else◌}
+use Rattle.std.specs.Prelude.{◌∷◌, ◌<◌, ◌≤◌, length, take, drop, if◌then◌else◌, slice_get}
+use Rattle.std.specs.Prelude.{Option, None, Some}
 use Rattle.std.specs.List.{list_any}
 use Rattle.station_book.specs.Places.{is_among}
 use Rattle.set_marks.specs.declared.known.Known.{Known}
 use Rattle.set_marks.specs.declared.known.Known.TheVariants.{Few, Many}
 use Rattle.set_marks.specs.declared.faces.Faces.{Faces}
+use Rattle.set_marks.specs.declared.faces.FacesRead.{FacesRead}
 use Rattle.set_marks.specs.declared.bounds.TheConstants.{MOST_READINGS}
 use Rattle.set_marks.specs.declared.outside.Ending.{Ending}
 use Rattle.set_marks.specs.declared.outside.Ending.TheVariants.{Nothing, CheckSights, CheckPair}
@@ -15,6 +17,7 @@ use Rattle.set_marks.specs.declared.ways.Found.{Found}
 use Rattle.set_marks.specs.Divisions.{is_of, is_again, are_in_face, is_by_targets}
 use Rattle.set_marks.specs.Divisions.{begins_with_pair}
 use Rattle.set_marks.specs.Outside.{is_ended, may_end, before_ending, in_ending, last_of}
+use Rattle.set_marks.specs.Ranging.{place_among}
 use Rattle.set_marks.specs.Ways.{leading_of}
 
 -- The places at which sets begin, from a place on: `even` says whether the opening target was read
@@ -42,14 +45,36 @@ knows (Many names) name = is_among names name
 abbrev pub KnowsTargetsOf : List Sight → Known → Type 0
 KnowsTargetsOf rs known = (name : List ℕ) → knows known name ≡ list_any (is_of name) rs
 
--- the targets that were read in this face
-abbrev pub names_in : Bool → Faces → List (List ℕ)
-names_in second faces = if second then faces.twos else faces.ones
+-- this face alone
+abbrev pub only_face : Bool → FacesRead
+only_face second = record { one = not second; two = second }
+
+-- these faces, and this one
+abbrev pub with_face : Bool → FacesRead → FacesRead
+with_face second read = record { one = read.one || not second; two = read.two || second }
+
+-- whether this face is one of them
+abbrev pub is_in : Bool → FacesRead → Bool
+is_in second read = if second then read.two else read.one
+
+-- whether this face is one of those that a target has, if it is known
+abbrev pub is_in_some : Bool → Option FacesRead → Bool
+is_in_some second None = false
+is_in_some second (Some read) = is_in second read
+
+-- whether a target was read in this face: its faces stand at its place
+abbrev pub is_read : Bool → List ℕ → Faces → Bool
+is_read second name faces =
+    is_in_some second (slice_get faces.read.items (place_among faces.targets name))
+
+-- Each target has its faces.
+abbrev pub IsWhole : Faces → Type 0
+IsWhole faces = length faces.read.items ≡ length faces.targets
 
 -- The targets of these readings are kept, by the faces in which they are read.
-abbrev pub KeepsFaces : List Sight → Faces → Type 0
-KeepsFaces rs faces =
-    (r : Sight) → is_among (names_in r.second faces) r.target ≡ list_any (is_again r) rs
+pub record KeepsFaces (rs : List Sight) (faces : Faces) : Type 0 where
+  pub whole : IsWhole faces
+  pub kept : (r : Sight) → is_read r.second r.target faces ≡ list_any (is_again r) rs
 
 -- The last of these readings is in face I.
 abbrev pub ends_in_one : List Sight → Bool

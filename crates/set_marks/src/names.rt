@@ -1,6 +1,6 @@
 //! Names that are found by their hashes.
 
-ghost use Rattle.std.specs.Prelude.{◌≡◌, [], true, length, IfOk, OnOk};
+ghost use Rattle.std.specs.Prelude.{◌≡◌, [], true, length, IfOk, IfSome, OnOk};
 ghost use Rattle.std.specs.Bool.{OnTrue};
 ghost use Rattle.station_book.specs.Places.{is_among, with_new};
 ghost use Rattle.set_marks.specs.Ranging.{place_among};
@@ -58,33 +58,63 @@ impl Names {
     /// Whether the name at this place is this one.
     #[inline(always)]
     fn is_at(&self, name: &Name, place: usize) -> bool
-        ensures { OnTrue result (is_among self.now name.now ≡ true) }
+        ensures place { OnTrue result (place_among self.now name.now ≡ place) }
+        ensures known { OnTrue result (is_among self.now name.now ≡ true) }
     {
-        match self.kept.get_index(place) {
+        match self.kept.as_slice().get(place) {
             Some(other) => other.is_same(name),
             None => false,
         }
     }
 
-    /// Whether the name stands beside the one that was asked for last. It is the last one then.
+    /// The place of the name, if it stands beside the one that was asked for last. It is the last
+    /// one then.
     #[inline(always)]
-    fn is_beside(&mut self, name: &Name) -> bool
-        ensures known { OnTrue result (is_among self.old name.now ≡ true) }
+    fn place_beside(&mut self, name: &Name) -> Option<usize>
+        ensures place { IfSome result (λ place. place ≡ place_among self.old name.now) }
+        ensures known { IfSome result (λ _. is_among self.old name.now ≡ true) }
         ensures unchanged { self.new ≡ self.old }
     {
-        let last = self.last;
-        if self.is_at(name, last.wrapping_add(1)) {
-            self.last = last.wrapping_add(1);
-            return true;
+        let next = self.last.wrapping_add(1);
+        if self.is_at(name, next) {
+            self.last = next;
+            return Some(next);
         }
-        if self.is_at(name, last) {
-            return true;
+        if self.is_at(name, self.last) {
+            return Some(self.last);
         }
-        if self.is_at(name, last.wrapping_sub(1)) {
-            self.last = last.wrapping_sub(1);
-            return true;
+        let other = self.last.wrapping_sub(1);
+        if self.is_at(name, other) {
+            self.last = other;
+            return Some(other);
         }
-        false
+        None
+    }
+
+    /// The place of a name among them, or how many there are where it is none of them.
+    #[inline(always)]
+    pub(crate) fn place_of(&mut self, name: &Name) -> usize
+        ensures place { result ≡ place_among self.old name.now }
+        ensures unchanged { self.new ≡ self.old }
+    {
+        match self.place_beside(name) {
+            Some(place) => place,
+            None => self.find(name),
+        }
+    }
+
+    /// What `place_of` answers, by the hash of the name.
+    fn find(&mut self, name: &Name) -> usize
+        ensures place { result ≡ place_among self.old name.now }
+        ensures unchanged { self.new ≡ self.old }
+    {
+        match self.kept.get_index_of(name) {
+            Some(place) => {
+                self.last = place;
+                place
+            }
+            None => self.kept.len(),
+        }
     }
 
     /// Whether a name is among them.
@@ -93,21 +123,7 @@ impl Names {
         ensures value { result ≡ is_among self.old name.now }
         ensures unchanged { self.new ≡ self.old }
     {
-        self.is_beside(name) || self.is_kept(name)
-    }
-
-    /// What `has` answers, by the hash of the name.
-    fn is_kept(&mut self, name: &Name) -> bool
-        ensures value { result ≡ is_among self.old name.now }
-        ensures unchanged { self.new ≡ self.old }
-    {
-        match self.kept.get_index_of(name) {
-            Some(place) => {
-                self.last = place;
-                true
-            }
-            None => false,
-        }
+        self.place_of(name) < self.len()
     }
 
     /// Adds a name, where it is new, and answers whether it was among them.
@@ -116,28 +132,29 @@ impl Names {
         ensures known { IfOk result (λ known. known ≡ is_among self.old name.now) }
         ensures added { OnOk result (self.new ≡ with_new self.old name.now) }
     {
-        if self.is_beside(name) {
-            return Ok(true);
-        }
-        self.insert(*name)
+        let count = self.len();
+        Ok(self.place(name)? < count)
     }
 
-    /// Adds a name, where it is new, and answers its place among them, by its hash.
+    /// Adds a name, where it is new, and answers its place among them.
+    #[inline(always)]
     pub(crate) fn place(&mut self, name: &Name) -> Result<usize, AllocError>
         ensures place { IfOk result (λ place. place ≡ place_among self.old name.now) }
         ensures added { OnOk result (self.new ≡ with_new self.old name.now) }
     {
-        let (place, _) = self.kept.insert_full(*name)?;
-        Ok(place)
+        match self.place_beside(name) {
+            Some(place) => Ok(place),
+            None => self.insert(*name),
+        }
     }
 
-    /// Adds a name as `add` does, by its hash.
-    fn insert(&mut self, name: Name) -> Result<bool, AllocError>
-        ensures known { IfOk result (λ known. known ≡ is_among self.old name) }
+    /// Adds a name as `place` does, by its hash.
+    pub(crate) fn insert(&mut self, name: Name) -> Result<usize, AllocError>
+        ensures place { IfOk result (λ place. place ≡ place_among self.old name) }
         ensures added { OnOk result (self.new ≡ with_new self.old name) }
     {
-        let (place, is_new) = self.kept.insert_full(name)?;
+        let (place, _) = self.kept.insert_full(name)?;
         self.last = place;
-        Ok(!is_new)
+        Ok(place)
     }
 }

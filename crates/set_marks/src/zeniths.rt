@@ -216,7 +216,7 @@ fn place_by(
 {
     match place_beside(sight, last, ranges) {
         Some(place) => Ok(place),
-        None => names.place(&sight.target),
+        None => names.insert(sight.target),
     }
 }
 

@@ -10,5 +10,8 @@ pub sights-preserved : goal.sights-preserved
 sights-preserved c =
     let split : c.sights.left.now ≡ c.in-Some.sight.now ∷ c.in-Some.rest.now = search rules in
     longer_front c.args.sights.now c.sights.left.now c.in-Some.rest.now c.sights.faces
-    c.add.new.self c.in-Some.sight.now c.sights.invariant split c.in_ok-add.ensures.added
-    c.in_ok-add.ensures.other
+    c.add.new.self c.in-Some.sight.now c.sights.invariant split c.in_ok-add.ensures.whole
+    c.in_ok-add.ensures.added
+
+pub add-requires : goal.add-requires
+add-requires c = c.sights.invariant.keeps.whole
