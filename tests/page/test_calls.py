@@ -24,7 +24,7 @@ from pathlib import Path
 import model
 import records
 from kinds import refusal_in, without_hint
-from program import EXAMPLE, PROGRAM, ROOT, SWEEP, TimedTest, answer_to
+from program import EXAMPLE, PROGRAM, ROOT, SWEEP, TimedTest, answer_to, side_by_side
 from rows import answer_of_residuals, as_call, has_titles, residuals_in
 
 sys.path[:0] = [str(ROOT / name) for name in ("conformance", "page")]
@@ -438,19 +438,20 @@ class PageCallsTest(TimedTest):
         cases = cases_of_page()
         self.assertGreater(len(cases), 230)
         self.assertIn("residuals", {case.args[0] for case in cases if case.expected[0] == 0 and case.args})
-        for case in cases:
+        answers = side_by_side(lambda case: run.answer(self.command(), case), cases)
+        for case, answer in zip(cases, answers):
             with self.subTest(case.name):
-                self.assertEqual(without_hint(case.expected), run.answer(self.command(), case))
+                self.assertEqual(without_hint(case.expected), answer)
 
     def test_the_rows_of_a_job_without_codes_tell_what_its_notes_say(self):
         """And the copy and the line of a refusal are the same."""
         cases = [case for case in cases_of_page() if case.args[:1] == ["mark"]]
         self.assertGreater(len(cases), 60)
-        for case in cases:
+        asked = [case._replace(args=["mark-rows", *case.args[1:]]) for case in cases]
+        answers = side_by_side(lambda case: run.answer(self.command(), case), asked)
+        for case, (answered, text, rows) in zip(cases, answers):
             with self.subTest(case.name):
                 status, out, said = without_hint(case.expected)
-                asked = case._replace(args=["mark-rows", *case.args[1:]])
-                answered, text, rows = run.answer(self.command(), asked)
                 self.assertEqual(status, answered)
                 last = b"note: compare this with the field book\n" if status == 0 else text
                 self.assertEqual((out, said), (text if status == 0 else b"", notes_in(rows) + last))
