@@ -39,8 +39,8 @@ Tells Parts table (Some e) text = text ≡ explanation_parts e
 Tells Parts table None text = text ≡ []
 
 -- The line is a text, and what is answered tells of the fault that it asks for.
-pub record IsExplained (form : ExplainedAs) (table : List (Bor (List Explanation))) (line text : List ℕ)
-    : Type 0 where
+pub record IsExplained (form : ExplainedAs) (table : List (Bor (List Explanation)))
+    (line text : List ℕ) : Type 0 where
   pub is_text : IsUtf8 line
   pub fault : Option Explanation
   pub asked : IsAskedFor table line fault
