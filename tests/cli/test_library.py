@@ -24,6 +24,7 @@ from typing import Any, Callable, Iterable, NamedTuple
 
 import model
 from generated import SEED, station_to_adjust
+from in_parts import parts_of, printed_of
 from kinds import refusal_in, without_hint
 from program import EXAMPLE, PROGRAM, ROOT, SWEEP, Answer, ProgramTest, answer_of, answer_to
 from rows import answer_of_residuals, as_call, has_titles
@@ -298,6 +299,8 @@ int main(int count, char **words) {
         station_check_change(gsi, n, "1\n2=P8", 6, out, sizeof out, &length);
         station_check_digest(gsi, n, "gsi", 3, out, sizeof out, &length);
         station_check_explain("TwoC", 4, out, sizeof out, &length);
+        station_check_explanation("TwoC", 4, out, sizeof out, &length);
+        station_check_records(sheet, m, ',', out, sizeof out, &length);
         station_check_place("refused: kernel: TargetRow 1", 28, gsi, n, sheet, m, out, sizeof out, &length);
         station_check_instrument(gsi, n, STATION_CHECK_FRENCH, out, sizeof out, &length);
     }
@@ -662,6 +665,14 @@ class LibraryTest(ProgramTest):
         self.assertEqual(answer_of(["explain"])[1].decode(), self.module.explain())
         with self.assertRaisesRegex(self.module.Refused, "^refused: no such fault$"):
             self.module.explain("Elephant")
+
+    def test_an_explanation_is_handed_out_in_its_parts(self) -> None:
+        """Of an empty line there is none."""
+        for line in ["TwoC", "Zenith Unit", "refused: block 3: Byte"]:
+            with self.subTest(line):
+                parts = dict(parts_of(self.module._answer("explanation", [line.encode()], [])))
+                self.assertEqual(self.module.explain(line), printed_of(parts).decode())
+        self.assertEqual(b"", self.module._answer("explanation", [b""], []))
 
     def test_a_digest_is_the_line_of_sha256sum(self) -> None:
         data = GSI.read_bytes()

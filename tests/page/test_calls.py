@@ -23,6 +23,7 @@ from pathlib import Path
 
 import model
 import records
+from in_parts import parts_of, printed_of
 from kinds import refusal_in, without_hint
 from program import EXAMPLE, PROGRAM, ROOT, SWEEP, TimedTest, answer_to, side_by_side
 from rows import answer_of_residuals, as_call, has_titles, residuals_in
@@ -344,23 +345,6 @@ def changes_of(data, chance):
     return [(number, chance.choice(names)) for number in numbers]
 
 
-def parts_of(text):
-    """The parts of a text: before each stands a line of its title and of how many bytes it has."""
-    while text:
-        line, _, rest = text.partition(b"\n")
-        title, count = line.decode().split(" ")
-        yield title, rest[: int(count)]
-        text = rest[int(count) :]
-
-
-def printed_of(parts):
-    """An explanation as the program prints it, of its parts."""
-    said = {title: text.decode() for title, text in parts.items()}
-    names = said["names"].replace("\n", ", ")
-    text = f"{names}: {said['meaning']}\n\n{said['when']}\n\n  {said['example']}\n\nWhat to do: {said['remedy']}\n"
-    return text.encode()
-
-
 def counted(number, thing):
     return f"{number} {thing}" if number == 1 else f"{number} {thing}s"
 
@@ -558,6 +542,7 @@ class PageCallsTest(TimedTest):
                 self.assertEqual(["names", "meaning", "when", "example", "remedy"], [*parts])
                 self.assertEqual(answer_to([PROGRAM, "explain", line]), (status, printed_of(parts), said))
                 self.assertEqual(0, status)
+        self.assertEqual((0, b"", b""), answer_to([*self.command(), "explanation", ""]))
 
     def test_each_refusal_stands_at_its_line_or_its_row(self):
         named = set()
