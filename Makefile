@@ -112,7 +112,7 @@ try:
 # itself, leaves nothing to prove again. The calls themselves are proved where they are compiled.
 page: $(PAGE)
 
-$(PAGE): $(SOURCES) $(wildcard page/*.py page/*.js page/*.css page/refusals/*.json) page/heap.c \
+$(PAGE): $(SOURCES) $(wildcard page/*.py page/*.js page/*.css page/refusals/*.json page/texts/*.json) page/heap.c \
   page/station_check.html $(wildcard examples/job.gsi examples/station_p7_directions.csv)
 	@$(NEED_TOOLCHAIN)
 	@$(MAKE) --no-print-directory --silent IS_WITHIN=page $(PAGE_CRATES:%=$(PROVED)/%)

@@ -39,9 +39,6 @@ ROOM = ROOT / "build" / "page"
 # The files of the example that the page shows: a job without codes, and a table of directions.
 EXAMPLE = [ROOT / "examples" / name for name in ("job.gsi", "station_p7_directions.csv")]
 
-# The texts of faults, in a file for each language.
-REFUSALS = sorted((HERE / "refusals").glob("*.json"))
-
 # How rattle has clang compile a module for wasm64.
 TARGET = [f"--target={retarget.TRIPLE}", "-mcpu=lime1"]
 CAREFUL = (
@@ -189,25 +186,24 @@ def later() -> str:
     return scripts.dense(scripts.joined(scripts.SCRIPTS["later"]))
 
 
-def stored(texts: dict[str, dict[str, str]]) -> dict[str, Any]:
+def stored() -> dict[str, Any]:
     """What the page has beside the module: the script of the worker, and that which is run later, its
-    texts, those of faults by their languages, and the files of its example."""
-    refusals = {path.stem: json.loads(path.read_text()) for path in REFUSALS}
+    texts and those of faults, by their languages, and the files of its example."""
+    texts = {folder: scripts.by_language(folder) for folder in (scripts.TEXTS, "refusals")}
     example = {path.name: path.read_bytes().decode() for path in EXAMPLE}
     calls = scripts.dense(scripts.joined(scripts.SCRIPTS["calls"]))
     # (modules that both scripts have are packed once, as long as these stand beside each other)
-    rest = {"texts": texts, "refusals": refusals, "example": example}
-    return {"calls": calls, "later": later(), **rest}
+    return {"calls": calls, "later": later(), **texts, "example": example}
 
 
 def page(module: bytes) -> str:
     """The text of the page around a module, with its style and its scripts in it."""
-    script, texts = scripts.apart(scripts.joined(scripts.SCRIPTS["page"]))
+    script = scripts.with_texts(scripts.joined(scripts.SCRIPTS["page"]), scripts.AT_ONCE)
     whole = scripts.filled((HERE / "station_check.html").read_text(), {
         "page": scripts.dense(script),
         "style": scripts.styled("page"),
         "MODULE": packed(module),
-        "STORED": packed(json.dumps(stored(texts), ensure_ascii=False).encode()),
+        "STORED": packed(json.dumps(stored(), ensure_ascii=False).encode()),
         "SHA256": hashlib.sha256(module).hexdigest(),
         "COMMIT": version(),
     })

@@ -6,10 +6,12 @@ the other, as they are but for their comments, empty lines, the blanks before ot
 say of each other. A style has none of these either, and no blank behind a property's name.
 """
 
+import json
 import re
 import sys
 from collections import Counter
 from pathlib import Path
+from typing import Any
 
 HERE = Path(__file__).resolve().parent
 
@@ -58,14 +60,27 @@ INDENT = re.compile(r"^\s+", re.MULTILINE)
 DECLARED = re.compile(r"^(?:export )?(?:async )?(?:const|let|class|function) (.*)", re.MULTILINE)
 NAME = re.compile(r"^[$\w]+|(?<=, )[A-Z_]+(?= = )")
 
-# A text of the page's own, with its name; and a word that may name one.
-TEXT = re.compile(r"^  (\w+): \{(?:.*\},|\n(?:    .*\n)+  \},)\n", re.MULTILINE)
+# The texts of the page's own, and those of faults, are in a folder with a file for each language. The
+# script that needs texts at once has them in this place; these are said before anything is unpacked,
+# and where nothing can be; and a word may name one.
+TEXTS = "texts"
+NO_TEXTS = "const TEXTS = {};\n"
+AT_ONCE = {"cannotFinish", "cannotRun", "gettingReady"}
 WORD = re.compile(r"""['"](\w+)['"]""")
 
-# The words of a text in each language; and the texts that are said before anything is unpacked, and
-# where nothing can be.
-WORDS = re.compile(r"\b(en|de|fr): '([^'\n]*)'")
-AT_ONCE = {"cannotFinish", "cannotRun", "gettingReady"}
+
+def by_language(folder: str) -> dict[str, dict[str, Any]]:
+    """The texts of a folder by their languages."""
+    return {path.stem: json.loads(path.read_text()) for path in sorted((HERE / folder).glob("*.json"))}
+
+
+def with_texts(script: str, names: set[str]) -> str:
+    """A script with its texts of these names."""
+    texts = {
+        language: {name: text for name, text in said.items() if name in names}
+        for language, said in by_language(TEXTS).items()
+    }
+    return script.replace(NO_TEXTS, f"const TEXTS = {json.dumps(texts, ensure_ascii=False, indent=0)};\n")
 
 
 def bare(module: str) -> str:
@@ -81,21 +96,6 @@ def joined(modules: list[str]) -> str:
     if twice := [name for name, count in counts.items() if count > 1]:
         sys.exit(f"page: these names stand in two modules of one script: {', '.join(twice)}")
     return "\n".join(["'use strict';", *map(bare, texts), ""])
-
-
-def apart(script: str) -> tuple[str, dict[str, dict[str, str]]]:
-    """A script without its texts, but for those that are said at once; and the others by their
-    names."""
-    texts: dict[str, dict[str, str]] = {}
-
-    def left(text: re.Match[str]) -> str:
-        found = WORDS.findall(text[0])
-        if not found or text[1] in AT_ONCE:
-            return text[0]
-        texts[text[1]] = dict(found)
-        return ""
-
-    return TEXT.sub(left, script), texts
 
 
 def dense(text: str) -> str:
@@ -119,8 +119,7 @@ def residuals_page() -> str:
     """The page that shows the residuals of a station, which examples/residuals.py puts in. It has
     no texts that it doesn't need."""
     template, script = TEMPLATE.read_text(), joined(SCRIPTS["residuals"])
-    needed = {*WORD.findall(template + script)}
-    script = TEXT.sub(lambda text: text[0] if text[1] in needed else "", script)
+    script = with_texts(script, {*WORD.findall(template + script)})
     return filled(template, {"style": styled("results"), "script": dense(script)})
 
 

@@ -3,8 +3,8 @@ import { bytesOfText, unpacked } from './packed.js';
 import { TEXTS } from './texts.js';
 
 /**
- * The texts of the page by their names, the texts of faults by their languages and names, the files
- * of the example by theirs, the script that is run later, and that of the worker.
+ * The texts of the page and those of faults, by their languages and names, the files of the example by
+ * theirs, the script that is run later, and that of the worker.
  * @typedef {{ texts: Record<string, Record<string, string>>,
  *   refusals: Record<string, Record<string, import('./faults.js').Texts>>,
  *   example: Record<string, string>, later: string, calls: string }} Stored

@@ -535,12 +535,14 @@ class PageCallsTest(TimedTest):
         refusals = {refusal_in(case.expected[2]) for case in run.cases() if case.expected[0] == 1}
         self.assertGreater(len(refusals), 80)
         # Names alone, in small letters too, and a second one of a fault.
-        for line in [*sorted(refusals), "TwoC", "twoc", "Zenith Unit"]:
+        lines = [*sorted(refusals), "TwoC", "twoc", "Zenith Unit"]
+        answers = side_by_side(lambda line: answer_to([*self.command(), "explanation", line]), lines)
+        printed = side_by_side(lambda line: answer_to([PROGRAM, "explain", line]), lines)
+        for line, (status, text, said), expected in zip(lines, answers, printed):
             with self.subTest(line):
-                status, text, said = answer_to([*self.command(), "explanation", line])
                 parts = dict(parts_of(text))
                 self.assertEqual(["names", "meaning", "when", "example", "remedy"], [*parts])
-                self.assertEqual(answer_to([PROGRAM, "explain", line]), (status, printed_of(parts), said))
+                self.assertEqual(expected, (status, printed_of(parts), said))
                 self.assertEqual(0, status)
         self.assertEqual((0, b"", b""), answer_to([*self.command(), "explanation", ""]))
 

@@ -163,8 +163,8 @@ EXPLAINED = ".explanation details p"
 
 # Every text of the page's own in brackets; what is a number, a name or the program's stands without.
 BRACKETS = (
-    "for (const one of Object.values(TEXTS))"
-    " one.en = one.en.split('|').map(text => `\u27e6${text}\u27e7`).join('|');"
+    "for (const [name, one] of Object.entries(TEXTS.en))"
+    " TEXTS.en[name] = one.split('|').map(text => `\u27e6${text}\u27e7`).join('|');"
     "for (const one of Object.values(texts.en)) one.todo = `\u27e6${one.todo}\u27e7`;"
     " languages.onchange()"
 )
@@ -2133,23 +2133,27 @@ class PageInBrowserTest(TimedTest):
 
     def test_every_text_is_spoken_in_each_language(self):
         page = self.page()
-        texts, languages = page.js("TEXTS"), list(page.js("LANGUAGES"))
-        self.assertEqual(["en", "de", "fr"], languages)
-        for name, one in texts.items():
+        texts, languages = page.js("TEXTS"), page.js("LANGUAGES")
+        self.assertEqual(["en", "de", "fr"], list(languages))
+        self.assertEqual({*languages}, {*texts})
+        names = list(texts["en"])
+        for language in languages:
+            self.assertEqual(names, list(texts[language]))
+            self.assertTrue(all(texts[language].values()))
+        for name in names:
             with self.subTest(name):
-                self.assertEqual(languages, list(one))
-                self.assertTrue(all(one.values()))
-                holes = [Counter(re.findall(r"\{\w+\}", text)) for text in one.values()]
+                one = [texts[language][name] for language in languages]
+                holes = [Counter(re.findall(r"\{\w+\}", text)) for text in one]
                 self.assertEqual(1, len({*map(str, map(sorted, holes))}), one)
-                self.assertEqual(1, len({text.count("|") for text in one.values()}))
+                self.assertEqual(1, len({text.count("|") for text in one}))
         scripts = [path.read_text() for path in (ROOT / "page").glob("*.js") if path.name != "texts.js"]
         used = {name for script in scripts for name in re.findall(r"'(\w+)'", script)}
         of_parts = {*re.findall(r'data-(?:text|label|placeholder)="(\w+)"', PAGE.read_text())}
-        self.assertEqual({*texts}, used & {*texts} | of_parts)
+        self.assertEqual({*names}, used & {*names} | of_parts)
 
     def test_a_sign_of_french_text_is_never_alone_on_a_line(self):
         page = self.page()
-        for said in page.js("speak('fr'), Object.keys(TEXTS).flatMap(name => [1, 2].map(n => text(name, { n })))"):
+        for said in page.js("speak('fr'), Object.keys(TEXTS.fr).flatMap(name => [1, 2].map(n => text(name, { n })))"):
             self.assertNotRegex(said, "(?<!\u202f)[:;?!»]|«(?!\u202f)")
 
     def test_no_text_of_the_page_is_without_its_translations(self):

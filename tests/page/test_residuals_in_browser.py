@@ -70,10 +70,10 @@ class ResidualsInBrowserTest(TimedTest):
 
     def test_it_speaks_each_language_of_the_page_on_a_phone_too(self):
         page = self.shown(P7_FIELD, "P7", width=PHONE[0], height=PHONE[1])
-        for code, title in page.js("Object.entries(TEXTS.residualsOf)"):
+        for code, texts in page.js("TEXTS").items():
             page.js(SPEAK % code)
             with self.subTest(code):
-                self.assertEqual(title.replace("{name}", "P7"), page.text("h1"))
+                self.assertEqual(texts["residualsOf"].replace("{name}", "P7"), page.text("h1"))
                 self.assertLessEqual(page.js("document.documentElement.scrollWidth"), PHONE[0])
         self.assertEqual([], page.complaints())
 
