@@ -9,7 +9,7 @@ import {
 import { commandOf, isWithin } from './limits.js';
 import {
   accuracyIn, columnsIn, each, greatestOf, namedIn, partsIn, recognizedIn, residualsIn, rowsIn,
-} from './records.js';
+} from './rows.js';
 import { LANGUAGES, spoken } from './texts.js';
 
 /**
@@ -25,17 +25,17 @@ import { LANGUAGES, spoken } from './texts.js';
  * it was read by a pair of them, what it told of each station where it puts codes in, and whether
  * there a line further on sets up a station.
  * @typedef {{ command: string, asked: string, status: number, line: string,
- *   explanation?: import('./faults.js').Explanation, named?: import('./records.js').Named,
+ *   explanation?: import('./faults.js').Explanation, named?: import('./rows.js').Named,
  *   field: Input, other?: Input, station?: Station,
- *   greatest?: import('./records.js').Residual, verdict?: import('./records.js').Verdict,
- *   differences?: string, note?: string, columns?: import('./records.js').Columns,
- *   told?: import('./records.js').Recognized[], isSetUpLater?: boolean }} Answer
+ *   greatest?: import('./rows.js').Residual, verdict?: import('./rows.js').Verdict,
+ *   differences?: string, note?: string, columns?: import('./rows.js').Columns,
+ *   told?: import('./rows.js').Recognized[], isSetUpLater?: boolean }} Answer
  * What came of the limit of residuals, to which each station is held: whether it is kept, the
  * residuals of which that was seen, with the greatest, and the command by which the program itself
  * holds the station to it. An accepted sheet was held to it by its own call, and so was one that
  * was refused for it: then no residuals are told.
  * @typedef {{ isKept: boolean, residuals?: Answer, command?: string,
- *   greatest?: import('./records.js').Residual }} Judged
+ *   greatest?: import('./rows.js').Residual }} Judged
  * What every card has: the file that it is of, the answers to results that were handed in, and
  * `waiting`, those that are not checked yet; `isStopped` says that the work was stopped before they
  * were. `readings` counts those of a file without sets, `unplaced` is the text that says why a file
@@ -45,7 +45,7 @@ import { LANGUAGES, spoken } from './texts.js';
  * told of each.
  * @typedef {{ title: string, mood: Mood, file: Input, answers: Answer[], waiting: Input[],
  *   isStopped?: boolean, readings?: number, unplaced?: string, marked?: Answer,
- *   recognized?: import('./records.js').Recognized[], judged?: Judged, results?: Results }} AnyCard
+ *   recognized?: import('./rows.js').Recognized[], judged?: Judged, results?: Results }} AnyCard
  * A card of a station; one whose results are at hand.
  * @typedef {AnyCard & { field: Input, station: Station }} StationCard
  * @typedef {StationCard & { results: Results }} ReadyCard
@@ -155,7 +155,7 @@ async function cardsOfField(field, limits) {
     const answer = await answered(reply, { command, asked: 'list', field });
     return [{ ...about, mood: 'bad', answers: [answer] }];
   }
-  /** @type {{ stations: import('./records.js').Listed[], readings: number }} */
+  /** @type {{ stations: import('./rows.js').Listed[], readings: number }} */
   const { stations, readings } = reply.told;
   if (stations.length === 0) return cardsWithoutSets(field, readings, limits);
   return stations.map(listed => ({
@@ -237,7 +237,7 @@ const numbersOf = ({ numbers = new Map() }, which) => [...numbers]
  * Whether numbers were stated of stations that are no longer there, as after another answer to what
  * begins them: these numbers are forgotten.
  * @param {Input} field
- * @param {import('./records.js').Recognized[]} told
+ * @param {import('./rows.js').Recognized[]} told
  */
 function forgets({ numbers = new Map() }, told) {
   const there = told.filter(({ sets, fault }) => sets > 0 || fault).map(({ station }) => station);

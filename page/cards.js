@@ -1,6 +1,6 @@
 // A card of a station: the answer first, then the fault or the results.
 import {
-  ACCEPTED, OUT_OF_RANGE, REFUSED, WITH_COMMAS, filesOf, isCountedOtherwise, isTwice, isUncounted,
+  ACCEPTED, OUT_OF_RANGE, REFUSED, WITH_COMMAS, filesOf, isCountedOtherwise, isUncounted,
   isWithoutName, mayLeaveOut, meansOf, moodOfAnswer,
 } from './answers.js';
 import {
@@ -15,15 +15,15 @@ import {
   titleOf, waitingText,
 } from './headlines.js';
 import { LIMITS, commandOf } from './limits.js';
-import { MOODS } from './overview.js';
 import { mgonOf } from './numbers.js';
+import { MOODS } from './overview.js';
 import { pictureFile } from './picture.js';
 import { placeOf, seenText } from './place.js';
 import { nameOfProtocol, protocolFile } from './protocol.js';
-import { isComplete, residualsIn } from './records.js';
 import { showExplanation, showFault, showMeaning, showPlace } from './refusals.js';
 import { blockLinesOf, proposalFor } from './repairs.js';
 import { showResultsInTurn } from './results.js';
+import { isComplete, residualsIn } from './rows.js';
 import { facesFile } from './tables.js';
 import { hasComma, text } from './texts.js';
 
@@ -455,7 +455,7 @@ function showOpening(card, desk, isOpen, parent) {
  * be saved.
  * @param {Answer} marked
  * @param {Input} copy
- * @param {import('./records.js').Recognized[]} recognized
+ * @param {import('./rows.js').Recognized[]} recognized
  * @param {Desk} desk
  * @param {Element} parent
  */
@@ -589,7 +589,7 @@ function askSetUp(field, station, name, desk, parent) {
 /**
  * Asks for what the fault of a station needs to be stated, if it needs anything: just below what is
  * told of it.
- * @param {import('./records.js').Recognized} told
+ * @param {import('./rows.js').Recognized} told
  * @param {UnmarkedCard} card
  * @param {Desk} desk
  * @param {Element} parent

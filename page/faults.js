@@ -2,7 +2,7 @@
 //
 // The texts stand in a file for each language, in refusals/. In English they don't say what a fault
 // is: the program does, in its explanation.
-import { partsIn } from './records.js';
+import { partsIn } from './rows.js';
 import { stored } from './stored.js';
 import { spoken, typeset } from './texts.js';
 

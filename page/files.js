@@ -1,5 +1,5 @@
 // What a file is, by what it holds, and which station a result belongs to, by names and by content.
-import { each } from './records.js';
+import { each } from './rows.js';
 
 /**
  * What a file is: a field file, a sheet or a table, or a workbook of which a table is taken; or why
@@ -38,7 +38,7 @@ import { each } from './records.js';
  * What a station is whose name comes again: the same set-up, whose readings go on, or another one.
  * @typedef {'same' | 'another'} Again
  * A station of a field file, with all that is answered of it once that was asked for.
- * @typedef {{ field: Input, listed: import('./records.js').Listed,
+ * @typedef {{ field: Input, listed: import('./rows.js').Listed,
  *   whole?: import('./answers.js').Results }} Station
  */
 
@@ -252,7 +252,7 @@ const namesIn = ({ rows = [] }, most) =>
  * How many decimals of a gon a table states of each name: by the columns of names and of
  * directions, counted from 1, or by two columns.
  * @param {Input} table
- * @param {import('./records.js').Columns} [columns]
+ * @param {import('./rows.js').Columns} [columns]
  */
 export function decimalsIn(table, columns) {
   /** @type {Map<string, number>} */

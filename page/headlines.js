@@ -5,7 +5,7 @@ import {
 import { toldOf } from './faults.js';
 import { isUsed, originalOf, stationOfSheet } from './files.js';
 import { APART, HALF, mgonOf } from './numbers.js';
-import { differencesIn, sizeOf } from './records.js';
+import { differencesIn, sizeOf } from './rows.js';
 import { signedNumeral, text } from './texts.js';
 
 /**
@@ -16,13 +16,13 @@ import { signedNumeral, text } from './texts.js';
  */
 
 /** What the fault of a refusal is, as a sentence. */
-export const meaningOf = (/** @type {Answer} */ { explanation }) => toldOf(explanation).what;
+const meaningOf = (/** @type {Answer} */ { explanation }) => toldOf(explanation).what;
 
 /** Whether a table is refused for being apart. */
 export const isApart = (/** @type {Answer} */ { verdict }) => verdict?.verdict === 'Apart';
 
 /** The targets of a table, how far it is apart and the limit that it was held to, in mgon. */
-const howFarIn = (/** @type {import('./records.js').Verdict} */ { targets, apart, limit }) =>
+const howFarIn = (/** @type {import('./rows.js').Verdict} */ { targets, apart, limit }) =>
   ({ n: targets, apart: mgonOf(Number(apart), APART), limit: mgonOf(Number(limit), APART) });
 
 /** An accepted sheet: residuals that are written as 0 may be less than a tenth of a half unit. */
@@ -82,7 +82,7 @@ export const countsOf = ({ sets, targets, directions }) => ({
 });
 
 /** What was recognized of the sets of a station, in words. */
-function setsText(/** @type {import('./records.js').Recognized} */ one) {
+function setsText(/** @type {import('./rows.js').Recognized} */ one) {
   const { station, sets, targets, opening, turning, before, after, fault, block } = one;
   const { explanation } = one;
   if (fault)
@@ -97,7 +97,7 @@ function setsText(/** @type {import('./records.js').Recognized} */ one) {
 }
 
 /** What was recognized of a station, in sentences that stand one below the other. */
-export function recognizedTexts(/** @type {import('./records.js').Recognized} */ one) {
+export function recognizedTexts(/** @type {import('./rows.js').Recognized} */ one) {
   const { isAgain, missing, full, others, isOpenedAgain, equal, zeniths, opening } = one;
   const { writtenAgain } = one;
   return [

@@ -2,7 +2,7 @@
 import { ACCEPTED } from './answers.js';
 import { rowOf, tableOf } from './elements.js';
 import { originalOf } from './files.js';
-import { greatestOf, residualsIn } from './records.js';
+import { greatestOf, residualsIn } from './rows.js';
 import { numeral, text } from './texts.js';
 
 /** @typedef {import('./answers.js').Card} Card */

@@ -6,12 +6,12 @@
 // on a screen. Its colours are the tokens of the style; in a file of its own they are of light.
 import { element } from './elements.js';
 import { APART, mgonOf } from './numbers.js';
-import { greatestOf, sizeOf } from './records.js';
+import { greatestOf, sizeOf } from './rows.js';
 import { signedNumeral, text } from './texts.js';
 
 /**
- * @typedef {import('./records.js').Residual} Residual
- * @typedef {import('./records.js').Residuals} Residuals
+ * @typedef {import('./rows.js').Residual} Residual
+ * @typedef {import('./rows.js').Residuals} Residuals
  * A strip: its name, and its residuals.
  * @typedef {{ name: string, rows: Residual[] }} Strip
  * Strips below one axis, and how high in its strip a residual stands, from -1 at the top to 1: the

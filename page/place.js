@@ -1,12 +1,12 @@
 // Where a refusal stands: at a line of the field file, a row of a sheet or a table, or a target or
 // an observation of the station. Which of them, and which bytes, a call says; here they are shown.
 import { textOf } from './files.js';
-import { pairsOf } from './records.js';
+import { pairsOf } from './rows.js';
 import { text } from './texts.js';
 
 /**
  * @typedef {import('./files.js').Input} Input
- * @typedef {import('./records.js').Named} Named
+ * @typedef {import('./rows.js').Named} Named
  * A place: its name in words, and the lines around it with their numbers. In the line that is meant
  * the part from `first` to `end` is marked, or all of it.
  * @typedef {{ number: string, text: string, isMeant: boolean }} Line

@@ -1,12 +1,12 @@
 // The readings of a station: a table for each set, two of which stand beside each other on paper.
 import { element, tableOf } from './elements.js';
 import { averaged } from './numbers.js';
-import { each, sizeOf } from './records.js';
+import { each, sizeOf } from './rows.js';
 import { numeral, signedNumeral, text } from './texts.js';
 
 /**
  * The readings in both faces, a table for each set, the greatest 2c and the greatest 2i marked.
- * @param {import('./records.js').Reading[]} readings
+ * @param {import('./rows.js').Reading[]} readings
  * @param {Element} parent
  */
 export function readingsTables(readings, parent) {
@@ -35,7 +35,7 @@ export function readingsTables(readings, parent) {
 /**
  * The zenith angles: of all sets the mean of each target's means, of each set both faces and their
  * mean.
- * @param {import('./records.js').Reading[]} readings
+ * @param {import('./rows.js').Reading[]} readings
  * @param {Element} parent
  */
 export function zenithsTables(readings, parent) {

@@ -2,7 +2,7 @@
 // program printed stands in it, and is shown as the page shows it.
 import { button, element, save } from './elements.js';
 import { pictureFile, showPicture } from './picture.js';
-import { residualsIn } from './records.js';
+import { residualsIn } from './rows.js';
 import { residualsTable } from './tables.js';
 import { languageOf, speak, spoken, text } from './texts.js';
 

@@ -4,9 +4,9 @@ import { element, ofProgram } from './elements.js';
 import { decimalsIn, originalOf } from './files.js';
 import { hasZeniths } from './notes.js';
 import { showPicture } from './picture.js';
-import { differencesIn, readingsIn, residualsIn } from './records.js';
-import { showMeaning } from './refusals.js';
 import { readingsTables, zenithsTables } from './readings.js';
+import { showMeaning } from './refusals.js';
+import { differencesIn, readingsIn, residualsIn } from './rows.js';
 import {
   accuracyNote, differencesTable, directionsTable, facesTables, residualsTable,
 } from './tables.js';

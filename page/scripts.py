@@ -19,18 +19,18 @@ HERE = Path(__file__).resolve().parent
 # no page around it; of the page; what is run later in it, which needs the page's; and of the residuals
 # of a station in a file of their own.
 SCRIPTS = {
-    "calls": ["calls.js", "numbers.js", "packed.js", "records.js", "worker.js"],
+    "calls": ["calls.js", "numbers.js", "packed.js", "rows.js", "worker.js"],
     "page": [
         "texts.js", "numbers.js", "files.js", "packed.js", "stored.js", "work.js", "limits.js",
         "notes.js", "elements.js", "drawing.js", "gather.js", "page.js",
     ],
     "later": [
-        "records.js", "faults.js", "answers.js", "headlines.js", "overview.js", "place.js",
+        "rows.js", "faults.js", "answers.js", "headlines.js", "overview.js", "place.js",
         "changes.js", "repairs.js", "tables.js", "readings.js", "picture.js", "results.js",
         "refusals.js", "protocol.js", "cards.js", "workbook.js",
     ],
     "residuals": [
-        "texts.js", "numbers.js", "records.js", "elements.js", "tables.js", "picture.js",
+        "texts.js", "numbers.js", "rows.js", "elements.js", "tables.js", "picture.js",
         "residuals.js",
     ],
 }

@@ -1,7 +1,7 @@
 // The results of a station as tables: targets as rows, and sets as columns, in groups that fit on a
 // page.
 import { element, tableOf } from './elements.js';
-import { each, greatestOf, linesIn, pairsOf, sizeOf } from './records.js';
+import { each, greatestOf, linesIn, pairsOf, sizeOf } from './rows.js';
 import { hasComma, numeral, signedNumeral, text } from './texts.js';
 
 /** So many sets stand side by side. */
@@ -79,7 +79,7 @@ function asStated(number, decimals = number.length) {
 /**
  * The differences of a table by target, each as a number and as a bar, the greatest marked: beside
  * the target, so that a phone shows them. What is stated has the decimals that the table has.
- * @param {import('./records.js').Difference[]} differences
+ * @param {import('./rows.js').Difference[]} differences
  * @param {Map<string, number>} decimals
  * @param {Element} parent
  */
@@ -97,7 +97,7 @@ export function differencesTable(differences, decimals, parent) {
 
 /**
  * The residuals, each as a number and as a bar: the longest bar is the greatest residual.
- * @param {import('./records.js').Residuals} residuals
+ * @param {import('./rows.js').Residuals} residuals
  * @param {Element} parent
  */
 export function residualsTable(residuals, parent) {

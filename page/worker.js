@@ -1,7 +1,7 @@
 // Answers one call after the other beside the page, so that no file holds the window.
 import { calls } from './calls.js';
 import { unpacked } from './packed.js';
-import { partsIn, recordsIn, stationsOf } from './records.js';
+import { partsIn, recordsIn, stationsOf } from './rows.js';
 
 /** @type {Promise<WebAssembly.Module>} */
 let core;

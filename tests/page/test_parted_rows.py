@@ -43,7 +43,7 @@ EACH = "console.log(JSON.stringify(JSON.parse(require('fs').readFileSync(0, 'utf
 
 def answered(of_each, values):
     """What the page's scripts answer of each value."""
-    script = scripts.joined(["numbers.js", "records.js", "files.js"]) + EACH % of_each
+    script = scripts.joined(["numbers.js", "rows.js", "files.js"]) + EACH % of_each
     how = {"input": json.dumps(values), "capture_output": True, "text": True, "timeout": TIME}
     return json.loads(subprocess.run(["node", "-e", script], check=True, **how).stdout)
 

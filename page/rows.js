@@ -1,7 +1,7 @@
-// What stands in the texts of the program: the rows that it writes, the records that it reads of a
-// file, the parts of what is answered of a station or a table, what is told of a job without codes,
-// the stations of a list, the residuals and the readings of a station, the columns and the
-// differences of a table. Nothing here decides anything.
+// What stands in the texts that calls write: their rows, the records that a call read of a file, the
+// parts of what is answered of a station or a table, what is told of a job without codes, the stations
+// of a list, the residuals and the readings of a station, the columns and the differences of a table.
+// Nothing here decides anything.
 import { turned } from './numbers.js';
 
 /** A cell of a row that the core wrote, and the comma after it. */
