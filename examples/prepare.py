@@ -410,18 +410,34 @@ def are_sighted_once(readings: list[Block], face: int) -> bool:
     return is_once and all(faces[target, face] for target in targets)
 
 
+def without_again(readings: list[Block]) -> list[Block]:
+    """Readings without those that read a target again, in a face in which it was read since another
+    one was."""
+    kept, faces, target = list[Block](), set[int](), None
+    for reading in readings:
+        if reading.target() != target:
+            target, faces = reading.target(), set()
+        if reading.face() not in faces:
+            faces.add(reading.face())
+            kept.append(reading)
+    return kept
+
+
 def may_stand_before(readings: list[Block], face: int) -> bool:
-    """Whether readings may be sights that belong to none of the sets, which begin in this face."""
+    """Whether readings may be sights that belong to none of the sets, which begin in this face: a
+    target may have been sighted again at once."""
     if len(readings) > MOST_BEFORE:
-        return are_sighted_once(readings, face)
+        return are_sighted_once(without_again(readings), face)
     in_this = {reading.target() for reading in readings if reading.face() == face}
     return {reading.target() for reading in readings} <= in_this
 
 
 def counts_before(readings: list[Block]) -> range:
     """How many readings may stand before sets, of which one has at least four: three, or more up to
-    where a target is sighted in a face once more."""
-    once = [len(part) for part in read_once(readings[:MOST_SIGHTED])[:1]]
+    where a target is sighted in a face once more, but for one that is at once read again."""
+    first = readings[:MOST_SIGHTED]
+    kept = without_again(first)
+    once = [len(part) + len(first) - len(kept) for part in read_once(kept)[:1]]
     most = min(max([MOST_BEFORE, *once]), len(readings) - 4)
     return range(max(most, 0) + 1)
 
@@ -500,8 +516,11 @@ def broken_after(readings: list[Block], before: int) -> list[Block] | None:
     if not leave_whole_sets(sights, whole):
         return None
     targets = {reading.target() for reading in whole}
-    while last[-1].target() not in targets:  # detail points
-        last.pop()
+    read = {(reading.target(), reading.face()) for reading in rest}
+    while last[-1].target() not in targets:  # detail points, which are read in one face alone
+        detail = last.pop()
+        if (detail.target(), 3 - detail.face()) in read:
+            return None
     faces = Counter((reading.target(), reading.face()) for reading in last)
     if max(faces.values()) > 1:
         return None

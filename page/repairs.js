@@ -186,20 +186,37 @@ function areSightedOnce(readings, face) {
 }
 
 /**
- * Whether readings may be sights that belong to none of the sets, which begin in this face.
+ * Readings without those that read a target again, in a face in which it was read since another one
+ * was.
+ */
+function withoutAgain(/** @type {Reading[]} */ readings) {
+  /** @type {Set<number>} */
+  const faces = new Set();
+  return readings.filter(({ target, face }, at) => {
+    if (readings[at - 1]?.target !== target) faces.clear();
+    const isAgain = faces.has(face);
+    faces.add(face);
+    return !isAgain;
+  });
+}
+
+/**
+ * Whether readings may be sights that belong to none of the sets, which begin in this face: a target
+ * may have been sighted again at once.
  * @param {Reading[]} readings
  * @param {number} face
  */
 function mayStandBefore(readings, face) {
   const count = countedIn(readings);
-  return readings.length > MOST_BEFORE ? areSightedOnce(readings, face)
+  return readings.length > MOST_BEFORE ? areSightedOnce(withoutAgain(readings), face)
     : readings.every(({ target }) => count(target, face) > 0);
 }
 
 /** How many readings may stand before sets: none, and each number up to the greatest. */
 function countsBefore(/** @type {Reading[]} */ readings) {
-  const [once = []] = readOnce(readings.slice(0, MOST_SIGHTED));
-  const most = Math.min(Math.max(MOST_BEFORE, once.length), readings.length - FEWEST_OF_SET);
+  const first = readings.slice(0, MOST_SIGHTED), kept = withoutAgain(first);
+  const [once = []] = readOnce(kept), again = first.length - kept.length;
+  const most = Math.min(Math.max(MOST_BEFORE, once.length + again), readings.length - FEWEST_OF_SET);
   return Array.from({ length: Math.max(most, 0) + 1 }, (_, before) => before);
 }
 
@@ -337,7 +354,10 @@ function brokenAfter(readings, before) {
   if (!leaveWholeSets(sights, whole)) return undefined;
   const targets = new Set(whole.map(({ target }) => target));
   const isOfSets = rest.map(({ target }) => targets.has(target));
-  const last = rest.slice(begin, isOfSets.lastIndexOf(true) + 1); // (then come detail points)
+  const end = isOfSets.lastIndexOf(true) + 1, last = rest.slice(begin, end);
+  // (then come detail points, which are read in one face alone)
+  const countOfAll = countedIn(rest);
+  if (rest.slice(end).some(({ target, face }) => countOfAll(target, 3 - face) > 0)) return undefined;
   const count = countedIn(last);
   if (last.some(one => count(one.target, one.face) > 1)) return undefined;
   const isEven = [...targets].every(target => count(target, 1) === count(target, 2));

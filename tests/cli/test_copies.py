@@ -83,8 +83,8 @@ def sights_before(targets):
         for other in [*targets, "X"]:
             pair = other + other.lower()
             yield from (one + other, one + pair, pair + one, one + other + one)
-            if other != one:
-                yield from (one + one.lower() + pair, one.lower() + one + pair)
+            yield from (other + other + pair, one + one + pair, pair + one + one)
+            yield from (one + one.lower() + pair, one.lower() + one + pair)
     yield from (targets + "XY", pairs_of(targets), "XY" + pairs_of(targets[-1]))
 
 
@@ -229,7 +229,6 @@ class PrepareTest(ProgramTest):
             ("AABCAacba", "....x...x"),  # an orientation sight comes first
             ("ABCAacbaacbaABCA", "...x...x...x...x"),  # faces alternate
             ("AaBbCcAaAaBbCcAa", "......xx......xx"),  # target by target
-            ("AaAaBbCcAa", "........xx"),
             ("ABCcba|BAbab", "...........x"),
             ("ABCcbaABCcbaAa", "............xx"),  # a pair after sets that were read by faces
             ("XABCabcABCabcAa", ".............xx"),
@@ -247,6 +246,8 @@ class PrepareTest(ProgramTest):
         for sights, first in [
             ("CcAaBbCcAaBbCc", 3),
             ("AaBbAa", 3),
+            ("AaAaBbCcAa", 5),  # or one that was read twice
+            ("CcCcAaBbCcAaBbCc", 5),
             ("DdCcAaBbCcDdAaBbCcDd", 5),
             ("CABCcbaA", 2),
         ]:
@@ -315,7 +316,7 @@ class PrepareTest(ProgramTest):
                 numbers = list(range(len(whole) + 1, len(whole) + end + 1))
                 self.assertIn(found, ([], numbers), whole + one[:end])
                 counts[bool(found)] += 1
-        self.assertGreater(counts[True], 3 * counts[False], counts)
+        self.assertGreater(counts[True], 2 * counts[False], counts)
 
     def changed(self, field, args, expected):
         """Compares the copy, and looks at the log: each line as it was and as it is."""

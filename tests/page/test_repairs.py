@@ -67,7 +67,6 @@ CLOSING = [
     Case("AABCAacba", 9, TWICE, "....x...x"),  # an orientation sight comes first
     Case("ABCAacbaacbaABCA", 8, TWICE, "...x...x...x...x"),  # faces alternate
     Case("AaBbCcAaAaBbCcAa", 9, TWICE, "......xx......xx"),  # target by target
-    Case("AaAaBbCcAa", 9, ONE, "........xx"),
     Case("|ABCAabcaABCAabca|ABCcba", 9, TWICE, "....x...x...x...x......."),
 ]
 
@@ -83,6 +82,9 @@ DOUBTFUL = [
     ("half sets of one face are closed here and not there", "ABCAcbaABCAcba", 8, TWICE),
     ("a pair alone stays outside", "ABCcbaABCcbaAa", 13, TWICE),
     ("a target is sighted again at once", "ABbABCcba", 4, TWICE),
+    ("an orientation may have been read twice", "AaAaBbCcAa", 9, ONE),
+    ("and the last pair be of the only set", "BbBbAaBb", 7, ONE),
+    ("or of the last one", "CcCcAaBbCcAaBbCc", 15, ONE),
     ("it is just the line of the refusal", "|ABCcba|BAbab", 13, MISSING),
     ("another fault", "ABCcbaABCc", 10, "Order"),
 ]
