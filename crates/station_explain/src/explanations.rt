@@ -310,16 +310,17 @@ const NUMBER_FAULTS: &[Explanation] = &[
         meaning: "a set is opened on a station that had sets before",
         when: "\
 The station that is open has the name of an earlier one with sets, which another code 10 opened. A
-file has one occupation of a station. As 'mark: StationTwice', a set-up line has the name of an
+file has one set-up of a station. As 'mark: StationTwice', a set-up line has the name of an
 earlier one, and both stations have sets, or readings that aren't recognized as sets.",
         example: "refused: block 14: StationTwice",
         remedy: "\
 If the instrument was not moved, and the set-up line was written again, mark the file
 with --same-set-up; of a file with codes check a copy without the later codes 10 of this name, and
 the sets go on. If the point was set up again, mark the file with --again, which calls the second
-station NAME-2. Else give the second occupation a name of its own in a copy, with
+station NAME-2. Else give the second set-up a name of its own in a copy, with
 'prepare.py --rename BLOCK NAME' of the examples: BLOCK is that of its code 10 or its set-up line,
-before the one that is named.",
+before the one that is named. If the file was transferred twice, leave its second part out, with
+--blocks.",
     },
     Said {
         names: &["SetTwice"],
@@ -461,8 +462,8 @@ TooManyTargets', more than 200 readings would be one set, or it is so of the set
         example: "refused: block 103: TooManyTargets",
         remedy: "\
 Copy some of the sets into a file of their own, to be adjusted by themselves. To 'mark',
-leave detail points that stand before the sets out of a copy, with 'prepare.py --blocks' of the
-examples.",
+leave points that were read in both faces and are of no set out of a copy, with
+'prepare.py --blocks' of the examples.",
     },
     Said {
         names: &["TwoC"],
@@ -516,7 +517,7 @@ them into a file that has one.",
 See what they mean. If they are those of this program, the file needs no 'mark': run
 'station_check list GSI'. If they are those of your office, for something else, leave them out of a
 copy with 'prepare.py --without-codes' of the examples, and mark that. Codes that begin stations
-stay in: without them two occupations can pass for one. If the file has these and none for sets, put
+stay in: without them two set-ups can pass for one. If the file has these and none for sets, put
 in the codes of each station with 'prepare.py --codes STATION BLOCKS LAST' of the examples.",
     },
     Said {
@@ -543,8 +544,10 @@ set-up line is a point number without a direction, vertical angle or distance, w
         remedy: "\
 If the file is of one station, name it: 'station_check mark --station NAME GSI'. If a
 code with the name in word 42 begins each, state its number: 'mark --station-code N GSI'. If set-up
-lines come later, leave the readings before the first out of a copy. Any other file of several
-stations is to be divided first: 'mark' cannot see where another begins.",
+lines come later, leave the readings before the first out of a copy; but if each was recorded after
+its sights, put the codes of each station in with 'prepare.py --codes STATION BLOCKS LAST' of the
+examples. Any other file of several stations is to be divided first: 'mark' cannot see where another
+begins.",
     },
     Said {
         names: &["NameTooLong"],
@@ -643,8 +646,10 @@ faces the target that opens them may be checked in both faces, after sets of two
 detail; but no other target, and not after sets that are read target by target.",
         example: "refused: block 4: mark: OneTarget",
         remedy: "\
-Leave the pair that belongs to no set out of a copy, with 'prepare.py --blocks' of the
-examples, or closing pairs with --closing, and mark that.",
+Leave the pair that the field book says is of no set out of a copy, with
+'prepare.py --blocks' of the examples, and mark that. It may stand before the sets: where an
+orientation to the target that ends the sets was read twice there, the pair at this block ends the
+last set, and has to stay.",
     },
     Said {
         names: &["Order"],
@@ -745,9 +750,9 @@ The set begins with this reading, and no more than half of its targets are targe
 the instrument was set up again and no line says so, or the first set lacks many targets.",
         example: "refused: block 5: mark: OtherTargets",
         remedy: "\
-If the instrument was set up again there, mark two copies, each with its own --station
-NAME: with 'prepare.py --blocks' of the examples leave out all from this block on in one, and all
-before it in the other. If it is one station, put the codes in with
+If the instrument was set up again there, mark two copies: in one leave out all blocks
+from this one to the next set-up line, with 'prepare.py --blocks' of the examples; in the other all
+but these, and name the station with --station NAME. If it is one station, put the codes in with
 'prepare.py --codes STATION BLOCKS LAST' of the examples: BLOCKS are the first ones of the sets,
 as 2,14,26, and LAST ends them.",
     },
@@ -766,9 +771,9 @@ target. Detail that is read in face I alone may have such a name.",
         example: "refused: block 10: mark: SightsItself",
         remedy: "\
 See in the field book where the instrument was set up. If it was moved before this
-reading, mark two copies, each with its own --station NAME: with 'prepare.py --blocks' of the
-examples leave out all from there on in one, and all before it in the other. If a name is wrong,
-'change --rename BLOCK=NAME' gives another in a copy.",
+reading, mark two copies: in one leave out all blocks from there to the next set-up line, with
+'prepare.py --blocks' of the examples; in the other all but these, and name the station with
+--station NAME. If a name is wrong, 'change --rename BLOCK=NAME' gives another in a copy.",
     },
     Said {
         names: &["ByTargets"],
@@ -791,14 +796,15 @@ its own beside them: '--sets 4 --sets P7=3'.",
         when: "\
 The sets of the station begin with this reading, and are more or fewer than --sets states. A set
 that was broken off was counted, or one that was read once more was not; an orientation in both
-faces looks like a part of a set; a set-up line is missing, so that two occupations are one station;
+faces looks like a part of a set; a set-up line is missing, so that two set-ups are one station;
 or the file has the same readings twice. Another number may fit, and its sets be shifted.",
         example: "refused: block 1: mark: SetCount",
         remedy: "\
-See in the field book how many sets of this station were read to the end. If that is the
-number that you stated, leave out of a copy what belongs to none of them, with 'prepare.py --blocks'
-of the examples, and mark that; or put the codes in with 'prepare.py --codes STATION BLOCKS LAST':
-BLOCKS are the first ones of the sets, as 2,14,26, and LAST ends them.",
+See in the field book how many sets of this station were read to the end. If that is
+another number, state it, of one station as --sets P7=4. If it is that, leave out of a copy what
+belongs to none of them, with 'prepare.py --blocks' of the examples, and mark that; or put the codes
+in with 'prepare.py --codes STATION BLOCKS LAST': BLOCKS are the first ones of the sets, as 2,14,26,
+and LAST ends them.",
     },
     Said {
         names: &["TargetCount"],
@@ -806,15 +812,16 @@ BLOCKS are the first ones of the sets, as 2,14,26, and LAST ends them.",
         when: "\
 The sets of the station begin with this reading, and have more or fewer targets in all than
 --targets states. A target has two names in the file, small letters too; a target was left out of
-all sets; a set-up line is missing, so that two occupations are one station; or an orientation or a
+all sets; a set-up line is missing, so that two set-ups are one station; or an orientation or a
 check in both faces, before or after a single set that was read target by target, looks like one of
 its targets. Another number may fit, and the set have readings that are none of its own.",
         example: "refused: block 1: mark: TargetCount",
         remedy: "\
-Compare the names with the field book by 'station_check words GSI'. 'prepare.py --rename
-BLOCK NAME' of the examples gives blocks the right name in a copy, and --capitals writes all names
-in capitals. If another station stands among these readings, or a sight before or after the only
-set, leave its blocks out of a copy with --blocks, and mark that.",
+Compare the names with the field book by 'station_check words GSI'. If it has another
+number of targets, state that, of one station as --targets P7=5. 'prepare.py --rename BLOCK NAME' of
+the examples gives blocks the right name in a copy, and --capitals writes all names in capitals. If
+another station stands among these readings, or a sight before or after the only set, leave its
+blocks out of a copy with --blocks, and mark that.",
     },
 ];
 
@@ -869,12 +876,13 @@ examples writes a copy.",
 const ROW_FAULTS: &[Explanation] = &[
     Said {
         names: &["TooLong"],
-        meaning: "the sheet or the table has more than 1048576 bytes",
+        meaning: "the sheet or the table is too long",
         when: "\
-The sheet, or as 'table: TooLong' the table, has more than 1048576 bytes, all its bytes counted.",
+The sheet, or as 'table: TooLong' the table, has more than 1048576 bytes, all its bytes counted; a
+table of all stations, with --all, has more than 16777216.",
         example: "refused: sheet: TooLong",
         remedy: "\
-See that the path names a sheet or a table: none that a station needs is so long.",
+See that the path names a sheet or a table: none that stations need is so long.",
     },
     Said {
         names: &["Fields"],
@@ -1204,8 +1212,8 @@ first observes the targets of the station.",
         remedy: "\
 Add the row of that target. 'station_check directions GSI STATION' prints all of them
 in their order. If it is the first row of the table, see its name and its direction: a first row
-that has neither a target's name nor a number after it is read as titles. To compare fewer targets,
-check a copy of the field file without the others.",
+that has neither a target's name nor a number after it is read as titles. 'differences' takes a
+table of fewer targets. To compare one, check a copy of the field file without the others.",
     },
     Said {
         names: &["NotFound"],
@@ -1264,8 +1272,8 @@ a path like any other: name /dev/stdin for standard input.",
         names: &["already there"],
         meaning: "a new file was asked for, and something has its name already",
         when: "\
-'mark' makes a copy in a file of its own only where nothing has its name: it writes over nothing.
-Nothing was read, and the exit status is 2.",
+'mark' and 'change' make a copy in a file of its own only where nothing has its name: they write
+over nothing. Nothing was read, and the exit status is 2.",
         example: "already there: marked.gsi",
         remedy: "\
 Name another file for the copy, or put the old one out of the way,
