@@ -96,9 +96,10 @@ uint8_t station_check_compare(const void *gsi, size_t gsi_length,
 
 /* The differences of a table of directions from the least-squares ones of a station: a row of
  * titles, and a row for each target, with what the table states and the least-squares direction in
- * gon, and their difference in mgon after the rotation that makes the largest smallest, exactly
- * rounded. The table may lack targets of the station if it states two or more: their rows have the
- * least-squares direction alone. The status is 3 if the text or the note has too little room. */
+ * gon, and in mgon, exactly rounded, their difference after the rotation that makes the largest
+ * smallest, and that from the median of all. The table may lack targets of the station if it states
+ * two or more: their rows have the least-squares direction alone. The status is 3 if the text or the
+ * note has too little room. */
 uint8_t station_check_differences(const void *gsi, size_t gsi_length,
                                   const void *table, size_t table_length,
                                   const char *station, size_t station_length,
@@ -174,19 +175,22 @@ uint8_t station_check_residuals(const void *gsi, size_t gsi_length,
 /* The report of a station's sets: what was read in both faces, the least-squares directions, the
  * residuals, the greatest of them, and the standard deviation of one two-face direction, exactly
  * rounded; and the limits that were kept. It names the field file by `path`, which may be any
- * bytes: they are escaped as in the line of a digest, and other control bytes as \x1b. */
+ * bytes: they are escaped as in the line of a digest, and other control bytes as \x1b. Its fixed
+ * phrases are in a language, in UTF-8. */
 uint8_t station_check_report(const void *gsi, size_t gsi_length,
                              const char *path, size_t path_length,
                              const char *station, size_t station_length,
-                             uint32_t two_c, uint32_t two_i,
+                             uint32_t two_c, uint32_t two_i, uint32_t language,
                              char *text, size_t room, size_t *length);
 
 /* All of a station, of one reading of the file and one adjustment: what station_check_directions
  * hands out, the titles and observations that `report --csv` prints, how accurate it is, and what
- * station_check_report hands out. Before each stands a line of its title, "directions", "rows",
- * "accuracy" or "report", a blank, and how many bytes it has. How accurate it is are two lines:
- * "degrees,deviation", and the degrees of freedom and the standard deviation of one two-face
- * direction in mgon, which is left out where there are none. */
+ * station_check_report hands out in English. Before each stands a line of its title, "directions",
+ * "rows", "accuracy" or "report", a blank, and how many bytes it has. How accurate it is are two
+ * lines: "degrees,deviation,of adjusted,squares", and the degrees of freedom, the standard deviations
+ * of one two-face direction and of each adjusted direction in mgon, and the sum of the squares of all
+ * residuals in mgon^2. Where there are no degrees of freedom the others are left out, and that of
+ * each adjusted direction is where a set lacks a target. */
 uint8_t station_check_station(const void *gsi, size_t gsi_length,
                               const char *path, size_t path_length,
                               const char *station, size_t station_length,

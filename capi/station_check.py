@@ -283,8 +283,10 @@ class Table(NamedTuple):
 
 class Station(NamedTuple):
     """All of a station: the texts of `directions` and `report`, the observations that `report --csv`
-    prints, and a row of the degrees of freedom and the standard deviation of one two-face direction
-    in mgon, which is empty where there are none."""
+    prints, and a row of how accurate it is: the degrees of freedom, the standard deviations of one
+    two-face direction and of each adjusted direction in mgon, and the sum of the squares of all
+    residuals in mgon^2. Where there are no degrees the others are empty, and that of each adjusted
+    direction is where a set lacks a target."""
 
     directions: str
     rows: str
@@ -406,9 +408,18 @@ def residuals(gsi: File, station: str, *, two_c: int = FACES, two_i: int = FACES
     return _answer("residuals", [gsi, _text(station)], numbers).decode()
 
 
-def report(gsi: File, station: str, path: str, *, two_c: int = FACES, two_i: int = FACES) -> str:
-    """The report of the station's sets, which names the field file by this path."""
-    numbers = _numbers(two_c=two_c, two_i=two_i)
+def report(
+    gsi: File,
+    station: str,
+    path: str,
+    *,
+    two_c: int = FACES,
+    two_i: int = FACES,
+    language: str = "en",
+) -> str:
+    """The report of the station's sets in English, in German ("de") or in French ("fr"), which names
+    the field file by this path."""
+    numbers = [*_numbers(two_c=two_c, two_i=two_i), _language(language)]
     return os.fsdecode(_answer("report", [gsi, os.fsencode(path), _text(station)], numbers))
 
 
@@ -522,9 +533,7 @@ def explain(line: str = "") -> str:
 def instrument(gsi: File, language: str = "en") -> str:
     """The lines that a report in English, in German ("de") or in French ("fr") has of what a field
     file recorded of instrument and time, in its words 12, 13, 17, 18 and 19, as they stand."""
-    if language not in _LANGUAGES:
-        raise ValueError(f"language is {language!r}: state one of {', '.join(_LANGUAGES)}")
-    return _answer("instrument", [gsi], [ctypes.c_uint32(_LANGUAGES[language])]).decode()
+    return _answer("instrument", [gsi], [_language(language)]).decode()
 
 
 def place(line: str, gsi: File, other: File = b"") -> Place | None:
@@ -666,6 +675,13 @@ def _whole(parameter: str, value: int) -> int:
 def _numbers(**stated: int) -> Sequence[ctypes.c_uint32]:
     """Numbers by the names of their parameters, as the library takes them."""
     return [ctypes.c_uint32(_whole(parameter, value)) for parameter, value in stated.items()]
+
+
+def _language(language: str) -> ctypes.c_uint32:
+    """A language as the library takes it."""
+    if language not in _LANGUAGES:
+        raise ValueError(f"language is {language!r}: state one of {', '.join(_LANGUAGES)}")
+    return ctypes.c_uint32(_LANGUAGES[language])
 
 
 def _lines(parameter: str, stated: Stated) -> bytes:

@@ -104,8 +104,8 @@ export const calls = {
     callOf(core, 'station_page_comma_directions', [gsi, name], [twoC, twoI, decimals]),
   commaRows: (core, gsi, name, twoC, twoI) =>
     callOf(core, 'station_page_comma_rows', [gsi, name], [twoC, twoI]),
-  report: (core, gsi, path, name, twoC, twoI) =>
-    callOf(core, 'station_page_report', [gsi, path, name], [twoC, twoI]),
+  report: (core, gsi, path, name, twoC, twoI, language) =>
+    callOf(core, 'station_page_report', [gsi, path, name], [twoC, twoI, language]),
   station: (core, gsi, path, name, twoC, twoI, decimals) =>
     callOf(core, 'station_page_station', [gsi, path, name], [twoC, twoI, decimals]),
   compare: (core, gsi, table, name, twoC, twoI, unit, names, directions, within) =>

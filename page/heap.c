@@ -53,6 +53,10 @@ static u64 block_of(u64 size) {
     if (left == 0) return 0;
     left--;
 #endif
+#ifdef AT_LEAST
+    // For a test: no block is smaller.
+    if (size < AT_LEAST) size = AT_LEAST;
+#endif
     if (size >> (LARGEST_CLASS - 1)) return 0;
     u64 class = class_of(size), block = freed[class];
     if (block) {

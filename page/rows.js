@@ -237,12 +237,20 @@ export const greatestOf = (/** @type {{ rows: Residual[] }} */ { rows }) =>
   rows.reduce((a, b) => sizeOf(b.residual) > sizeOf(a.residual) ? b : a);
 
 /**
- * How accurate a station is: the degrees of freedom, and the standard deviation of one two-face
- * direction in mgon, which is empty where there are none.
+ * How accurate a station is, as the call wrote it: the degrees of freedom, the standard deviations of
+ * one two-face direction and of each adjusted direction in mgon, and the sum of the squares of all
+ * residuals in mgon². Where there are no degrees the others are empty, and the second is where not
+ * every set has every target.
+ * @typedef {{ degrees: number, deviation: string, ofAdjusted: string, squares: string }} Accuracy
+ */
+
+/**
+ * How accurate a station is.
+ * @returns {Accuracy}
  */
 export function accuracyIn(/** @type {string} */ text) {
-  const [{ degrees, deviation }] = rowsIn(text);
-  return { degrees: Number(degrees), deviation };
+  const [{ degrees, deviation, 'of adjusted': ofAdjusted, squares }] = rowsIn(text);
+  return { degrees: Number(degrees), deviation, ofAdjusted, squares };
 }
 
 /**

@@ -112,13 +112,15 @@ export function residualsTable(residuals, parent) {
 }
 
 /**
- * The standard deviation, as the call wrote it.
- * @param {{ degrees: number, deviation: string }} accuracy
+ * How accurate a station is, as the call wrote it.
+ * @param {import('./rows.js').Accuracy} accuracy
  * @param {Element} parent
  */
-export function accuracyNote({ degrees: n, deviation: size }, parent) {
-  const said = text(n > 0 ? 'deviation' : 'noFreedom', { n, size });
-  element('p', said, parent, { className: 'quiet' });
+export function accuracyNote({ degrees: n, deviation, ofAdjusted, squares }, parent) {
+  const said = [text(n > 0 ? 'deviation' : 'noFreedom', { n, size: deviation })];
+  if (ofAdjusted) said.push(text('deviationOfAdjusted', { size: ofAdjusted }));
+  if (n > 0) said.push(text('squares', { size: squares }));
+  element('p', said.join(' '), parent, { className: 'quiet' });
 }
 
 /**

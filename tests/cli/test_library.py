@@ -284,7 +284,7 @@ int main(int count, char **words) {
                             sizeof out, &length, more, sizeof more, &second);
         station_check_directions(gsi, n, "P7", 2, 2000, 2000, 6, out, sizeof out, &length);
         station_check_residuals(gsi, n, "P7", 2, 2000, 2000, out, sizeof out, &length);
-        station_check_report(gsi, n, "gsi", 3, "P7", 2, 2000, 2000, out, sizeof out, &length);
+        station_check_report(gsi, n, "gsi", 3, "P7", 2, 2000, 2000, 1, out, sizeof out, &length);
         station_check_means(gsi, n, "P7", 2, 2000, 2000, out, sizeof out, &length);
         station_check_list(gsi, n, 2000, 2000, out, sizeof out, &length);
         station_check_words(gsi, n, out, sizeof out, &length, more, sizeof more, &second);
@@ -679,11 +679,18 @@ class LibraryTest(ProgramTest):
         self.assertEqual(f"{hashlib.sha256(data).hexdigest()}  p7.gsi", self.module.digest(data, "p7.gsi"))
         self.assertEqual(f"\\{hashlib.sha256(b'').hexdigest()}  a\\\\b\\n", self.module.digest(b"", "a\\b\n"))
 
+    @unittest.skipUnless(PROGRAM.exists(), "the program is not built")
     def test_a_report_is_that_of_the_program(self) -> None:
         report = self.module.report(GSI.read_bytes(), "P7", "a file")
         self.assertIn("\nField file            a file\n", report)
         self.assertIn("\nLimit of residuals    10.000 mgon\n", report)
         self.assertIn(" mgon, of one two-face direction\n", report)
+        for language, said in [("de", "Messdatei"), ("fr", "Fichier de terrain")]:
+            _, printed, _ = answer_of(["report", f"--language={language}", GSI, "P7"])
+            report = self.module.report(GSI.read_bytes(), "P7", str(GSI), language=language)
+            self.assertEqual((printed.decode(), True), (report, f"\n{said} " in report))
+        with self.assertRaisesRegex(ValueError, "^language is 'it': state one of en, de, fr$"):
+            self.module.report(GSI.read_bytes(), "P7", "a file", language="it")
         of_control = self.module.report(GSI.read_bytes(), "P7", "a\x1bfile")
         self.assertIn("\nField file            \\a\\x1bfile\n", of_control)
         with self.assertRaisesRegex(self.module.Refused, "^refused: no station$"):
@@ -705,7 +712,7 @@ class LibraryTest(ProgramTest):
         self.assertEqual(self.module.directions(gsi, "P7", decimals=4), whole.directions)
         self.assertEqual(answer_of(["report", "--csv", GSI, "P7"])[1].decode(), whole.rows)
         self.assertEqual(answer_of(["report", GSI, "P7"])[1].decode(), whole.report)
-        self.assertRegex(whole.accuracy, r"^degrees,deviation\n\d+,\d+\.\d{3}\n$")
+        self.assertRegex(whole.accuracy, r"^degrees,deviation,of adjusted,squares\n\d+,\d+\.\d{3},,\d+\.\d{6}\n$")
         with self.assertRaisesRegex(self.module.Refused, "^refused: no station$"):
             self.module.station(gsi, "P8", path)
 

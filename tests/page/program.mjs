@@ -18,6 +18,8 @@ const DEFAULTS = {
 };
 /** The options by which a table has another unit than gon, and their numbers. */
 const UNITS = { '--degrees': 1, '--dmmss': 2 };
+/** The languages of a report: the place of each is its number. */
+const LANGUAGES = ['en', 'de', 'fr'];
 const RUNS = 5, PAGE_BYTES = 65536, MOST_PAGES = 65536;
 
 const [page, ...words] = process.argv.slice(2);
@@ -41,6 +43,8 @@ const options = { ...DEFAULTS }, operands = [];
 let columns = [0, 0];
 // Whether rows have semicolons and decimal commas.
 let hasCommas = false;
+// The language of a report, by its number.
+let language = 0;
 // What is stated to `mark`: texts, of which each stands on a line, and flags.
 const stated = { '--station': [], '--station-code': [], '--sets': [], '--targets': [] };
 const flags = { '--same-set-up': false, '--again': false, '--others': false };
@@ -50,6 +54,7 @@ while (words.length > 0) {
   else if (word in flags) flags[word] = true;
   else if (word === '--decimal-comma') hasCommas = true;
   else if (word in UNITS) options['--unit'] = Math.max(options['--unit'], UNITS[word]);
+  else if (word === '--language') language = LANGUAGES.indexOf(value ?? words.shift());
   else if (word === '--columns') columns = (value ?? words.shift()).split(',').map(Number);
   else if (word in options) options[word] = Number(value ?? words.shift());
   else operands.push(word);
@@ -88,7 +93,8 @@ const answers = {
     core, bytesOf(gsi), nameOf(name), ...faces, options['--decimals']),
   'comma-rows': (gsi, name) => calls.commaRows(core, bytesOf(gsi), nameOf(name), ...faces),
   residuals: (gsi, name) => calls.residuals(core, bytesOf(gsi), nameOf(name), ...faces),
-  report: (gsi, name) => calls.report(core, bytesOf(gsi), nameOf(gsi), nameOf(name), ...faces),
+  report: (gsi, name) =>
+    calls.report(core, bytesOf(gsi), nameOf(gsi), nameOf(name), ...faces, language),
   station: (gsi, name) => calls.station(
     core, bytesOf(gsi), nameOf(gsi), nameOf(name), ...faces, options['--decimals']),
   compare: (gsi, name, table) => calls.compare(

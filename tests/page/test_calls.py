@@ -36,7 +36,10 @@ PAGE = ROOT / "build" / "station_check.html"
 
 # The module with 64-bit memory, the one with 32-bit memory that is made of it, and the bytes that the
 # page has at most with that.
-MODULE, LOWERED, LARGEST_PAGE = build.ROOM / "page.wasm", build.ROOM / "page32.wasm", 400 * 1024
+MODULE, LOWERED = build.ROOM / "page.wasm", build.ROOM / "page32.wasm"
+
+# So many bytes may the page have.
+LARGEST_PAGE = 400_000
 
 COMMAND_LINE = Path(__file__).with_name("program.mjs")
 EXAMPLES = [ROOT / "examples" / f"station_p7{end}" for end in (".gsi", ".csv", "_directions.csv")]
@@ -179,7 +182,10 @@ def node():
 
 # What the program alone can be told: flags, and the beginnings of options with a text.
 OF_PROGRAM = "--csv", "--json", "--all", "--signature", "--sha256", "--pages"
-NAMED_BY_PROGRAM = "--table", "--note", "--date", "--language"
+NAMED_BY_PROGRAM = "--table", "--note", "--date"
+
+# A word of what a field file recorded of instrument and time, which a report of the program has.
+RECORDED = re.compile(rb"[ *]1[23789]\.\.\.\.")
 
 # The commands of a station, whose name a call is always told.
 OF_STATIONS = {"compare", "differences", "directions", "means", "report", "residuals"}
@@ -196,15 +202,18 @@ def is_nameless(case):
 def is_of_page(case):
     """Whether the files of a case can be handed in: they are there, and none is a folder. What the
     program notes beside an empty list is its own, and so are rows, digests, all stations at once, a
-    station that is left out, columns by their titles, reports with a table, with notes, in pages or in
-    a language, how changes of lines are stated and told, limits in mgon, and a limit of residuals but
-    of a sheet."""
+    station that is left out, columns by their titles, reports with a table, with notes, in pages or
+    with what the file recorded, how changes of lines are stated and told, limits in mgon, and a limit
+    of residuals but of a sheet."""
     paths = [case.folder / word for word in case.args if "." in word]
+    is_recorded = case.args[:1] == ["report"] and any(
+        path.is_file() and RECORDED.search(path.read_bytes()) for path in paths
+    )
     is_noted = case.args[:1] == ["list"] and case.expected[0] == 0 and case.expected[2]
     is_stated = any(word in OF_PROGRAM or word.startswith(NAMED_BY_PROGRAM) for word in case.args)
     is_held = case.args[:1] != ["check"] and any(word.startswith("--residual") for word in case.args)
     is_own = is_noted or is_stated or is_held or any(word.endswith("mgon") for word in case.args)
-    is_own = is_own or case.args[:1] == ["change"] or has_titles(case.args) or is_nameless(case)
+    is_own = is_own or case.args[:1] == ["change"] or has_titles(case.args) or is_nameless(case) or is_recorded
     return not is_own and case.expected[0] < 2 and all(path.is_file() for path in paths)
 
 
@@ -462,12 +471,14 @@ class PageCallsTest(TimedTest):
         """Of 32 bits: no call goes beyond what they address."""
         if not is_lowered():
             self.skipTest("the module has 64-bit memory")
-        self.assertLess(PAGE.stat().st_size, LARGEST_PAGE)
         words = ["check", *map(str, EXAMPLES[:2])]
         usual = answer_to([*self.command(), *words])
         for pages, expected in [(0, NO_MEMORY), (1, NO_MEMORY), (15, NO_MEMORY), (256, usual)]:
             with self.subTest(pages):
                 self.assertEqual(expected, answer_to([*self.command(), f"--left={pages}", *words]))
+
+    def test_the_page_is_small_enough_to_be_sent(self):
+        self.assertLess(PAGE.stat().st_size, LARGEST_PAGE)
 
     def test_a_limit_above_the_largest_has_a_status_of_its_own(self):
         gsi, sheet, table = map(str, EXAMPLES)
@@ -786,8 +797,9 @@ class PageCallsTest(TimedTest):
 
     def test_all_of_a_station_has_the_texts_that_are_handed_out_alone(self):
         """Of each station of a case; at a refusal it has the line of that."""
-        deviation = rb"\nSum of squares .*\nStandard deviation +(\S+) mgon, of one"
-        accuracy = re.compile(rb"\nDegrees of freedom +(\d+)(?:" + deviation + rb"|: )")
+        numbers = rb"\nSum of squares \[vv\] +(\S+) mgon\^2\nStandard deviation +(\S+) mgon, of one.*"
+        numbers += rb"\nStandard deviation +(?:(\S+) mgon, of each|left out)"
+        accuracy = re.compile(rb"\nDegrees of freedom +(\d+)(?:" + numbers + rb"|: )")
         asked = {(case.folder / case.args[-2], case.args[-1]) for case in cases_of_page() if case.args[:1] == ["report"]}
         found = set()
         for gsi, name in sorted(asked):
@@ -804,7 +816,9 @@ class PageCallsTest(TimedTest):
                 self.assertEqual(directions, parts["directions"])
                 self.assertEqual(residuals, residuals_in(parts["rows"]))
                 self.assertEqual(report, parts["report"])
-                self.assertEqual(b"degrees,deviation\n%s,%s\n" % accuracy.search(report).groups(b""), parts["accuracy"])
+                degrees, squares, *deviations = accuracy.search(report).groups(b"")
+                row = b",".join([degrees, *deviations, squares])
+                self.assertEqual(b"degrees,deviation,of adjusted,squares\n%s\n" % row, parts["accuracy"])
         self.assertEqual({0, 1}, found)
 
     def test_all_of_a_table_has_the_texts_that_are_handed_out_alone(self):
@@ -861,16 +875,29 @@ class PageCallsTest(TimedTest):
                     of_program = answer_of_residuals(*words[1:]) if is_residuals else answer_to([PROGRAM, *words])
                     self.assertEqual(of_program, answer_to([*self.command(), *words]))
 
+    def page_with_heap(self, name, *options):
+        """The page of this name around the module with the heap that is compiled with these options."""
+        kit, wasm, module = build.prove.kit_of(RT), build.ROOM / f"{name}.wasm", build.ROOM / f"{name}32.wasm"
+        room = build.ROOM / name
+        room.mkdir(exist_ok=True)
+        build.linked(kit, build.ROOM / "page.o", wasm, room, *options)
+        return self.other_page(f"{name}.html", build.lowered(wasm, module) if is_lowered() else wasm)
+
+    def test_a_request_above_what_32_bits_address_is_refused(self):
+        words = ["check", *map(str, EXAMPLES[:2])]
+        self.assertEqual(0, answer_to([*self.command(self.page_with_heap("large")), *words])[0])
+        for least in (2**32 - 2**16, 2**32 - 1, 2**32, 2**33 + 1, 2**40 - 1, 2**40, 2**63):
+            with self.subTest(least):
+                page = self.page_with_heap("large", f"-DAT_LEAST={least}ull")
+                self.assertEqual(NO_MEMORY, answer_to([*self.command(page), *words]))
+
     def test_a_refused_allocation_is_answered(self):
-        kit, wasm, module = build.prove.kit_of(RT), build.ROOM / "refused.wasm", build.ROOM / "refused32.wasm"
         commands = [["check", *EXAMPLES[:2]], ["residuals", EXAMPLE, "S1"], ["explanation", "TwoC"]]
         usual = [answer_to([*self.command(), *words]) for words in commands]
         # A digest takes no memory.
         digest, line = ["digest", str(JOB), "job"], f"{hashlib.sha256(JOB.read_bytes()).hexdigest()}  job\n"
         for count in range(REFUSED):
-            limit = f"-DREFUSED_AFTER={count}"
-            build.linked(kit, build.ROOM / "page.o", wasm, build.ROOM, limit)
-            page = self.other_page("refused.html", build.lowered(wasm, module) if is_lowered() else wasm)
+            page = self.page_with_heap("refused", f"-DREFUSED_AFTER={count}")
             self.assertEqual((0, line.encode(), b""), answer_to([*self.command(page), *digest]))
             for words, whole in zip(commands, usual):
                 with self.subTest(count, words=words):

@@ -1,6 +1,7 @@
 -- What each call answers, of the very bytes that it was given. `room` is how many bytes there is
 -- room for, `answered` the status, and `shown` what was handed out.
-use Rattle.std.specs.Prelude.{◌≡◌, ◌≢◌, ◌⊎◌, ◌<◌, ◌≤◌, ◌+◌, ◌*◌, ℕ, Bool, List, [], length, Option, Some}
+use Rattle.std.specs.Prelude.{◌≡◌, ◌≢◌, ◌⊎◌, ◌<◌, ◌≤◌, ◌+◌, ◌*◌, ℕ, Bool, false, List, [], length}
+use Rattle.std.specs.Prelude.{Option, Some, None}
 use Rattle.std.specs.Prelude.{Result, Ok, Err, IfErr, ⊤}
 use Rattle.std.specs.Borrow.{Bor}
 use Rattle.byte_digests.specs.DigestLines.{digest_line}
@@ -38,7 +39,8 @@ use Rattle.station_compare.specs.declared.agreement.Agreement.{Agreement}
 use Rattle.station_compare.specs.declared.fault.CompareFault.{CompareFault}
 use Rattle.station_differences.specs.declared.line_form.LineForm.TheVariants.{Rows}
 use Rattle.station_explain.specs.Table.{Explanation, IsTheTable}
-use Rattle.station_report.specs.NoteTexts.{unnoted}
+use Rattle.report_phrases.specs.declared.language.Language.{Language}
+use Rattle.station_report.specs.NoteTexts.{ReportHead}
 use Rattle.table_answers.specs.Answers.{TellsBeside}
 use Rattle.table_answers.specs.Comparisons.{SaysComparison, noted_verdict, verdict}
 use Rattle.table_answers.specs.Noting.{Noting}
@@ -165,9 +167,23 @@ IsCommaRowsOf two_c two_i gsi name =
 abbrev pub IsResidualsOf : ℕ → ℕ → List ℕ → List ℕ → ℕ → ℕ → List ℕ → Type 0
 IsResidualsOf two_c two_i gsi name = IsTextOf (λ limits. SaysResiduals) two_c two_i gsi name
 
--- It is its report, which names the field file by these bytes of a path, and notes nothing.
-abbrev pub IsReportOf : ℕ → ℕ → List ℕ → List ℕ → List ℕ → ℕ → ℕ → List ℕ → Type 0
-IsReportOf two_c two_i gsi path name = IsTextOf (SaysReport (unnoted path)) two_c two_i gsi name
+-- the head of a report in a language, which names the field file by these bytes of a path, and notes
+-- nothing
+abbrev pub head_in : Language → List ℕ → ReportHead
+head_in language path = record {
+  path = path;
+  notes = record {
+    language = language;
+    date = None;
+    lines = [];
+    signature = false;
+    pages = false;
+  };
+}
+
+-- It is its report, with this head.
+abbrev pub IsReportOf : ℕ → ℕ → List ℕ → ReportHead → List ℕ → ℕ → ℕ → List ℕ → Type 0
+IsReportOf two_c two_i gsi head name = IsTextOf (SaysReport head) two_c two_i gsi name
 
 -- It is all of it: its directions with so many decimals, the rows of its report, how accurate it
 -- is, and its report, which names the field file by these bytes of a path.
