@@ -36,15 +36,15 @@ import { LANGUAGES, spoken } from './texts.js';
  * was refused for it: then no residuals are told.
  * @typedef {{ isKept: boolean, residuals?: Answer, command?: string,
  *   greatest?: import('./rows.js').Residual }} Judged
- * What every card has: the file that it is of, the answers to results that were handed in, and
- * `waiting`, those that are not checked yet; `isStopped` says that the work was stopped before they
- * were. `readings` counts those of a file without sets, `unplaced` is the text that says why a file
- * has no place, `marked` the answer when codes were put into a copy, and `recognized` what it told of
- * the card's station, and at the first card of a copy of the stations without sets too; of a job
- * that needs a name what would be recognized by any; of a refused job with several stations what is
- * told of each.
- * @typedef {{ title: string, mood: Mood, file: Input, answers: Answer[], waiting: Input[],
- *   isStopped?: boolean, readings?: number, unplaced?: string, marked?: Answer,
+ * What every card has: the file that it is of, when that was checked, the answers to results that
+ * were handed in, and `waiting`, those that are not checked yet; `isStopped` says that the work was
+ * stopped before they were. `readings` counts those of a file without sets, `unplaced` is the text
+ * that says why a file has no place, `marked` the answer when codes were put into a copy, and
+ * `recognized` what it told of the card's station, and at the first card of a copy of the stations
+ * without sets too; of a job that needs a name what would be recognized by any; of a refused job with
+ * several stations what is told of each.
+ * @typedef {{ title: string, mood: Mood, file: Input, at: Date, answers: Answer[],
+ *   waiting: Input[], isStopped?: boolean, readings?: number, unplaced?: string, marked?: Answer,
  *   recognized?: import('./rows.js').Recognized[], judged?: Judged, results?: Results }} AnyCard
  * A card of a station; one whose results are at hand.
  * @typedef {AnyCard & { field: Input, station: Station }} StationCard
@@ -59,7 +59,7 @@ import { LANGUAGES, spoken } from './texts.js';
  * All that is answered of a station: the table of its directions, its residuals among the rows of
  * its report, that report, and where it is adjusted how accurate it is.
  * @typedef {{ directions: Answer, residuals: Answer, report: Answer,
- *   accuracy?: { degrees: number, deviation: string } }} Results
+ *   accuracy?: import('./rows.js').Accuracy }} Results
  */
 
 /**
@@ -123,13 +123,14 @@ export const filesOf = (/** @type {Card} */ { field, answers }) =>
 
 // ---------------------------------------------------------------- field files
 
+/** The number by which the calls know a language. */
+const languageNumber = (/** @type {string} */ code) => Object.keys(LANGUAGES).indexOf(code);
+
 /** Has at hand what a field file recorded of instrument and time, in the language of the page. */
 export async function record(/** @type {Input} */ field) {
   const lines = field.recorded ??= {}, language = spoken();
   if (lines[language]) return;
-  // (the place of each language is the number by which the calls know it)
-  const number = Object.keys(LANGUAGES).indexOf(language);
-  const { status, text } = await ask('instrument', field.bytes, number);
+  const { status, text } = await ask('instrument', field.bytes, languageNumber(language));
   lines[language] = status === ACCEPTED ? text.split('\n').filter(line => line !== '') : [];
 }
 
@@ -139,7 +140,7 @@ export async function record(/** @type {Input} */ field) {
  * @returns {FileCard}
  */
 const cardOfFile = file =>
-  ({ title: file.shown, mood: 'open', file, answers: [], waiting: [] });
+  ({ title: file.shown, mood: 'open', file, at: new Date(), answers: [], waiting: [] });
 
 /**
  * The cards of a field file: of its fault, of each of its stations, or that it has none.
@@ -268,7 +269,7 @@ async function answerOfMark(field, station = '') {
     ...of('sets', sets), ...of('targets', targets),
     ...flags.filter(([, stands]) => stands).map(([flag]) => `--${flag}`),
   ];
-  const command = `${commandOf('mark', [], {}, [field.name], stated)} > ${copy}`;
+  const command = commandOf('mark', [], {}, [field.name, copy], stated);
   const told = recognizedIn(rows);
   for (const one of told) if (one.fault) one.explanation = await explanationOf(one.fault);
   const about = { asked: 'mark', command, field, told };
@@ -538,6 +539,11 @@ export const WITH_COMMAS = {
 export const meansOf = (/** @type {Station} */ { field, listed }, /** @type {Limits} */ limits) =>
   ask('means', field.bytes, listed.name, limits.twoC, limits.twoI);
 
+/** The report of a station, in the language of the page. */
+export const reportOf = (/** @type {Station} */ { field, listed }, /** @type {Limits} */ limits) =>
+  ask('report', field.bytes, field.name, listed.name, limits.twoC, limits.twoI,
+    languageNumber(spoken()));
+
 /**
  * All that is answered of a station, of one reading of its file and one adjustment: asked for once.
  * @param {Station} station
@@ -571,6 +577,10 @@ async function answersOf({ field, listed: { name } }, limits) {
     accuracy: parts && accuracyIn(parts.accuracy),
   };
 }
+
+/** Whether no reading of a station is redundant, where it is adjusted: then all residuals are 0. */
+export const isWithoutFreedom = (/** @type {Station | undefined} */ station) =>
+  station?.whole?.accuracy?.degrees === 0;
 
 /** The results of a station: asked for when they are first shown. */
 export const resultsOf = (/** @type {StationCard} */ { station }, /** @type {Limits} */ limits) =>

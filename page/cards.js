@@ -1,7 +1,7 @@
 // A card of a station: the answer first, then the fault or the results.
 import {
   ACCEPTED, OUT_OF_RANGE, REFUSED, WITH_COMMAS, filesOf, isCountedOtherwise, isUncounted,
-  isWithoutName, mayLeaveOut, meansOf, moodOfAnswer,
+  isWithoutFreedom, isWithoutName, mayLeaveOut, meansOf, moodOfAnswer, reportOf,
 } from './answers.js';
 import {
   asHandedIn, changeText, changesOf, changesTogether, givenBlock, logOf, pointNamesIn,
@@ -34,10 +34,10 @@ import { hasComma, text } from './texts.js';
  * @typedef {import('./answers.js').UnmarkedCard} UnmarkedCard
  * @typedef {import('./answers.js').Answer} Answer
  * What a card asks of the page: the limits, what is saved of it is called, to load its results, what
- * its protocol says of what else was handed in, to print it, to name the station of a field file, or the code whose blocks
- * begin its stations, to state the numbers of sets and targets of stations, what one is whose name
- * comes again, that stations that aren't recognized stay outside, by which columns a table is to be
- * read, or to have lines changed in a copy, which answers why that can't be.
+ * its protocol says of what else was handed in, to print it, to name the station of a field file, or
+ * the code whose blocks begin its stations, to state the numbers of sets and targets of stations,
+ * what one is whose name comes again, that stations that aren't recognized stay outside, by which
+ * columns a table is to be read, or to have lines changed in a copy, which answers why that can't be.
  * @typedef {{ limits: import('./limits.js').Limits, called: (card: StationCard) => string,
  *   load: (card: StationCard) => Promise<void>,
  *   beside: (card: Card) => string[], print: (card: Card) => void,
@@ -184,33 +184,53 @@ function offerChange(answer, desk, parent) {
   const form = element('form', '', parent, { className: 'buttons change' });
   const called = text(isThere ? 'changeLine' : 'changeLines', { block, name: given.shown });
   form.setAttribute('aria-label', called);
-  const input = (/** @type {string} */ label, /** @type {object} */ about) => {
+  const changing = field.changing ??= new Map(), typing = changing.get(block) ?? {};
+  changing.set(block, typing);
+  /** @type {(label: 'reason' | 'newName', maxLength: number) => HTMLInputElement} */
+  const input = (label, maxLength) => {
     const part = element('label', `${text(label)} `, form);
-    return /** @type {HTMLInputElement} */ (element('input', '', part, about));
+    const about = { type: 'text', maxLength, value: typing[label] ?? '' };
+    const made = /** @type {HTMLInputElement} */ (element('input', '', part, about));
+    made.oninput = () => {
+      typing[label] = made.value;
+      say(() => '');
+    };
+    return made;
   };
-  const why = input('reason', { type: 'text', maxLength: 200 });
+  const why = input('reason', MOST_OF_REASON);
   /** @type {HTMLInputElement | undefined} */
   let name;
   if (isThere) {
     button(text('leaveLineOut'), form, () => hand([block]));
-    const typed = name = input('newName', { type: 'text', maxLength: MOST_OF_NAME });
-    propose(typed, `${given.shown} ${block}`, () => pointNamesIn(given.bytes));
+    const typed = name = input('newName', MOST_OF_NAME), { first = 0 } = named;
+    propose(typed, `${given.shown} ${block}`, () => pointNamesIn(field.bytes, first));
     button(text('renamePoint'), form, () => hand([block], { name: typed.value.trim() }));
   }
   if (proposal)
     showProposal(proposal, field, (blocks, proposed) => hand(blocks, { proposed }), form);
   const said = element('p', '', form, { className: 'bad' });
   said.setAttribute('role', 'status');
+  const say = (/** @type {() => string} */ words) => {
+    typing.said = words;
+    said.textContent = words();
+  };
+  said.textContent = typing.said?.() ?? '';
   form.onsubmit = event => event.preventDefault();
   /** @type {(blocks: number[], more?: Pick<Change, 'name' | 'proposed'>) => Promise<void>} */
   async function hand(blocks, more = {}) {
     const reason = why.value.trim();
     const missing = reason === '' ? why : more.name === '' ? name : undefined;
-    said.textContent = missing ? text(missing === why ? 'needReason' : 'needNewName') : '';
+    say(() => missing ? text(missing === why ? 'needReason' : 'needNewName') : '');
     if (missing) return missing.focus();
     const others = changesOf(field).filter(one => !blocks.includes(one.block));
     const changed = blocks.map(one => ({ block: one, ...more, why: reason }));
-    said.textContent = await desk.change(field, [...others, ...changed]);
+    // (once it is made nothing more is typed of it)
+    changing.delete(block);
+    const refused = await desk.change(field, [...others, ...changed]);
+    if (!refused) return;
+    changing.set(block, typing);
+    // (it is in the language of now)
+    said.textContent = refused;
   }
 }
 
@@ -230,8 +250,8 @@ function showProposal({ what, lines }, field, leaveOut, parent) {
   button(text(label), part, () => leaveOut(blocks, what));
 }
 
-/** So many letters has a name at most. */
-const MOST_OF_NAME = 16;
+/** So many letters has a name at most, and what is said of a change. */
+const MOST_OF_NAME = 16, MOST_OF_REASON = 200;
 
 /**
  * Proposes names for a field, which are looked for when it is turned to; `of` tells it from others.
@@ -393,7 +413,7 @@ function showButtons(card, desk, parent) {
     const content = rows('directions', `${results.directions.line}\n`);
     offer('saveDirections', `${called}_directions.csv`, content);
   }
-  if (results.residuals.status === ACCEPTED) {
+  if (results.residuals.status === ACCEPTED && !isWithoutFreedom(station)) {
     const { line } = results.residuals, title = text('residualsOf', { name });
     const origin = [field.name, text('digest', { digest: field.digest })];
     offer('saveResiduals', `${called}_residuals.csv`, rows('rows', `${line}\n`));
@@ -402,7 +422,7 @@ function showButtons(card, desk, parent) {
     offer('savePicture', `${called}_residuals.svg`, picture, 'image/svg+xml');
   }
   if (results.report.status === ACCEPTED) {
-    const content = () => `${results.report.line}\n`;
+    const content = async () => (await reportOf(station, desk.limits)).text;
     const more = () => ofReport(card, desk.limits);
     offer('saveReport', `${called}_report.txt`, content, 'text/plain', more);
   }
@@ -413,7 +433,8 @@ function showButtons(card, desk, parent) {
   offer('saveFaces', `${called}_faces.csv`, () => facesFile(station));
   if (isComplete(listed)) offer('saveMeans', `${called}.csv`, async () => {
     const { status, text: sheet } = await meansOf(station, desk.limits);
-    if (status !== ACCEPTED) said.textContent = sheet.trimEnd();
+    said.textContent = '';
+    if (status !== ACCEPTED) ofProgram('samp', sheet.trimEnd(), said);
     return status === ACCEPTED ? sheet : null;
   });
 }
@@ -554,8 +575,9 @@ function askNumbers(field, station, desk, action, parent, className = 'button', 
     return input;
   });
   const each = element('label', '', form, { hidden: asked.length === 1 });
-  const box = element('input', '', each, { type: 'checkbox' });
+  const box = element('input', '', each, { type: 'checkbox', checked: typing.ofEach === 'on' });
   const ofEach = /** @type {HTMLInputElement} */ (box);
+  ofEach.onchange = () => { typing.ofEach = ofEach.checked ? 'on' : ''; };
   each.append(` ${text('ofEach')}`);
   element('button', text(action), form, { type: 'submit', className });
   form.onsubmit = event => {

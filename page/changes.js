@@ -67,7 +67,8 @@ export async function changeLines(field, changes) {
   const copy = { name: copyOf(name), path: copyOf(path), bytes: reply.bytes, digest: '', given };
   const isChanged = inOrder.length > 0;
   // (of other bytes it is asked again what they recorded)
-  Object.assign(field, { changes: inOrder, recorded: undefined }, isChanged ? copy : { ...given, given: undefined });
+  const now = isChanged ? copy : { ...given, given: undefined };
+  Object.assign(field, { changes: inOrder, recorded: undefined }, now);
   return '';
 }
 
@@ -138,18 +139,26 @@ export function logOf(/** @type {Input} */ field) {
   return [...files, ...lines].join('');
 }
 
-/** So many names are proposed at most, of so many bytes at the beginning. */
-const MOST_NAMES = 200, MOST_LOOKED_AT = 1_000_000;
+/** So many names are proposed at most, of so many bytes before a place and after it. */
+const MOST_NAMES = 200, MOST_BESIDE = 500_000;
 
 /** A line that begins with a point, in GSI-8 or GSI-16. */
 const POINT = /^(?:11....[+-](.{8})|\*11....[+-](.{16}))/gm;
 
-/** The names of points in a field file, to be chosen from: nothing else is taken from them. */
-export function pointNamesIn(/** @type {Uint8Array} */ bytes) {
-  const all = new TextDecoder('latin1').decode(bytes.subarray(0, MOST_LOOKED_AT));
-  /** @type {Set<string>} */
-  const names = new Set();
-  for (const [, narrow, wide] of all.matchAll(POINT))
-    names.add((narrow ?? wide).replace(/^0+(?=.)/, ''));
-  return [...names].slice(0, MOST_NAMES);
+/**
+ * The names of points in a field file, to be chosen from, those first that stand nearest to the line
+ * at a place, but for its own: nothing else is taken from them.
+ */
+export function pointNamesIn(/** @type {Uint8Array} */ bytes, /** @type {number} */ place) {
+  const from = Math.max(0, place - MOST_BESIDE);
+  const all = new TextDecoder('latin1').decode(bytes.subarray(from, place + MOST_BESIDE));
+  /** @type {Map<string, number>} */
+  const far = new Map();
+  for (const { 1: narrow, 2: wide, index = 0 } of all.matchAll(POINT)) {
+    const name = (narrow ?? wide).replace(/^0+(?=.)/, ''), apart = Math.abs(from + index - place);
+    far.set(name, Math.min(apart, far.get(name) ?? apart));
+  }
+  const others = [...far].filter(([, apart]) => apart > 0);
+  const nearest = others.sort(([, one], [, other]) => one - other);
+  return nearest.slice(0, MOST_NAMES).map(([name]) => name);
 }

@@ -17,7 +17,7 @@ import { each } from './rows.js';
  * one whose blocks begin stations, `again` what a name that comes again is; `others` says whether
  * stations that aren't recognized stay outside.
  * `changes` are those of its lines, where a copy with these stands in its place, and `given` is it
- * then as it was handed in.
+ * then as it was handed in; `changing` has by a line's number what is being typed of its change.
  * `saved` says of the stations of a field file by their names what was saved of them last, and
  * `unfolded` has those whose readings the user unfolded. `recorded` has by the language the lines of
  * what it recorded of instrument and time, and is there with the digest once the file was judged.
@@ -29,7 +29,11 @@ import { each } from './rows.js';
  *   numbers?: Map<string, Numbers>, typing?: Map<string, Record<string, string>>, code?: string,
  *   typedCode?: string, again?: Again, others?: boolean,
  *   saved?: Map<string, () => string>, unfolded?: Set<string>, recorded?: Record<string, string[]>,
- *   rows?: string[][], changes?: import('./changes.js').Change[], given?: Input }} Input
+ *   rows?: string[][], changes?: import('./changes.js').Change[],
+ *   changing?: Map<number, Changing>, given?: Input }} Input
+ * What is being typed of a change of a line: the reason and the new name of its point, and what was
+ * said of that last.
+ * @typedef {{ reason?: string, newName?: string, said?: () => string }} Changing
  * How many sets were read to the end at a station, and how many targets they have: each 0 where it
  * is not stated.
  * @typedef {{ sets: number, targets: number }} Numbers

@@ -1,6 +1,7 @@
 // The answer in words and mgon, of each kind.
 import {
-  ACCEPTED, OUT_OF_RANGE, TOO_LITTLE_ROOM, isCountedOtherwise, isTwice, isUncounted, isWithoutName,
+  ACCEPTED, OUT_OF_RANGE, TOO_LITTLE_ROOM, isCountedOtherwise, isTwice, isUncounted,
+  isWithoutFreedom, isWithoutName,
 } from './answers.js';
 import { toldOf } from './faults.js';
 import { isUsed, originalOf, stationOfSheet } from './files.js';
@@ -29,13 +30,20 @@ const howFarIn = (/** @type {import('./rows.js').Verdict} */ { targets, apart, l
 function acceptedHeadline(/** @type {Answer} */ { greatest }) {
   if (!greatest) return text('acceptedBare');
   const { set, target, residual } = greatest;
-  if (sizeOf(residual) === 0) return text('acceptedZero');
+  if (sizeOf(residual) === 0) return text('acceptedZero', { size: residual.replace('-', '') });
   return text('accepted', { size: residual.replace('-', ''), set, target });
 }
 
-/** That one set alone shows nothing, where a station has no other. */
-const ofOneSet = (/** @type {Answer} */ { station }) =>
-  station?.listed.sets === 1 ? [text('oneSet')] : [];
+/**
+ * That residuals show nothing, where a station has one set, or no reading is redundant: of one that
+ * is held together.
+ */
+function ofNoFreedom(/** @type {import('./files.js').Station | undefined} */ station) {
+  if (!station) return [];
+  const { sets, targets, directions } = station.listed;
+  if (sets === 1) return [text('oneSet')];
+  return directions + 1 === sets + targets ? [text('noFreedom')] : [];
+}
 
 /** The answer in words and mgon. */
 export function headlineOf(/** @type {Answer} */ answer) {
@@ -44,7 +52,7 @@ export function headlineOf(/** @type {Answer} */ answer) {
   if (status === TOO_LITTLE_ROOM) return text('noRoom');
   if (status === ACCEPTED) {
     const accepted = verdict ? text('agrees', howFarIn(verdict)) : acceptedHeadline(answer);
-    return [accepted, ...ofOneSet(answer)].join(' ');
+    return [accepted, ...ofNoFreedom(answer.station)].join(' ');
   }
   return verdict && isApart(answer) ? text('refusedApart', howFarIn(verdict)) : text('refused');
 }
@@ -133,12 +141,14 @@ function headlineOfMark(/** @type {Answer} */ marked) {
  * What came of the limit of residuals, in words: nothing where an answer of the card says it, or
  * nothing was held to it yet.
  */
-export function judgedText(/** @type {Card} */ { judged }, /** @type {Limits} */ limits) {
+export function judgedText(/** @type {Card} */ { judged, station }, /** @type {Limits} */ limits) {
   const { isKept, residuals, greatest } = judged ?? {};
   if (!residuals) return '';
   if (!greatest) return text('notAdjusted', { why: meaningOf(residuals) });
   const { set, target, residual } = greatest, limit = mgonOf(limits.residual, HALF);
   const about = { size: residual.replace('-', ''), set, target, limit };
+  // (where no reading is redundant all residuals are 0, and no limit says anything)
+  if (isKept && isWithoutFreedom(station)) return ofNoFreedom(station).join(' ');
   return text(isKept ? 'residualKept' : 'residualAbove', about);
 }
 

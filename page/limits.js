@@ -27,6 +27,9 @@ export const LIMITS = {
   decimals: { id: 'decimals', label: 'limitDecimals', per: 1, usual: 6, least: 1, most: 8 },
 };
 
+/** So far apart a table may be where no limit is stated, in units, however finely it is rounded. */
+const LEAST_APART = 10;
+
 /** A number of mgon with three decimals is so many of its last one. */
 const THOUSAND = 1000;
 
@@ -80,9 +83,10 @@ export const isWithin = (/** @type {string} */ residual, /** @type {Limits} */ l
 export function limitsLine(limits, { residual, within }) {
   const mgon = (/** @type {string} */ name) => mgonOf(limits[name] ?? 0, LIMITS[name].per);
   const numbers = Object.fromEntries(NAMES.map(name => [name, mgon(name)]));
+  const least = mgonOf(LEAST_APART, APART);
   const ofTables = limits.within === null ? 'inForceByDecimals' : 'inForceWithin';
   const names = [residual ? 'inForce' : 'inForceFaces', ...within ? [ofTables] : []];
-  return names.map(name => text(name, numbers)).join(', ');
+  return names.map(name => text(name, { ...numbers, least })).join(', ');
 }
 
 /** A limit as the program takes it: in mgon, where it is one. */

@@ -1,5 +1,5 @@
 // The table above several cards, and on the page before their protocols: each with what came of it.
-import { ACCEPTED } from './answers.js';
+import { ACCEPTED, isWithoutFreedom } from './answers.js';
 import { rowOf, tableOf } from './elements.js';
 import { originalOf } from './files.js';
 import { greatestOf, residualsIn } from './rows.js';
@@ -13,10 +13,13 @@ export const MOODS = { good: 'moodGood', bad: 'moodBad', read: 'moodRead', open:
 /** What stands where a number isn't known, or there is none. */
 const NONE = '\u2013';
 
-/** The greatest residual of a station and its standard deviation, as far as they are at hand. */
+/**
+ * The greatest residual of a station and its standard deviation, as far as they are at hand: where
+ * no reading is redundant neither says anything.
+ */
 function accuracyOf(/** @type {Card} */ { station }) {
   const { residuals, accuracy } = station?.whole ?? {};
-  const greatest = residuals?.status === ACCEPTED
+  const greatest = residuals?.status === ACCEPTED && !isWithoutFreedom(station)
     ? numeral(greatestOf(residualsIn(residuals.line)).residual.replace('-', '')) : NONE;
   return [greatest, numeral(accuracy?.deviation ?? '') || NONE];
 }

@@ -376,7 +376,8 @@ async function checkAll() {
   tellApart(inputs);
   if (isAsked()) stop();
   const turn = now.turn + 1;
-  go({ turn, phase: { is: isWrong ? 'wrong' : 'checking' }, loading: [], far: undefined });
+  const phase = /** @type {Phase} */ ({ is: isWrong ? 'wrong' : 'checking' });
+  go({ turn, phase, loading: [], far: undefined, only: undefined });
   if (isWrong) return;
   await worked(async () => {
     await worded;
@@ -411,6 +412,12 @@ function loaded(/** @type {Card[]} */ cards) {
   }, () => ({ loading: now.loading.filter(card => !left.includes(card)) }));
 }
 
+/** Prints the protocol of a card, or those of all: a browser may begin after this was called. */
+function printOnly(/** @type {Card | undefined} */ only) {
+  now = { ...now, only };
+  window.print();
+}
+
 /** What the cards ask of the page. */
 const desk = {
   get limits() { return now.limits; },
@@ -424,9 +431,7 @@ const desk = {
   },
   beside(/** @type {Card} */ card) { return besideOf(card, now.inputs, now.cards, now.limits); },
   print(/** @type {Card} */ card) {
-    now = { ...now, only: card };
-    window.print();
-    now = { ...now, only: undefined };
+    printOnly(card);
   },
   async name(/** @type {Input} */ field, /** @type {string} */ station) {
     field.station = station;
@@ -475,12 +480,16 @@ onbeforeprint = () => {
   // (by its title the file is called that a browser prints to)
   if (inputs.length > 0)
     document.title = alone ? nameOfProtocol(alone) : text('contents', { n: inputs.length });
+  document.documentElement.classList.toggle('printed', inputs.length > 0);
   $('protocol').textContent = '';
   if (only) showProtocol(only, limits, $('protocol'), '', desk.beside(only));
   else if (inputs.length > 0)
     showProtocols(inputs, cards, limits, $('verdict').textContent ?? '', $('protocol'));
 };
-onafterprint = () => { document.title = unprinted; };
+onafterprint = () => {
+  document.title = unprinted;
+  now = { ...now, only: undefined };
+};
 
 // ---------------------------------------------------------------- files
 
@@ -557,7 +566,7 @@ async function readAgain() {
   for (const input of now.inputs.filter(one => one.handle)) {
     const { path, handle } = input, { bytes } = asHandedIn(input), changes = changesOf(input);
     const again = await inputOf(await givenOf(handle, input.given?.path ?? path));
-    const gone = { taken: undefined, given: undefined, changes: undefined };
+    const gone = { taken: undefined, given: undefined, changes: undefined, changing: undefined };
     Object.assign(input, gone, { recorded: undefined, rows: undefined }, again);
     const still = stillOf(changes, bytes, again.bytes);
     // (where that is stopped the file is checked as it is)
@@ -572,9 +581,11 @@ async function readAgain() {
 let over = 0;
 const showOver = () => document.body.classList.toggle('over', over > 0);
 
+/** Whether files are dragged: a text may be dropped into a field. */
+const hasFiles = (/** @type {DragEvent} */ { dataTransfer }) => dataTransfer?.types.includes('Files');
+
 document.ondragenter = event => {
-  // (a text that is dragged is no file)
-  if (!event.dataTransfer?.types.includes('Files')) return;
+  if (!hasFiles(event)) return;
   event.preventDefault();
   over++;
   showOver();
@@ -583,9 +594,14 @@ document.ondragleave = () => {
   over = Math.max(0, over - 1);
   showOver();
 };
-document.ondragover = event => event.preventDefault();
+/** Keeps what is dropped from being opened, but for a text that goes into a field. */
+function keepHere(/** @type {DragEvent} */ event) {
+  if (hasFiles(event) || !(event.target instanceof HTMLInputElement)) event.preventDefault();
+}
+document.ondragover = keepHere;
 document.ondrop = async event => {
-  event.preventDefault();
+  keepHere(event);
+  if (!hasFiles(event)) return;
   over = 0;
   showOver();
   if (event.dataTransfer) add(await dropped(event.dataTransfer));
@@ -606,7 +622,7 @@ $('remove-all').onclick = () => {
 };
 $('stop').onclick = () => stop();
 $('again').onclick = () => checkAll();
-$('print-all').onclick = async () => { if (await loaded(now.cards)) window.print(); };
+$('print-all').onclick = async () => { if (await loaded(now.cards)) printOnly(undefined); };
 $('save-all').onclick = async () => {
   if (!await loaded(now.cards)) return;
   const { inputs, cards, limits } = now;

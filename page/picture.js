@@ -161,7 +161,7 @@ function endOf(/** @type {number} */ greatest) {
 /** The least round step of which at most so many lead to the end, or the end where none does. */
 function stepTo(/** @type {number} */ end, /** @type {number} */ most) {
   for (let steps = most; steps > 1; steps--)
-    if (end % steps === 0 && /^[125]0*$/.test(String(end / steps))) return end / steps;
+    if (end % steps === 0 && /^[1-5]0*$/.test(String(end / steps))) return end / steps;
   return end;
 }
 

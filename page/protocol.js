@@ -69,10 +69,10 @@ function showSigns(/** @type {Element} */ parent) {
 }
 
 /** The row that says when the files were checked. */
-function showDate(/** @type {Element} */ parent) {
+function showDate(/** @type {Card | undefined} */ card, /** @type {Element} */ parent) {
   /** @type {Intl.DateTimeFormatOptions} */
-  const now = { dateStyle: 'long', timeStyle: 'short' };
-  row('date', parent).textContent = new Date().toLocaleString(DATES[spoken()], now);
+  const how = { dateStyle: 'long', timeStyle: 'short' };
+  row('date', parent).textContent = (card?.at ?? new Date()).toLocaleString(DATES[spoken()], how);
 }
 
 /**
@@ -148,6 +148,9 @@ function inStyle(/** @type {string} */ said) {
   return `"${signs.map(digits => `\\${digits}`).join('')}"`;
 }
 
+/** Whether the browser writes nothing at the foot of a page by a style: then a line stands there. */
+const HAS_NO_FEET = !('CSSMarginRule' in window);
+
 /**
  * Has each page of a protocol say what it is of, at its foot. Browsers that write nothing there
  * have a line that stands on all pages that are printed: so it is that of what comes first.
@@ -156,7 +159,8 @@ function inStyle(/** @type {string} */ said) {
  * @param {string} page its name, where others are printed too
  */
 function nameItsPages(part, said, page) {
-  if (!('CSSMarginRule' in window)) {
+  if (HAS_NO_FEET) {
+    part.classList.add('footed');
     if (page !== '') return;
     element('style', '@page { margin-bottom: 6mm }', part);
     element('p', said, part, { className: 'each' });
@@ -206,7 +210,7 @@ export function showProtocol(card, limits, parent, page = '', beside = []) {
   const files = row('files', facts);
   for (const file of allFilesOf(card)) showFile(file, files);
   if (card.field) showRecorded(card.field, facts);
-  showDate(facts);
+  showDate(card, facts);
   if (station) row('observed', facts).textContent = text('counts', countsOf(station.listed));
   if (card.field) showChanged(card.field, facts);
   if (station && card.marked) showMarks(card.marked, card, row('marks', facts));
@@ -246,7 +250,7 @@ export function showProtocols(inputs, cards, limits, verdict, parent) {
   element('h1', title, part);
   const facts = element('dl', '', part, { className: 'facts' });
   showNotes(facts);
-  showDate(facts);
+  showDate(cards[0], facts);
   row('answer', facts).textContent = verdict;
   const link = (/** @type {Card} */ card, /** @type {Element} */ head) =>
     element('a', card.title, head, { href: `#${pageOf(cards.indexOf(card))}` });
@@ -279,6 +283,7 @@ function fileOf(title, fill) {
   whole.documentElement.lang = spoken();
   element('meta', '', whole.head).setAttribute('charset', 'utf-8');
   element('style', document.querySelector('style')?.textContent ?? '', whole.head);
+  whole.documentElement.className = 'printed';
   whole.body.className = 'saved';
   fill(whole.body);
   return `<!doctype html>\n${whole.documentElement.outerHTML}\n`;

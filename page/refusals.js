@@ -19,6 +19,7 @@ export function showPlace({ where, lines, first, end }, parent) {
   element('p', where, parent, { className: 'where' });
   if (lines.length === 0) return;
   const around = element('pre', '', parent, { className: 'lines' });
+  around.setAttribute('role', 'group');
   around.setAttribute('aria-label', where);
   for (const { number, text: line, isMeant } of lines) {
     const row = element('span', '', around, { className: isMeant ? 'line meant' : 'line' });

@@ -1,5 +1,5 @@
 // The results of a station, on its card and in its protocol.
-import { ACCEPTED } from './answers.js';
+import { ACCEPTED, isWithoutFreedom } from './answers.js';
 import { element, ofProgram } from './elements.js';
 import { decimalsIn, originalOf } from './files.js';
 import { hasZeniths } from './notes.js';
@@ -77,7 +77,7 @@ function sectionsOf(card, isOnPaper) {
     title: text('differences', { name: other.shown }),
     fill(part) {
       differencesTable(differencesIn(differences), decimalsIn(other, columns), part);
-      element('p', text('differencesNote'), part, { className: 'quiet note' });
+      element('p', text('differencesNote', { size: '0.5' }), part, { className: 'quiet note' });
     },
   }] : []);
   sections.push({
@@ -89,12 +89,12 @@ function sectionsOf(card, isOnPaper) {
   });
   if (residuals.status === ACCEPTED) {
     const read = residualsIn(residuals.line);
-    const deviation = accuracy?.deviation ?? '';
+    const deviation = accuracy?.deviation ?? '', hasFreedom = !isWithoutFreedom(station);
     /** @type {Section} */
     const table = {
       title: text('residuals'),
       fill(part) {
-        residualsTable(read, part);
+        if (hasFreedom) residualsTable(read, part);
         if (accuracy) accuracyNote(accuracy, part);
       },
     };
@@ -105,7 +105,9 @@ function sectionsOf(card, isOnPaper) {
     };
     const isFew = read.sets.length <= FEW_SETS, isBeside = isFew && sections.length === 2;
     if (isBeside) picture.className = 'across stacked';
-    sections.push(...isFew ? [table, picture] : [picture, table]);
+    // (residuals that are all 0 for want of redundancy are no picture)
+    const pictures = hasFreedom ? [picture] : [];
+    sections.push(...isFew ? [table, ...pictures] : [...pictures, table]);
   }
   return [...sections, ...sectionsOfReadings(card, isOnPaper)];
 }

@@ -55,6 +55,9 @@ NOTE = re.compile(r"/\*.*?\*/\n?", re.DOTALL)
 PROPERTY = re.compile(r"^([-\w]+:) ", re.MULTILINE)
 INDENT = re.compile(r"^\s+", re.MULTILINE)
 
+# A colour of a style that is one where it is light and another where it is dark.
+COLOUR = re.compile(r"^(--[-\w]+): light-dark\((#\w+), #\w+\);", re.MULTILINE)
+
 # What a module declares for all of itself: a name, and constants that stand after another on its
 # line.
 DECLARED = re.compile(r"^(?:export )?(?:async )?(?:const|let|class|function) (.*)", re.MULTILINE)
@@ -104,9 +107,11 @@ def dense(text: str) -> str:
 
 
 def styled(name: str) -> str:
-    """The style of this name."""
+    """The style of this name, with the light colours where a browser knows no others."""
     style = dense("\n".join(NOTE.sub("", (HERE / one).read_text()) for one in STYLES[name]))
-    return PROPERTY.sub(r"\1", style)
+    light = "; ".join(f"{colour}:{one}" for colour, one in COLOUR.findall(style))
+    either = "(color: light-dark(#000, #000))"
+    return PROPERTY.sub(r"\1", f"{style}@supports not {either} {{ :root {{ color-scheme:light; {light} }} }}\n")
 
 
 def filled(template: str, values: dict[str, str]) -> str:

@@ -284,6 +284,17 @@ class PageInBrowserTest(TimedTest):
         self.assertEqual("refused: block 5: FaceTwice", page.text(".answer samp"))
         page.press("Leave this line out")
         self.assertIn("reason", page.text("form.change [role=status]"))
+        # What was said, and what is typed, stays where the card is drawn anew.
+        page.js("languages.value = 'de'; languages.onchange()")
+        page.settle()
+        self.assertIn("Grund", page.text("form.change [role=status]"))
+        typing = "[...document.querySelectorAll('form.change input')].map(one => one.value)"
+        for nth, value in enumerate(("read twice", "B2")):
+            page.js(f"{{ const one = document.querySelectorAll('form.change input')[{nth}]; one.value = {json.dumps(value)}; one.oninput() }}")
+        self.assertEqual("", page.text("form.change [role=status]"))
+        page.js("languages.value = 'en'; languages.onchange()")
+        page.fill("within", "0.5")
+        self.assertEqual(["read twice", "B2"], page.js(typing))
         self.changed(page, "Leave this line out", "read twice, book p. 3")
         said = "block 5 left out: read twice, book p. 3"
         self.assertEqual([f"{said} Take back"], page.texts(".changes li"))
@@ -302,6 +313,7 @@ class PageInBrowserTest(TimedTest):
             page.press("Take back")
         self.assertEqual("refused: block 5: FaceTwice", page.text(".answer samp"))
         self.assertEqual(["double.gsi"], page.texts("#inputs .name"))
+        self.assertEqual(["", ""], page.js(typing))
         self.assertEqual([], page.complaints())
 
     def test_a_point_is_renamed_in_a_copy_and_a_name_that_cannot_be_is_refused(self):
@@ -313,6 +325,10 @@ class PageInBrowserTest(TimedTest):
             page.js(f"document.querySelectorAll('form.change input')[1].value = {json.dumps(name)}")
             page.press("Rename")
             page.wait(f"document.querySelector('form.change [role=status]').textContent.includes({json.dumps(said)})")
+        # The names of the file are proposed, the nearest first.
+        page.js("document.querySelectorAll('form.change input')[1].onfocus()")
+        proposed = page.js("[...document.querySelectorAll('form.change option')].map(one => one.value)")
+        self.assertEqual(["A", "B"], proposed)
         self.changed(page, "Rename", "misspelled", "B")
         self.assertEqual(["block 4, point renamed to B: misspelled Take back"], page.texts(".changes li"))
         self.assertEqual(whole, page.saved("Save the changed copy", "umlaut_changed.gsi"))
@@ -402,7 +418,7 @@ class PageInBrowserTest(TimedTest):
         self.changed(page, "Leave this line out", "too long")
         log = page.saved("Save the log", "long_changed.gsi.log").decode()
         shown = long[:1024].decode()
-        self.assertIn(f"\n< {shown} .. (cut here: the line has {len(long)} bytes)\n", log)
+        self.assertIn(f"\n< {shown} \u2026 (cut here: the line has {len(long)} bytes)\n", log)
 
     def test_a_changed_line_that_is_another_on_disk_is_no_longer_changed(self):
         """A line was put in above it."""
@@ -515,7 +531,7 @@ class PageInBrowserTest(TimedTest):
         """Whether every set has every target or not."""
         page = self.page(P7_FIELD)
         self.assertEqual(["read", "Station P7"], self.cards(page)[0][:2])
-        self.assertIn("No results of your program were given yet", page.text(".card"))
+        self.assertIn("Not compared: add your program\u2019s table of directions", page.text(".card"))
         self.assertEqual(["+0.320"], page.texts(".bars td.greatest"))
         alone = page.texts(".bars td")
         page.give(P7_SHEET)
@@ -530,10 +546,16 @@ class PageInBrowserTest(TimedTest):
             (Fraction(targets[row[2]] - sets[row[1]], int(rows[0][3])) - value) / 200 for row, value in zip(seen, turned)
         ]
         degrees = len(seen) - len(targets) - len(sets) + 1
-        deviation = math.sqrt(sum(one**2 for one in residuals) / degrees)
+        squares = sum(one**2 for one in residuals)
+        deviation = math.sqrt(squares / degrees)
         page = self.page(P7_FIELD)
         said = f"Standard deviation of one two-face direction: {deviation:.3f} mgon, {degrees} degrees of freedom."
+        said += f" Sum of squares [vv]: {float(squares):.6f} mgon\xb2."
         self.assertIn(said, page.texts(".results .quiet"))
+        # Where each set has each target, that of each adjusted direction stands there too.
+        page.give(FIELD)
+        adjusted = [one for one in page.texts(".results .quiet") if "of each adjusted direction" in one]
+        self.assertEqual(1, len(adjusted), adjusted)
         report = page.saved("Save report (TXT)", "P7_report.txt").decode()
         self.assertIn("Field file            station_p7.gsi\n", report)
         self.assertIn(f"\nStandard deviation    {deviation:.3f} mgon, of one two-face direction\n", report)
@@ -543,7 +565,7 @@ class PageInBrowserTest(TimedTest):
         line = (case / "stderr").read_text().splitlines()[0]
         page = self.page(case / "field.gsi")
         self.assertEqual([line], page.texts(".results samp"))
-        self.assertEqual(["Adjusted directions", "Face differences"], page.texts(".results h3"))
+        self.assertEqual(["Adjusted directions", "Face differences (2c, 2i)"], page.texts(".results h3"))
         self.assertEqual([], page.texts(".picture"))
         for button in ("Save residuals (CSV)", "Save picture (SVG)"):
             self.assertNotIn(button, page.texts("button"))
@@ -620,7 +642,7 @@ class PageInBrowserTest(TimedTest):
         page = self.page()
         for greatest, end, steps in [
             (0, 10, {1: 10, 2: 5, 9: 2}), (11, 15, {1: 15, 2: 15, 3: 5}), (320, 400, {0: 400, 1: 400, 3: 200, 4: 100}),
-            (544, 600, {2: 600, 3: 200, 5: 200, 6: 100}), (801, 1_000, {2: 500, 4: 500, 5: 200}), (10_000, 10_000, {5: 2_000}),
+            (544, 600, {1: 600, 2: 300, 3: 200, 5: 200, 6: 100}), (801, 1_000, {2: 500, 4: 500, 5: 200}), (10_000, 10_000, {5: 2_000}),
         ]:
             self.assertEqual(end, page.js(f"endOf({greatest})"))
             for most, step in steps.items():
@@ -663,12 +685,42 @@ class PageInBrowserTest(TimedTest):
         by_set = [("Residuals by set, 1 – 20", 20), ("Residuals by set, 21 – 40", 20)]
         self.assertEqual([("Residuals by target", WIDE[2]), *by_set], titles)
 
-    def test_where_all_residuals_are_0_the_picture_says_so(self):
+    def one_set(self):
+        """The lines of a station up to the end of its first set, and its last one."""
         lines = FIELD.read_bytes().splitlines(True)
-        one_set = lines[: [nth for nth, line in enumerate(lines) if b"42....+00000002" in line][0]]
-        page = self.page(self.file("one.gsi", b"".join([*one_set, lines[-1]])))
+        second = next(nth for nth, line in enumerate(lines) if b"42....+00000002" in line)
+        return lines[:second], lines[-1]
+
+    def test_where_all_residuals_are_0_the_picture_says_so(self):
+        first, last = self.one_set()
+        again = [first[1].replace(b"42....+00000001", b"42....+00000002"), *first[2:]]
+        page = self.page(self.file("equal.gsi", b"".join([*first, *again, last])))
         self.assertTrue(page.text(".across .caption").endswith(" All are 0.000 mgon."), page.text(".across .caption"))
         self.assertEqual(0, page.js("document.querySelectorAll('.results .picture polygon').length"))
+
+    def test_residuals_that_are_0_for_want_of_redundancy_are_no_comfort(self):
+        """Those of one set, and of two that have one target in common: no limit says anything of them."""
+        first, last = self.one_set()
+        other = b"".join([first[1].replace(b"42....+00000001", b"42....+00000002"), *first[2:]])
+        bare = "No degree of freedom: the residuals say nothing of the accuracy."
+        for more, said in [(b"", "One set: its residuals are 0 whatever was read."), (other.replace(b"0000000B", b"0000000C"), bare)]:
+            page = self.page(self.file("free.gsi", b"".join([*first, more, last])), FIELD)
+            card = ".card:first-child"
+            self.assertEqual([said], page.texts(f"{card} > p:not([class])")[:1])
+            page.js("document.querySelectorAll('details.results').forEach(one => { one.open = true })")
+            page.settle()
+            self.assertIn(bare, page.texts(f"{card} .results .quiet"))
+            self.assertEqual([[], []], [page.texts(f"{card} {part}") for part in (".bars", ".picture")])
+            self.assertEqual(["\u2013", "\u2013"], page.texts("#overview tr:first-child td")[1:3])
+            page.js("onbeforeprint()")
+            self.assertIn(said, page.texts("#protocol .said"))
+            self.assertEqual(1, len(page.texts("#protocol .picture")))
+        rows = ["sheet,1,S1,1,", "target,,A,0,", "target,,B,10000004,", "target,,C,10000004,", "set,1,,-6,", "set,2,,-6,"]
+        rows += ["obs,1,A,6,0", "obs,1,B,10000010,0", "obs,2,A,6,0", "obs,2,C,10000010,0"]
+        page.empty()
+        page.give(self.folder / "free.gsi", self.file("free.csv", "\n".join([*rows, ""]).encode()))
+        self.assertEqual([f"Accepted. All residuals are 0.000 mgon. {bare}"], page.texts(".headline"))
+        self.assertNotIn("Save picture (SVG)", page.texts("button"))
 
     def test_the_saved_picture_stands_alone_and_is_light(self):
         saved = [
@@ -734,7 +786,7 @@ class PageInBrowserTest(TimedTest):
         # The protocol says so, and has both files with their digests.
         page.js("onbeforeprint()")
         facts = page.text("#protocol .facts")
-        command = "station_check mark --station P7 plain.gsi > plain_marked.gsi"
+        command = "station_check mark --station P7 plain.gsi plain_marked.gsi"
         digests = [hashlib.sha256(data).hexdigest() for data in ((self.folder / "plain.gsi").read_bytes(), copy)]
         for said in [recognized, command, *digests]:
             self.assertIn(said, facts)
@@ -818,7 +870,7 @@ class PageInBrowserTest(TimedTest):
         self.assertEqual(["Sets and targets of P3"], page.js(labels))
         self.state_numbers(page, "P3", 2)
         self.assertEqual([("read", "Station P1"), ("read", "Station P3")], [tuple(card[:2]) for card in self.cards(page)])
-        command = "station_check mark --sets 'P1=2' --sets 'P3=2' --targets 'P1=2' targets.gsi > targets_marked.gsi"
+        command = "station_check mark --sets 'P1=2' --sets 'P3=2' --targets 'P1=2' targets.gsi targets_marked.gsi"
         self.assertIn(command, page.text(".marked pre"))
         # Other numbers may be stated.
         self.state_numbers(page, "P1", 2)
@@ -829,7 +881,7 @@ class PageInBrowserTest(TimedTest):
         page = self.page(self.file("targets.gsi", job))
         self.state_numbers(page, "P3", 2, each=True)
         self.assertEqual([("read", "Station P1"), ("read", "Station P3")], [tuple(card[:2]) for card in self.cards(page)])
-        command = "station_check mark --sets 'P1=2' --sets 'P3=2' targets.gsi > targets_marked.gsi"
+        command = "station_check mark --sets 'P1=2' --sets 'P3=2' targets.gsi targets_marked.gsi"
         self.assertIn(command, page.text(".marked pre"))
 
     def test_the_number_of_the_only_station_is_stated_without_its_name(self):
@@ -840,7 +892,7 @@ class PageInBrowserTest(TimedTest):
         self.assertEqual([0], page.js("[...document.querySelectorAll('.card input[type=checkbox]')].map(box => box.offsetWidth)"))
         self.state_numbers(page, None, 2)
         self.state_name(page, "S1")
-        command = "station_check mark --station S1 --sets 2 alone.gsi > alone_marked.gsi"
+        command = "station_check mark --station S1 --sets 2 alone.gsi alone_marked.gsi"
         self.assertIn(command, page.text(".marked pre"))
 
     def test_a_station_that_is_set_up_twice_is_asked_about(self):
@@ -857,7 +909,7 @@ class PageInBrowserTest(TimedTest):
             with self.subTest(case):
                 self.assertEqual({"read"}, {card[0] for card in self.cards(page)})
                 option = "--same-set-up" if button == buttons[0] else "--again"
-                self.assertIn(f"station_check mark {option} {case}.gsi > {case}_marked.gsi", page.text(".marked pre"))
+                self.assertIn(f"station_check mark {option} {case}.gsi {case}_marked.gsi", page.text(".marked pre"))
                 written = "Its set-up line was written again 1 time: this was taken as the same set-up."
                 (self.assertIn if button == buttons[0] else self.assertNotIn)(written, page.text(".marked"))
             # It is asked again where the user wants it.
@@ -874,7 +926,7 @@ class PageInBrowserTest(TimedTest):
                 "([...document.querySelectorAll('.card form')].at(-1))"
             )
         self.assertEqual({"read"}, {card[0] for card in self.cards(page)})
-        self.assertIn("station_check mark --station-code 1 coded.gsi > coded_marked.gsi", page.text(".marked pre"))
+        self.assertIn("station_check mark --station-code 1 coded.gsi coded_marked.gsi", page.text(".marked pre"))
 
     def test_stations_that_are_not_recognized_may_be_left_outside(self):
         job = (CASES / "mark" / "mark_with_others" / "field.gsi").read_bytes()
@@ -887,7 +939,7 @@ class PageInBrowserTest(TimedTest):
             page.press("Leave the stations that are not recognized outside")
         self.assertEqual([("read", "Station P1"), ("read", "Station P3")], [tuple(card[:2]) for card in self.cards(page)])
         self.assertIn(told, page.text(".marked"))
-        self.assertIn("station_check mark --others others.gsi > others_marked.gsi", page.text(".marked pre"))
+        self.assertIn("station_check mark --others others.gsi others_marked.gsi", page.text(".marked pre"))
         with page.answered():
             page.press("Leave no station outside")
         self.assertEqual([["open", "others.gsi", NOTHING_RECOGNIZED]], self.cards(page))
@@ -899,7 +951,7 @@ class PageInBrowserTest(TimedTest):
         self.assertEqual(["An angle is not in gon with five decimals."], page.texts(".reason"))
         self.assertEqual([], page.texts(".card form:not(.change)"))
         self.assertIn("45 readings with directions stand outside of sets.", page.text(".card"))
-        command = "station_check mark --station '?' degrees.gsi > degrees_marked.gsi"
+        command = "station_check mark --station '?' degrees.gsi degrees_marked.gsi"
         self.assertEqual(["refused: block 1: Hz Unit", command], page.texts(".exact :is(samp, code)"))
 
     def test_a_name_that_no_station_can_have_is_asked_for_again(self):
@@ -986,7 +1038,7 @@ class PageInBrowserTest(TimedTest):
         self.assertEqual("station_check compare station_p7.gsi P7 four.csv", page.text(".exact code"))
         self.assertIn("tables within 0.01 mgon or as they are rounded", page.text("#in-force"))
         page.fill("within", "0.01")
-        furthest = f"Furthest from the least-squares directions: MAST {MINUS}0.038\xa0mgon."
+        furthest = f"Furthest from the median of all differences: MAST {MINUS}0.038\xa0mgon."
         self.assertEqual([furthest], page.texts(".reason"))
         self.assertTrue(page.text(".todo").startswith("What to do: See below which target stands out"), page.text(".todo"))
         refused = "Refused. The directions are 0.025 mgon apart; the limit is 0.01 mgon."
@@ -1089,7 +1141,7 @@ class PageInBrowserTest(TimedTest):
         self.assertEqual("field file", kinds[P7_FIELD.name])
         self.assertEqual("sheet of P7", kinds[P7_SHEET.name])
         self.assertEqual("table of directions", kinds[P7_TABLE.name])
-        self.assertEqual("Not used, of folders: week/.", page.text("#skipped"))
+        self.assertEqual("Not used, from folders: week/.", page.text("#skipped"))
         for name, _, said in UNUSED:
             self.assertTrue(kinds[name].startswith("not used: ") and said in kinds[name], kinds[name])
         agrees = "Agrees. 6 targets within 0.004 mgon of the least-squares directions; the limit is 0.01 mgon."
@@ -1340,7 +1392,7 @@ class PageInBrowserTest(TimedTest):
                 self.assertEqual(["lost.gsi", *names], sorted(page.texts("#inputs .name")))
                 # A job of which nothing is there is no file that is left aside.
                 self.assertEqual("not used: the file is empty", page.text("#inputs .kind"))
-                self.assertEqual("Not used, of folders: week/mon/photo.jpg.", page.text("#skipped"))
+                self.assertEqual("Not used, from folders: week/mon/photo.jpg.", page.text("#skipped"))
                 self.assertEqual("2 computed rightly", page.text("#verdict"))
                 self.assertEqual({"good"}, {card[0] for card in self.cards(page)})
         # One that lies elsewhere replaces none of them, and stands beside.
@@ -1384,9 +1436,9 @@ class PageInBrowserTest(TimedTest):
             page = self.page(P7_FIELD, book)
             with self.subTest(how):
                 self.assertEqual([["good", "Station P7", agrees]], self.cards(page))
-                self.assertEqual("table of directions, of the first sheet", page.texts("#inputs .kind")[1])
+                self.assertEqual("table of directions, of the first worksheet", page.texts("#inputs .kind")[1])
                 self.assertEqual(taken, page.text(".answer .marked pre"))
-                said = f"Taken from the first sheet of {nth}.xlsx by the page alone, which is not proved: compare it."
+                said = f"Taken from the first worksheet of {nth}.xlsx by the page alone, which is not proved: compare it."
                 self.assertEqual(said, page.text(".answer .marked p"))
                 self.assertEqual(taken.encode(), page.saved("Save it as CSV", f"{nth}.csv"))
                 self.assertEqual(f"station_check compare station_p7.gsi P7 {nth}.csv", page.text(".exact code"))
@@ -2129,6 +2181,11 @@ class PageInBrowserTest(TimedTest):
         fields = [part for part in page.parts() if part.role == "textbox"]
         self.assertEqual(["true"] + 4 * ["false"], [part.states["invalid"] for part in fields])
 
+    def test_no_other_script_runs_in_the_page(self):
+        page = self.page()
+        page.js("{ const one = document.createElement('script'); one.textContent = 'ran = 1'; document.body.append(one) }")
+        self.assertEqual("undefined", page.js("typeof ran"))
+
     # ------------------------------------------------------------ languages
 
     def test_every_text_is_spoken_in_each_language(self):
@@ -2153,7 +2210,10 @@ class PageInBrowserTest(TimedTest):
 
     def test_a_sign_of_french_text_is_never_alone_on_a_line(self):
         page = self.page()
-        for said in page.js("speak('fr'), Object.keys(TEXTS.fr).flatMap(name => [1, 2].map(n => text(name, { n })))"):
+        own = "Object.keys(TEXTS.fr).flatMap(name => [1, 2].map(n => text(name, { n })))"
+        of_faults = "Object.values(texts.fr).flatMap(({ what, todo }) => [what, todo]).map(typeset)"
+        page.js("readFaults()")
+        for said in page.js(f"speak('fr'), [...{own}, ...{of_faults}]"):
             self.assertNotRegex(said, "(?<!\u202f)[:;?!»]|«(?!\u202f)")
 
     def test_no_text_of_the_page_is_without_its_translations(self):

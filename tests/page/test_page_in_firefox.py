@@ -84,7 +84,7 @@ class PageInFirefoxTest(StepsTest):
             with self.subTest(page=number):
                 self.assertIn(name, lines)
                 left = [line for line in lines if line != name]
-                self.assertNotIn(left[-1], ("Residuals", "Face differences", "Residuals as a picture", "Adjusted directions"))
+                self.assertNotIn(left[-1], ("Residuals", "Readings in both faces", "Residuals as a picture", "Adjusted directions"))
 
 
 if __name__ == "__main__":
