@@ -37,6 +37,10 @@ PRINTED = {
     "`report --csv`": ("report_rows", "Stating"),
     "what `directions` and `report` say of a field file": ("station_answers", "Answers"),
     "what they say of all its stations": ("book_answers", "Answers"),
+    "what `compare` and `differences` say of all": ("book_answers", "Tables"),
+    "what reports have of instrument and time": ("instrument_reports", "Answers"),
+    "the pages of a report": ("instrument_reports", "Printing"),
+    "what is printed with `--sha256`": ("station_record", "Recorded"),
     "`change`": ("changed_lines", "Answers"),
     "the notes of `change`": ("station_change", "Notes"),
 }

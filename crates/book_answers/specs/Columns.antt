@@ -17,6 +17,7 @@ column_in_whole column = if nat_lt column past_all then column + 1 else past_all
 abbrev pub column_in_part : ℕ → ℕ
 column_in_part column = if column == 0 then past_all else column - 1
 
+-- A pair of columns of a part, as the whole has them.
 abbrev pub pair_in_whole : ColumnPair → ColumnPair
 pair_in_whole pair = record {
   names = column_in_whole pair.names;
@@ -27,6 +28,7 @@ pair_in_whole pair = record {
 abbrev pub read_in_whole : ByColumns → ByColumns
 read_in_whole by = record { pair = pair_in_whole by.pair; passed = by.passed }
 
+-- A pair of columns of the whole, as a part has them.
 abbrev pub pair_in_part : ColumnPair → ColumnPair
 pair_in_part pair = record {
   names = column_in_part pair.names;

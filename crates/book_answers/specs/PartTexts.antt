@@ -67,6 +67,7 @@ abbrev pub SaysPart : PartAsked → ResultLimits → SurveyedStation → List (L
 SaysPart asked limits its lines own =
     SaysText (form_in_part asked.form) asked.text limits its (part_of its.station.name lines) own
 
+-- Why nothing is said of a station and of its part of these lines.
 abbrev pub LacksPart : PartAsked → ResultLimits → SurveyedStation → List (List ℕ) → CompareFault
     → Type 0
 LacksPart asked limits its lines fault =

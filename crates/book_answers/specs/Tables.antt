@@ -150,6 +150,7 @@ IsWhyNoTextOf asked limits file stated None refusal =
 IsWhyNoTextOf asked limits file stated (Some name) refusal =
     IsRefusedFirst asked limits file stated name refusal
 
+-- Why there is no text of a file, by the refusal and the station that it names.
 abbrev pub IsWhyNoTexts : PartAsked → ResultLimits → FileAnswers → Told → StationRefusal → Type 0
 IsWhyNoTexts asked limits file stated refused =
     IsWhyNoTextOf asked limits file stated refused.station refused.refusal
