@@ -100,9 +100,10 @@ TIMES_DIRECTIONS = 1.2
 LISTED = (LARGE[0], *(shape for shape in COUNTED if shape.stations in (10, 1000)))
 TIMES_LIST = 1.2
 
-# The jobs without codes of `mark`, which takes at most so many times the time of `list`. Those
-# with 200 leading sights are refused, since a station may have 3, and the last two, since there are
-# more sets than a station may have, of one target: `mark` takes what it takes to find that.
+# The jobs without codes of `mark`, which takes at most so many times the time of `list`. Of 200
+# leading sights the first are to the targets of the sets, and the others to detail. The last two are
+# refused, since there are more sets than a station may have, of one target: `mark` takes what it
+# takes to find that.
 JOBS = (
     Shape("16 KB", 1, 16, 10),
     Shape("400 KB", 10, 40, 10),

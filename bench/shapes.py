@@ -133,7 +133,7 @@ def job_file(shape: Shape) -> str:
         point = word(shape, "11", f"{len(lines) % 10000:04}+", f"S{station}")
         lines.append(line(shape, point, word(shape, "88", "..10+", 1543)))
         for number in range(shape.leading):
-            read(f"L{number}", 1)
+            read(f"P{number + 1}" if number < shape.targets else f"L{number}", 1)
         names = [f"P{target}" for target in range(1, shape.targets + 1)]
         for number in range(1, shape.sets + 1):
             seen = seen_in_job(shape, draw, number, names)

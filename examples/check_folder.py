@@ -80,15 +80,17 @@ TABLE_ROW = re.compile(
     re.MULTILINE,
 )
 
-# The rows of titles of what station_check prints as rows, and by which command; and of what its page
-# saves.
+# The rows of titles of what station_check prints as rows, and by which command, with commas or with
+# semicolons; of what its page saves besides; and of the residuals that its library hands out.
 TITLES = {
     b"station,set,target,direction,2c,2i": "list --csv",
     b"target,stated,least squares,difference,from the median": "differences",
+    b"station,target,stated,least squares,difference,from the median": "differences --all",
     b"station,set,target,face one,face two,direction,2c,2i,adjusted,residual"
     b",zenith one,zenith two,zenith mean": "report --csv",
 }
-SAVED_TITLES = b"set,target,direction,adjusted,residual"
+SAVED_TITLES = b"set,target,2c mgon,2i mgon"
+HANDED_OUT_TITLES = b"set,target,direction,adjusted,residual"
 
 
 class Refused(Exception):
@@ -160,8 +162,11 @@ def is_table(name: str, path: str) -> bool:
 def origin_of(path: str) -> str | None:
     """Where a file of rows of station_check is from, as its first row tells."""
     first = head_of(path).removeprefix(b"\xef\xbb\xbf").partition(b"\n")[0].rstrip(b"\r")
+    first = first.replace(b";", b",")
     if first in TITLES:
         return f"'station_check {TITLES[first]}' printed"
+    if first == HANDED_OUT_TITLES:
+        return "the library handed out"
     return "the page saved" if first == SAVED_TITLES else None
 
 

@@ -81,11 +81,18 @@ OF_MORE_FORMS = [
     (b"A;7;0.00000\nB;8;50.00003\n", ["--columns=1,3"], 0, 10, (1, 3, 0, 0, 0, 0)),
 ]
 
+# What the page saves of face differences.
+FACES = b"set,target,2c mgon,2i mgon\n1,A,0.06,-0.02\n"
+ALL_DIFFERENCES = b"station,target,stated,least squares,difference,from the median\nS1,A,0.000000,0.000000,0.000,0.000\n"
+
 # The rows of the example that station_check prints or its page saves, and where they are from.
 ROWS = [
     ("'station_check list --csv' printed", "job.list.csv", LIST_ROWS),
-    ("the page saved", "job.residuals.csv", RESIDUALS),
+    ("the library handed out", "job.residuals.csv", RESIDUALS),
+    ("the page saved", "job.faces.csv", FACES),
+    ("the page saved", "job.comma_faces.csv", FACES.replace(b",", b";").replace(b".", b",")),
     ("'station_check differences' printed", "job.S1.differences.CSV", DIFFERENCES),
+    ("'station_check differences --all' printed", "job.differences.csv", ALL_DIFFERENCES),
     ("'station_check report --csv' printed", "job.report.csv", REPORT_ROWS),
 ]
 
@@ -299,7 +306,7 @@ class FolderTest(ProgramTest):
                 self.assertEqual((1, lines), self.answers({"job.gsi": STATION, "job.csv": rows}))
         # The sheet beside them is checked, and its refusal shows.
         for sheet, status in [(SHEET, 0), (WRONG, 1)]:
-            both = {"job.gsi": STATION, "job.CSV": RESIDUALS, "job.csv": sheet}
+            both = {"job.gsi": STATION, "job.CSV": REPORT_ROWS, "job.csv": sheet}
             self.assertEqual(status, self.answers(both)[0])
 
     def test_titles_like_those_of_rows_are_titles_of_a_table(self):

@@ -1,5 +1,4 @@
-"""The commands for more than one machine: those of GNU parallel, where it is found, with this machine
-alone; what Slurm runs for a task."""
+"""The command for more than one machine, of GNU parallel, where it is found: with this machine alone."""
 
 import csv
 import re
@@ -14,12 +13,8 @@ from worked import SHEET, STATION, edited
 PAGE = ROOT / "docs" / "MACHINES.md"
 BLOCK = re.compile(r"^```sh\n(.*?)^```$", re.DOTALL | re.MULTILINE)
 
-# The command that lists the folders, and the options of a run without a common disk.
+# The command that lists the folders.
 LISTING = re.compile(r"`(find .*? > folders)`")
-COPIES = re.compile(r"`(--basefile .*?)`")
-
-# What Slurm runs for a task, the words after `--wrap`: Slurm itself isn't run.
-WRAPPED = re.compile(r"--wrap \\\n  '(.*)'$", re.DOTALL)
 
 TIME = 60
 
@@ -28,15 +23,6 @@ STATUSES = {"jobs/friday": 0, "jobs/monday": 1, "jobs/tuesday": 0}
 
 # The lines that say where the work goes: here, to this machine.
 MACHINES = ":\n"
-
-
-def commands():
-    """The command for a common disk, that for none, and what Slurm runs for a task."""
-    page = PAGE.read_text()
-    common, slurm = BLOCK.findall(page)
-    log, options = "checks.log \\\n", COPIES.search(page)[1]
-    copies = common.replace(log, f"copies.log {options} \\\n")
-    return common, copies, WRAPPED.search(slurm.strip())[1]
 
 
 class MachinesTest(ProgramTest):
@@ -69,23 +55,14 @@ class MachinesTest(ProgramTest):
     def test_gnu_parallel_checks_each_folder(self):
         if not shutil.which("parallel"):
             self.skipTest("no parallel is found")
-        common, copies, _ = commands()
-        for command, log in [(common, "checks.log"), (copies, "copies.log")]:
-            with self.subTest(log):
-                done = self.run_script(command)
-                self.assertEqual(1, done.returncode, done.stderr)
-                with open(self.folder / log, newline="") as file:
-                    rows = list(csv.DictReader(file, delimiter="\t"))
-                names = [re.search(r"jobs/\w+", row["Command"])[0] for row in rows]
-                statuses = [int(row["Exitval"]) for row in rows]
-                self.assertEqual(STATUSES, dict(zip(names, statuses)))
-                self.check_reports()
-
-    def test_what_slurm_runs_checks_the_folder_of_its_task(self):
-        *_, script = commands()
-        for task, (name, status) in enumerate(STATUSES.items(), 1):
-            done = self.run_script(script, SLURM_ARRAY_TASK_ID=str(task))
-            self.assertEqual(status, done.returncode, (name, done.stderr))
+        [command] = BLOCK.findall(PAGE.read_text())
+        done = self.run_script(command)
+        self.assertEqual(1, done.returncode, done.stderr)
+        with open(self.folder / "checks.log", newline="") as file:
+            rows = list(csv.DictReader(file, delimiter="\t"))
+        names = [re.search(r"jobs/\w+", row["Command"])[0] for row in rows]
+        statuses = [int(row["Exitval"]) for row in rows]
+        self.assertEqual(STATUSES, dict(zip(names, statuses)))
         self.check_reports()
 
 
