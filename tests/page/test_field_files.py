@@ -117,7 +117,7 @@ class FieldFilesTest(TimedTest):
         for key, path in sorted(files.items()):
             with self.subTest(path.name):
                 page.empty()
-                page.give(path)
+                page.drop(path)
                 clicks, expected = ANSWERED.get(key, ([], REFUSED.get(key)))
                 for click in clicks:
                     what, _, value = click.partition(" ")
