@@ -2181,6 +2181,21 @@ class PageInBrowserTest(TimedTest):
         fields = [part for part in page.parts() if part.role == "textbox"]
         self.assertEqual(["true"] + 4 * ["false"], [part.states["invalid"] for part in fields])
 
+    def test_a_file_goes_to_the_worker_once(self):
+        """Whatever is asked of it: by number alone after that."""
+        table = self.file("four.csv", FOUR_DECIMALS)
+        page = self.page()
+        page.js(
+            "globalThis.posted = []; const post = worker.postMessage.bind(worker);"
+            " worker.postMessage = said => { posted.push(...(said.inputs ?? []).flatMap(one => one?.bytes ? [one.bytes.length] : [])); post(said) }"
+        )
+        page.give(P7_FIELD, table)
+        page.saved("Save report (TXT)", "P7_report.txt")
+        page.fill("within", "0.5")
+        page.js("onbeforeprint()")
+        sizes = [path.stat().st_size for path in (P7_FIELD, table)]
+        self.assertEqual(sorted(sizes), sorted(page.js("posted")))
+
     def test_no_other_script_runs_in_the_page(self):
         page = self.page()
         page.js("{ const one = document.createElement('script'); one.textContent = 'ran = 1'; document.body.append(one) }")
