@@ -289,12 +289,12 @@ class PageInBrowserTest(TimedTest):
         page.settle()
         self.assertIn("Grund", page.text("form.change [role=status]"))
         typing = "[...document.querySelectorAll('form.change input')].map(one => one.value)"
-        for nth, value in enumerate(("read twice", "B2")):
+        for nth, value in enumerate(("read twice", "CHURCH")):
             page.js(f"{{ const one = document.querySelectorAll('form.change input')[{nth}]; one.value = {json.dumps(value)}; one.oninput() }}")
         self.assertEqual("", page.text("form.change [role=status]"))
         page.js("languages.value = 'en'; languages.onchange()")
         page.fill("within", "0.5")
-        self.assertEqual(["read twice", "B2"], page.js(typing))
+        self.assertEqual(["read twice", "CHURCH"], page.js(typing))
         self.changed(page, "Leave this line out", "read twice, book p. 3")
         said = "block 5 left out: read twice, book p. 3"
         self.assertEqual([f"{said} Take back"], page.texts(".changes li"))
