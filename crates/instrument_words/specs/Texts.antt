@@ -11,10 +11,11 @@ abbrev pub and_others : Language → ContentsValue → List ℕ
 and_others language told =
     told.first ++ (if told.varies then said language phrase.AndOthers else [])
 
--- the first content, and the last where it is another
+-- the first content, and the last where it is another; where it is the same, whether there are others
 abbrev pub first_to_last : Language → ContentsValue → List ℕ
-first_to_last language told = told.first
-    ++ (if bytes_eq told.first told.last then [] else said language phrase.ToLast ++ told.last)
+first_to_last language told = if bytes_eq told.first told.last
+    then and_others language told
+    else told.first ++ (said language phrase.ToLast ++ told.last)
 
 -- A line: a label, which fills its column below the label of the field file, and what is told;
 -- where nothing is told there is none.
@@ -23,7 +24,8 @@ line_text label shown None = []
 line_text label shown (Some told) = label ++ (shown told ++ codes "\n")
 
 -- The lines in a language: of the instrument its serial number and its type, each the first and
--- whether there are others; of date and time the first and the last.
+-- whether there are others; of date and time the first and the last, or where these are the same
+-- whether there are others.
 abbrev pub instrument_text : Language → InstrumentValue → List ℕ
 instrument_text language r =
     line_text (said language phrase.SerialNumber) (and_others language) r.serial_number

@@ -26,7 +26,8 @@ fn push_and_others(
     Ok(())
 }
 
-/// Adds the first content, and the last where it is another.
+/// Adds the first content, and the last where it is another; where it is the same, whether there are
+/// others.
 fn push_first_to_last(
     text: &mut Vec<u8>,
     language: Language,
@@ -35,11 +36,12 @@ fn push_first_to_last(
     ensures { OnOk result (text.new.items
         ≡ text.old.items ++ spec.first_to_last language (contents_value told.entry)) }
 {
-    text.extend_from_slice(told.first)?;
-    if told.first != told.last {
-        text.extend_from_slice(Phrase::ToLast.said(language))?;
-        text.extend_from_slice(told.last)?;
+    if told.first == told.last {
+        return push_and_others(text, language, told);
     }
+    text.extend_from_slice(told.first)?;
+    text.extend_from_slice(Phrase::ToLast.said(language))?;
+    text.extend_from_slice(told.last)?;
     Ok(())
 }
 
