@@ -118,6 +118,9 @@ class ChangeTest(ProgramTest):
         self.assertIn(b"copy.gsi", stderr)
         self.assertEqual(GSI_8.split(b"\n", 1)[1], copy.read_bytes())
         self.assertEqual(GSI_8, field.read_bytes())
+        field.write_bytes(GSI_8.split(b"\n", 1)[0])
+        self.assertEqual((0, b"", out(1)), answer_of(["change", "--leave-out=1", field, self.folder / "empty.gsi"]))
+        self.assertEqual(b"", (self.folder / "empty.gsi").read_bytes())
 
     def test_a_folder_is_read_by_nobody(self):
         self.assertEqual((1, b"", NOTHING_READ), answer_of(["change", self.folder]))

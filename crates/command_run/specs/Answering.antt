@@ -1,6 +1,6 @@
 -- How a request is answered: its files are opened, and its own run is made over them.
 use Rattle.std.specs.Prelude.{◌≡◌, ◌⊎◌, ℕ, Bool, true, List, Option, Some, None, option_map, ⊤}
-use Rattle.std.specs.Prelude.{IfSome, Result, Ok, Err}
+use Rattle.std.specs.Prelude.{codes, IfSome, Result, Ok, Err}
 use Rattle.std.specs.Borrow.{Bor}
 use Rattle.book_answers.specs.Refusals.{named_refusal_text}
 use Rattle.book_answers.specs.Runs.{IsRunOfAll}
@@ -74,7 +74,6 @@ use Rattle.command_run.specs.Hosts.{change_of}
 use Rattle.command_run.specs.Unopened.{there_line, unopened_line}
 use Rattle.command_run.specs.declared.host.NoWords.{NoWords}
 use Rattle.command_run.specs.declared.host.NoWords.TheVariants as no_words
-use Rattle.command_run.specs.declared.status.TheConstants.{NOT_TEXT}
 use Rattle.command_run.specs.StationNames.{name_bytes}
 use Rattle.command_run.specs.TitlesTexts.{titles_line}
 use Rattle.command_run.specs.declared.hindrance.Hindrance.{Hindrance}
@@ -580,11 +579,15 @@ pub record IsStatusOfWords {F N I : Type 0} (host : Known F N I)
   pub answered : IsAnswered host faults out err asked status
       ⊎ IsHindered host out err asked status
 
+-- what is told where an argument is no text
+abbrev pub not_text : List ℕ
+not_text = codes "error: an argument is not UTF-8 text\n\nA file of such a name can be passed as standard input: station_check list /dev/stdin < FILE\n\nFor more information, try '--help'.\n"
+
 -- The words of the command line are lacking for this reason: with status 1 memory ran out, and with
 -- status 2 an argument is no text.
 abbrev pub LacksWords : NoWords → ℕ → WriterChange → Type 0
 LacksWords no_words.OutOfMemory status err = IsOutOfMemory status err
-LacksWords no_words.NotText status err = (status ≡ 2) × WritesOrFails NOT_TEXT.now err
+LacksWords no_words.NotText status err = (status ≡ 2) × WritesOrFails not_text err
 
 -- The exit status of a run: that of the words of its command line, which are the known ones; or
 -- they are lacking for a reason that may be.

@@ -1,8 +1,8 @@
--- A file that is made at its first write.
+-- A file that is made at its first write, or where it is flushed.
 use Rattle.std.specs.Prelude.{ℕ, Bool, List, Option}
 use Rattle.command_run.specs.declared.new_file.NewFile.{NewFile}
 
--- The host of a file that is made at its first write.
+-- The host of such a file.
 abbrev pub host_of : {H N : Type 0} → NewFile H N → H
 host_of s = s.host.now
 

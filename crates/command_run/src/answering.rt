@@ -56,7 +56,7 @@ use table_titles::{Titles, TitlesFault, titled_columns};
 /// The exit status of a request. All its files are opened before its run reads any, the field file
 /// first. Where the name of its station is left out, or columns are stated by titles, a file is
 /// opened a first time and read for them: so a pipe does for no such file. A new file is made at
-/// the first byte that is written to it, where none is there.
+/// the first byte that is written to it, or where it is flushed, where none is there.
 pub(crate) fn answer<'a, H: Host, W: Sink, E: Sink>(
     alloc: Global,
     host: &'a H,
