@@ -4,12 +4,11 @@
 //! The words of the command line say what is asked; each answer is a call of a library over sources
 //! and sinks, whose contract says what it read and wrote.
 //!
-//! What is asked of the runtime stands here, in `show`, and in `host.rt` of `command_run`. All
-//! between is generic.
+//! What is asked of the runtime stands here, in `main`, `print` and `refused`, and in `host.rt` of
+//! `command_run`. All between is generic.
 #![tactic(auto)]
 
-ghost use Rattle.std.specs.Prelude.{◌≡◌, ◌≤◌, OnOk, OnErr};
-ghost use Rattle.clap.specs.Words.{kind_of};
+ghost use Rattle.std.specs.Prelude.{◌≡◌, OnOk, OnErr};
 ghost use Rattle.station_program.specs.Statuses.{IsStatusOfKind};
 
 use byte_ends::{OfRead, OfWrite};
@@ -28,22 +27,30 @@ fn main(rt: HostRuntime) -> ExitCode {
     let mut err = OfWrite::new(rt.stderr());
     match run(rt.alloc(), &rt, input, &faults, &mut out, &mut err) {
         Ok(status) => ExitCode::from(status),
-        Err(error) => ExitCode::from(show(&rt, &error)),
+        Err(error) => {
+            let printed = print(&rt, &error);
+            ExitCode::from(status_in_place(&rt, error.kind(), printed))
+        }
     }
 }
 
 /// Prints what the parse of the command line answered in place of a request: help, the version, or
-/// a mistake.
-fn show(rt: &HostRuntime, error: &Error) -> u8
-    ensures { IsStatusOfKind (kind_of error.now) result }
-{
+/// a mistake; nothing where memory was refused.
+fn print(rt: &HostRuntime, error: &Error) -> io::Result<()> {
     match error.kind() {
+        ErrorKind::OutOfMemory => Ok(()),
+        _ => error.print(rt),
+    }
+}
+
+/// The exit status of what is printed in place of a run, by its kind, and by whether it was printed.
+fn status_in_place(rt: &HostRuntime, kind: ErrorKind, printed: io::Result<()>) -> u8
+    ensures { IsStatusOfKind kind printed result }
+{
+    match kind {
         ErrorKind::OutOfMemory => refused(rt, Fault::Memory),
-        ErrorKind::DisplayHelp | ErrorKind::DisplayVersion => status_of_print(rt, error.print(rt)),
-        _ => {
-            let _ = error.print(rt);
-            USAGE
-        }
+        ErrorKind::DisplayHelp | ErrorKind::DisplayVersion => status_of_print(rt, printed),
+        _ => USAGE,
     }
 }
 
