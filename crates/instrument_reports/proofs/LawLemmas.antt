@@ -4,12 +4,15 @@ use Rattle.std.specs.List.{AllZip}
 use Rattle.gsi_file.specs.FileAnswers.{FileAnswers}
 use Rattle.gsi_word.proofs.LineLaws.{same_block}
 use Rattle.gsi_word.specs.Blocks.{GsiBlock, IsBlock}
-use Rattle.instrument_reports.specs.Answers.{Putting, SaysRowsOf, TellsInstrument}
+use Rattle.instrument_reports.specs.Answers.{Putting, SaysReportOf, SaysRowsOf, TellsInstrument}
+use Rattle.instrument_reports.specs.Rows.{with_recorded_rows}
+use Rattle.instrument_words.specs.Below.{on_pages}
 use Rattle.instrument_words.specs.Instrument.{instrument_of}
 use Rattle.row_forms.specs.declared.form.RowForm.{RowForm}
-use Rattle.station_answers.specs.OneTexts.{one_rows as one_own}
+use Rattle.station_answers.specs.OneTexts.{one_report as one_own_report, one_rows as one_own}
 use Rattle.station_book.specs.Stations.{SurveyedStation}
-use Rattle.instrument_reports.specs.Rows.{with_recorded_rows}
+use Rattle.station_book.specs.declared.result_limits.ResultLimits.{ResultLimits}
+use Rattle.station_report.specs.NoteTexts.{ReportHead}
 
 -- Lines are one list of blocks.
 same_blocks : (lines : List (List ℕ)) (xs ys : List GsiBlock) → AllZip IsBlock lines xs
@@ -38,3 +41,11 @@ pub one_rows : (form : RowForm) (file : FileAnswers) (its : SurveyedStation) (a 
     → SaysRowsOf file form its a → SaysRowsOf file form its b → a ≡ b
 one_rows form file its a b p q =
     one_text (with_recorded_rows form) file _ (λ x y. one_own form its x y) a b p q
+
+-- So is the report of a station.
+pub one_reports : (head : ReportHead) (limits : ResultLimits) (file : FileAnswers)
+    (its : SurveyedStation) (a b : List ℕ) → SaysReportOf file head limits its a
+    → SaysReportOf file head limits its b → a ≡ b
+one_reports head limits file its a b p q =
+    one_text (on_pages head.notes.language) file _
+    (λ x y. one_own_report head limits its x y) a b p q

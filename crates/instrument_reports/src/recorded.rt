@@ -1,6 +1,6 @@
 //! The rows of what was recorded of instrument and time, made in memory.
 
-ghost use Rattle.std.specs.Prelude.{◌≡◌, ◌++◌, IfOk, OnOk};
+ghost use Rattle.std.specs.Prelude.{◌≡◌, ◌++◌, IfOk, OnErr, OnOk};
 ghost use Rattle.csv.specs.Writing.{row_text};
 ghost use Rattle.instrument_reports.specs.Rows as spec;
 ghost use Rattle.instrument_words.specs.Instrument.{instrument_value, told_value};
@@ -19,7 +19,7 @@ use std::io::Write;
 
 /// Adds to the rows of a report one that is of no observation: what it is of, and two cells of it.
 ///
-/// The only error is that memory was refused.
+/// The only error is that memory was refused; then nothing was added.
 pub fn push_further_row(
     alloc: Global,
     rows: &mut Vec<u8>,
@@ -28,8 +28,9 @@ pub fn push_further_row(
     name: &[u8],
     content: &[u8],
 ) -> Result<(), AllocError>
-    ensures { OnOk result (rows.new.items ≡ rows.old.items
+    ensures added { OnOk result (rows.new.items ≡ rows.old.items
         ++ row_text (writer_of form) (spec.further_row kind.now name.now content.now)) }
+    ensures kept { OnErr result (rows.new.items ≡ rows.old.items) }
 {
     let row = further_row(alloc, form, kind, name, content)?;
     rows.extend_from_slice(&row)?;

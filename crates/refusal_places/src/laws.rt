@@ -8,6 +8,12 @@ ghost use Rattle.refusal_places.specs.declared.named.Named.TheVariants.{Block, S
 ghost use Rattle.refusal_places.specs.declared.named.Named.TheVariants.{Target, Set, Observation};
 ghost use Rattle.refusal_places.specs.declared.named.Named.TheVariants.{StationTarget};
 ghost use Rattle.refusal_places.specs.declared.named.Named.TheVariants.{StationObservation};
+ghost use Rattle.refusal_places.specs.declared.row.TheConstants.{COMMA};
+
+/// In digits: the byte between the fields of a sheet.
+pub fn bounds()
+    ensures comma { COMMA ≡ 44 }
+{}
 
 /// A line that has a number of ten digits at most after its words, and no digit after that, names
 /// what stands at this number: so each refusal names its own place, whatever else it says.
