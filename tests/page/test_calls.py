@@ -801,6 +801,7 @@ class PageCallsTest(TimedTest):
         numbers += rb"\nStandard deviation +(?:(\S+) mgon, of each|left out)"
         accuracy = re.compile(rb"\nDegrees of freedom +(\d+)(?:" + numbers + rb"|: )")
         asked = {(case.folder / case.args[-2], case.args[-1]) for case in cases_of_page() if case.args[:1] == ["report"]}
+        foot = rb"\n  Mean +(\S+) +(\S+)\n  Half of the mean.*? +(\S+) +(\S+)\n  Spread.*? +(\S+) +(\S+)\n"
         found = set()
         for gsi, name in sorted(asked):
             answers = [answer_to([*self.command(), word, gsi, name]) for word in ("directions", "residuals", "report")]
@@ -812,13 +813,17 @@ class PageCallsTest(TimedTest):
                     continue
                 (_, directions, _), (_, residuals, _), (_, report, _) = answers
                 parts = dict(parts_of(whole))
-                self.assertEqual(["directions", "rows", "accuracy", "report"], list(parts))
+                self.assertEqual(["directions", "rows", "accuracy", "faces", "report"], list(parts))
                 self.assertEqual(directions, parts["directions"])
                 self.assertEqual(residuals, residuals_in(parts["rows"]))
                 self.assertEqual(report, parts["report"])
                 degrees, squares, *deviations = accuracy.search(report).groups(b"")
                 row = b",".join([degrees, *deviations, squares])
                 self.assertEqual(b"degrees,deviation,of adjusted,squares\n%s\n" % row, parts["accuracy"])
+                numbers = re.search(foot, report).groups()
+                rows = [[title, *numbers[nth::2]] for nth, title in enumerate([b"2c", b"2i"])]
+                rows = [[b"difference", b"mean", b"half of mean", b"spread"], *rows]
+                self.assertEqual(b"".join(b",".join(row) + b"\n" for row in rows), parts["faces"])
         self.assertEqual({0, 1}, found)
 
     def test_all_of_a_table_has_the_texts_that_are_handed_out_alone(self):

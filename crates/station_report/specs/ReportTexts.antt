@@ -1,6 +1,6 @@
 -- The text of a report (profile), in the order in which it is printed. Its fixed phrases are those
--- of its language. Lines are at most 78 characters wide, which a page of A4 holds, but for the one
--- that names the field file, and notes.
+-- of its language. Lines are at most 78 characters wide, which a page of A4 holds, but for those of
+-- paths, notes and missing directions.
 use Rattle.std.specs.Prelude.{ℕ, ◌+◌, ◌*◌, ◌/◌, ◌%◌, List, [], ◌++◌, length, codes, decimal, ℤ, pos}
 use Rattle.std.specs.Prelude.{Option, Some, None, slice_index_or, if◌then◌else◌, ◌==◌}
 use Rattle.std.specs.Prelude.{◌&&◌, nat_le, nat_lt}

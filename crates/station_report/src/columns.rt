@@ -6,6 +6,12 @@ ghost use Rattle.station_report.specs.Columns as spec;
 use itoa::Buffer;
 use std::alloc::AllocError;
 
+/// The width of a column of directions or angles in gon with six decimals.
+pub(crate) const GON: usize = 13;
+
+/// The width of a column of readings in gon, with five decimals.
+pub(crate) const READ: usize = 11;
+
 /// Adds blanks to a text.
 pub(crate) fn push_blanks(text: &mut Vec<u8>, count: usize) -> Result<(), AllocError>
     ensures added { OnOk result (text.new.items ≡ text.old.items ++ replicate count spec.blank) }

@@ -2,7 +2,7 @@
 ghost use Rattle.std.specs.Prelude.{◌≡◌, ◌++◌, OnOk, length};
 ghost use Rattle.station_report.specs.ReportTexts as spec;
 
-use crate::columns::{push_left, push_right};
+use crate::columns::{GON, push_left, push_right};
 use crate::labels::push_phrase;
 use crate::lines::{Lines, push_lines};
 use crate::places::name_of;
@@ -33,7 +33,7 @@ impl<'a> Lines for Directions<'a> {
         push_left(text, LONGEST_NAME, name_of(self.station, place).bytes())?;
         field.clear();
         push_gon(field, self.directions[place])?;
-        push_right(text, 13, field)?;
+        push_right(text, GON, field)?;
         text.push(b'\n')?;
         Ok(())
     }

@@ -12,15 +12,11 @@ use crate::head::{push_counted, push_entry};
 use crate::labels::push_phrase;
 use crate::places::{name_of, number_of, observation_at, residual_at};
 use crate::residual_columns::push_residuals;
-use adjust_kernel::Station;
+use adjust_kernel::{Station, UNIT};
 use angle_texts::{push_gon, push_mgon};
 use report_phrases::{Language, Phrase};
 use station_results::AdjustedObs;
 use std::alloc::{AllocError, Global};
-
-/// Squares of 0.001 mgon have six decimals, as directions in gon have: so many parts of these are
-/// one of the sixth.
-const PARTS: u64 = 1_000;
 
 /// Adds the set and the target of an observation.
 fn push_place(
@@ -64,7 +60,8 @@ fn push_squares(text: &mut Vec<u8>, squares: u64) -> Result<(), AllocError>
     requires { squares < 2 ^ 40 }
     ensures { OnOk result (text.new.items ≡ text.old.items ++ spec.squares_text squares) }
 {
-    push_gon(text, PARTS * squares)?;
+    // Squares of 0.001 mgon have six decimals in mgon^2, as directions have in gon.
+    push_gon(text, UNIT * squares)?;
     text.extend_from_slice(b" mgon^2")?;
     Ok(())
 }

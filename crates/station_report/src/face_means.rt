@@ -3,6 +3,7 @@ ghost use Rattle.std.specs.Prelude.{◌≡◌, ◌<◌, ◌++◌, OnOk, length};
 ghost use Rattle.angle_texts.specs.MgonTexts.{hundredths_text, short_mgon_text, sign_text};
 ghost use Rattle.report_phrases.specs.Phrases.{said};
 ghost use Rattle.station_report.specs.Columns.{right_text};
+ghost use Rattle.station_report.specs.FaceMeans.{IsFaceMean};
 ghost use Rattle.station_report.specs.Readings.{two_c_at, two_i_at};
 ghost use Rattle.station_report.specs.ReportTexts as spec;
 ghost use Rattle.station_report.specs.Together.{AreTogether};
@@ -42,6 +43,39 @@ fn faces_together(surveyed: &Surveyed) -> (Together, Together)
     (two_c, two_i)
 }
 
+/// What all 2c of a station, or all 2i, say together, in units of 0.01 mgon.
+#[derive(Clone, Copy, Debug, Drop)]
+pub struct FaceMean {
+    /// Their mean, rounded, the middle of two upwards.
+    pub mean: i64,
+    /// Half of their mean, rounded once, likewise: of 2c the collimation error, of 2i the index
+    /// error.
+    pub half: i64,
+    /// The greatest of them less the least.
+    pub spread: i64,
+}
+
+/// What all 2c of a station say together, and all 2i.
+pub fn means_of_faces(surveyed: &Surveyed) -> (FaceMean, FaceMean)
+    requires { 0 < length surveyed.now.station.obs }
+    ensures two_c { IsFaceMean (length surveyed.now.station.obs) (two_c_at surveyed.now) result.0 }
+    ensures two_i { IsFaceMean (length surveyed.now.station.obs) (two_i_at surveyed.now) result.1 }
+{
+    let count = surveyed.station().obs().len() as u32;
+    let (two_c, two_i) = faces_together(surveyed);
+    let of_two_c = FaceMean {
+        mean: two_c.over(count),
+        half: two_c.over(2 * count),
+        spread: two_c.spread(),
+    };
+    let of_two_i = FaceMean {
+        mean: two_i.over(count),
+        half: two_i.over(2 * count),
+        spread: two_i.spread(),
+    };
+    (of_two_c, of_two_i)
+}
+
 /// Adds what stands before a number.
 fn push_sign(text: &mut Vec<u8>, number: i64) -> Result<(), AllocError>
     ensures { OnOk result (text.new.items ≡ text.old.items ++ sign_text number) }
@@ -62,14 +96,24 @@ fn push_hundredths(text: &mut Vec<u8>, number: u64) -> Result<(), AllocError>
     Ok(())
 }
 
-/// Adds a field of a number of 0.01 mgon. A spread may be larger than `push_short_mgon` takes.
+/// Adds an angle in mgon to a text, which is in units of 0.01 mgon, of any size: a spread may be
+/// larger than `angle_texts::push_short_mgon` takes.
+///
+/// The only error is that memory was refused; then some of it may have been added.
+pub fn push_wide_mgon(text: &mut Vec<u8>, units: i64) -> Result<(), AllocError>
+    ensures { OnOk result (text.new.items ≡ text.old.items ++ short_mgon_text units) }
+{
+    push_sign(text, units)?;
+    push_hundredths(text, units.unsigned_abs())
+}
+
+/// Adds a field of a number of 0.01 mgon.
 fn push_number(text: &mut Vec<u8>, field: &mut Vec<u8>, units: i64) -> Result<(), AllocError>
     ensures { OnOk result
         (text.new.items ≡ text.old.items ++ right_text 10 (short_mgon_text units)) }
 {
     field.clear();
-    push_sign(field, units)?;
-    push_hundredths(field, units.unsigned_abs())?;
+    push_wide_mgon(field, units)?;
     push_right(text, DIFFERENCES, field)?;
     Ok(())
 }
@@ -105,32 +149,24 @@ pub(crate) fn push_foot(
     ensures { OnOk result
         (text.new.items ≡ text.old.items ++ spec.foot_text language surveyed.now) }
 {
-    let count = surveyed.station().obs().len() as u32;
-    let (two_c, two_i) = faces_together(surveyed);
+    let (two_c, two_i) = means_of_faces(surveyed);
     text.push(b'\n')?;
-    push_line(
-        text,
-        field,
-        language,
-        Phrase::Mean,
-        two_c.over(count),
-        two_i.over(count),
-    )?;
+    push_line(text, field, language, Phrase::Mean, two_c.mean, two_i.mean)?;
     push_line(
         text,
         field,
         language,
         Phrase::HalfOfMean,
-        two_c.over(2 * count),
-        two_i.over(2 * count),
+        two_c.half,
+        two_i.half,
     )?;
     push_line(
         text,
         field,
         language,
         Phrase::Spread,
-        two_c.spread(),
-        two_i.spread(),
+        two_c.spread,
+        two_i.spread,
     )?;
     Ok(())
 }

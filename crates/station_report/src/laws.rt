@@ -1,5 +1,5 @@
 //! Laws of the definitions that contracts cite. The functions do nothing.
-ghost use Rattle.std.specs.Prelude.{◌≡◌, ◌≢◌, ◌≤◌, ℕ, ℤ, pos, ◌+ℤ◌, List, Option, length};
+ghost use Rattle.std.specs.Prelude.{◌≡◌, ◌≢◌, ◌≤◌, ℕ, ℤ, pos, ◌+ℤ◌, List, Option, codes, length};
 ghost use Rattle.adjust_kernel.specs.Matching.{Key};
 ghost use Rattle.adjust_kernel.specs.Stations.{StationValue};
 ghost use Rattle.station_book.specs.Faults.{angles_at};
@@ -7,6 +7,7 @@ ghost use Rattle.station_book.specs.Limits.{AreLimits, FaceLimits};
 ghost use Rattle.station_book.specs.Places.{History};
 ghost use Rattle.station_book.specs.Recorded.{IsRecordedWith};
 ghost use Rattle.station_book.specs.declared.faces.Faces.{Faces};
+ghost use Rattle.station_check.specs.declared.version.TheConstants.{VERSION};
 ghost use Rattle.report_notes.specs.Stated.{IsFree, IsOwnLabel};
 ghost use Rattle.report_phrases.specs.declared.language.Language.{Language};
 ghost use Rattle.station_report.specs.NoteTexts.{note_text};
@@ -61,4 +62,9 @@ pub fn one_computed()
 pub fn notes_apart()
     ensures { (language : Language) (label key said entry : List ℕ) → IsOwnLabel language label
         → IsFree language key → note_text key said ≢ entry_text label entry }
+{}
+
+/// The version that a report names.
+pub fn version()
+    ensures { VERSION.now ≡ codes "1.0.0" }
 {}

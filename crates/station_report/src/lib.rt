@@ -38,6 +38,7 @@ pub use columns::{push_count, push_left, push_right};
 pub use computed::Computed;
 pub use computing::{computed_by, computed_of};
 pub use deviation::{accuracy_by, degrees_of};
+pub use face_means::{FaceMean, means_of_faces, push_wide_mgon};
 pub use head::{Head, push_file};
 pub use labels::{push_label, push_phrase};
 pub use readings::{READ_UNIT, reading_one, reading_two, zenith_mean, zenith_one, zenith_two};

@@ -8,7 +8,7 @@ ghost use Rattle.station_report.specs.Readings as reading;
 ghost use Rattle.station_report.specs.ReportTexts as spec;
 ghost use Rattle.angle_texts.specs.MgonTexts.{short_mgon_text};
 
-use crate::columns::{push_left, push_right, push_right_number};
+use crate::columns::{GON, READ, push_left, push_right, push_right_number};
 use crate::face_means::{DIFFERENCES, push_foot};
 use crate::labels::push_phrase;
 use crate::lines::{Lines, push_lines};
@@ -84,6 +84,9 @@ fn first_value(station: &Station, set: usize) -> u32
     }
 }
 
+/// The width of the column of a set's number.
+const SET: usize = 5;
+
 /// Adds a field that was read, in units of 0.00001 gon.
 pub(crate) fn push_read(
     text: &mut Vec<u8>,
@@ -95,7 +98,7 @@ pub(crate) fn push_read(
 {
     field.clear();
     push_short_gon(field, READ_UNIT * u64::from(units))?;
-    push_right(text, 11, field)?;
+    push_right(text, READ, field)?;
     Ok(())
 }
 
@@ -110,7 +113,7 @@ pub(crate) fn push_mean(
 {
     field.clear();
     push_gon(field, HALF_UNIT * u64::from(half_units))?;
-    push_right(text, 13, field)?;
+    push_right(text, GON, field)?;
     Ok(())
 }
 
@@ -135,7 +138,7 @@ pub(crate) fn push_label(
     ensures { OnOk result (text.new.items ≡ text.old.items ++ spec.label_text station.now place) }
 {
     let obs = observation_at(station, place);
-    push_right_number(text, 5, number_of(station, obs.set as usize))?;
+    push_right_number(text, SET, number_of(station, obs.set as usize))?;
     text.extend_from_slice(b"  ")?;
     push_left(
         text,

@@ -6,7 +6,7 @@ ghost use Rattle.station_report.specs.ReportTexts as spec;
 ghost use Rattle.station_report.specs.ZenithSums.{AreSumsOf};
 ghost use Rattle.station_report.specs.Zeniths.{zenith_of, zeniths_of};
 
-use crate::columns::{push_left, push_right, push_right_number};
+use crate::columns::{GON, push_left, push_right, push_right_number};
 use crate::labels::push_phrase;
 use crate::lines::{Lines, push_lines};
 use crate::places::{faces_at, name_of, observation_at};
@@ -47,6 +47,12 @@ fn sums_of(surveyed: &Surveyed, target: usize) -> ZenithSums
     sums
 }
 
+/// The width of the column of how many sets have a target.
+const SETS: usize = 6;
+
+/// The width of the column of the standard deviation of a mean.
+const DEVIATION: usize = 20;
+
 /// Adds a field of the mean of zenith angles.
 fn push_mean(text: &mut Vec<u8>, field: &mut Vec<u8>, sums: ZenithSums) -> Result<(), AllocError>
     requires { 1 ≤ sums.count }
@@ -55,7 +61,7 @@ fn push_mean(text: &mut Vec<u8>, field: &mut Vec<u8>, sums: ZenithSums) -> Resul
 {
     field.clear();
     push_gon(field, UNIT * sums.mean())?;
-    push_right(text, 13, field)?;
+    push_right(text, GON, field)?;
     Ok(())
 }
 
@@ -82,7 +88,7 @@ fn push_deviation(
 {
     field.clear();
     push_units(field, sums)?;
-    push_right(text, 20, field)?;
+    push_right(text, DEVIATION, field)?;
     Ok(())
 }
 
@@ -92,7 +98,7 @@ fn push_numbers(text: &mut Vec<u8>, field: &mut Vec<u8>, sums: ZenithSums) -> Re
     ensures { (zeniths : List ℕ) → AreSumsOf zeniths sums → OnOk result
         (text.new.items ≡ text.old.items ++ spec.zenith_numbers_text zeniths) }
 {
-    push_right_number(text, 6, sums.count)?;
+    push_right_number(text, SETS, sums.count)?;
     push_mean(text, field, sums)?;
     push_deviation(text, field, sums)?;
     text.push(b'\n')?;
