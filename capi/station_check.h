@@ -173,10 +173,10 @@ uint8_t station_check_residuals(const void *gsi, size_t gsi_length,
                                 char *text, size_t room, size_t *length);
 
 /* The report of a station's sets: what was read in both faces, the least-squares directions, the
- * residuals, the greatest of them, and the standard deviation of one two-face direction, exactly
- * rounded; and the limits that were kept. It names the field file by `path`, which may be any
- * bytes: they are escaped as in the line of a digest, and other control bytes as \x1b. Its fixed
- * phrases are in a language, in UTF-8. */
+ * residuals, the greatest of them, the sum of their squares, and the standard deviations of one
+ * two-face direction and of each adjusted direction, exactly rounded; and the limits that were kept.
+ * It names the field file by `path`, which may be any bytes: they are escaped as in the line of a
+ * digest, and other control bytes as \x1b. Its fixed phrases are in a language, in UTF-8. */
 uint8_t station_check_report(const void *gsi, size_t gsi_length,
                              const char *path, size_t path_length,
                              const char *station, size_t station_length,
@@ -184,13 +184,15 @@ uint8_t station_check_report(const void *gsi, size_t gsi_length,
                              char *text, size_t room, size_t *length);
 
 /* All of a station, of one reading of the file and one adjustment: what station_check_directions
- * hands out, the titles and observations that `report --csv` prints, how accurate it is, and what
- * station_check_report hands out in English. Before each stands a line of its title, "directions",
- * "rows", "accuracy" or "report", a blank, and how many bytes it has. How accurate it is are two
- * lines: "degrees,deviation,of adjusted,squares", and the degrees of freedom, the standard deviations
- * of one two-face direction and of each adjusted direction in mgon, and the sum of the squares of all
- * residuals in mgon^2. Where there are no degrees of freedom the others are left out, and that of
- * each adjusted direction is where a set lacks a target. */
+ * hands out, the titles and observations that `report --csv` prints, how accurate it is, what its face
+ * differences say together, and what station_check_report hands out in English. Before each stands a
+ * line of its title, "directions", "rows", "accuracy", "faces" or "report", a blank, and how many bytes
+ * it has. How accurate it is are two lines: "degrees,deviation,of adjusted,squares", and the degrees
+ * of freedom, the standard deviations of one two-face direction and of each adjusted direction in
+ * mgon, and the sum of the squares of all residuals in mgon^2. Where there are no degrees of freedom
+ * the others are left out, and that of each adjusted direction is where a set lacks a target. Of the
+ * face differences are three: "difference,mean,half of mean,spread", and of "2c" and of "2i" their
+ * mean, half of it, and the greatest less the least, in mgon. */
 uint8_t station_check_station(const void *gsi, size_t gsi_length,
                               const char *path, size_t path_length,
                               const char *station, size_t station_length,

@@ -286,11 +286,13 @@ class Station(NamedTuple):
     prints, and a row of how accurate it is: the degrees of freedom, the standard deviations of one
     two-face direction and of each adjusted direction in mgon, and the sum of the squares of all
     residuals in mgon^2. Where there are no degrees the others are empty, and that of each adjusted
-    direction is where a set lacks a target."""
+    direction is where a set lacks a target. Of all 2c and of all 2i there is a row of their mean, half
+    of it, and the greatest less the least, in mgon."""
 
     directions: str
     rows: str
     accuracy: str
+    faces: str
     report: str
 
 

@@ -8,7 +8,8 @@ import {
 } from './files.js';
 import { commandOf, isWithin } from './limits.js';
 import {
-  accuracyIn, columnsIn, each, greatestOf, namedIn, partsIn, recognizedIn, residualsIn, rowsIn,
+  accuracyIn, columnsIn, each, facesIn, greatestOf, namedIn, partsIn, recognizedIn, residualsIn,
+  rowsIn,
 } from './rows.js';
 import { LANGUAGES, spoken } from './texts.js';
 
@@ -57,9 +58,10 @@ import { LANGUAGES, spoken } from './texts.js';
  * @typedef {AnyCard & { field?: undefined, station?: undefined }} FileCard
  * @typedef {StationCard | FieldCard | FileCard} Card
  * All that is answered of a station: the table of its directions, its residuals among the rows of
- * its report, that report, and where it is adjusted how accurate it is.
+ * its report, that report, and where it is adjusted how accurate it is, and what its face
+ * differences say together.
  * @typedef {{ directions: Answer, residuals: Answer, report: Answer,
- *   accuracy?: import('./rows.js').Accuracy }} Results
+ *   accuracy?: import('./rows.js').Accuracy, faces?: ReturnType<typeof facesIn> }} Results
  */
 
 /**
@@ -575,6 +577,7 @@ async function answersOf({ field, listed: { name } }, limits) {
     residuals: await of('rows', 'report', faces, ['--csv']),
     report: await of('report', 'report', faces),
     accuracy: parts && accuracyIn(parts.accuracy),
+    faces: parts && facesIn(parts.faces),
   };
 }
 

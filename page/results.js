@@ -8,7 +8,7 @@ import { readingsTables, zenithsTables } from './readings.js';
 import { showMeaning } from './refusals.js';
 import { differencesIn, readingsIn, residualsIn } from './rows.js';
 import {
-  accuracyNote, differencesTable, directionsTable, facesTables, residualsTable,
+  accuracyNote, differencesTable, directionsTable, faceMeansNote, facesTables, residualsTable,
 } from './tables.js';
 import { text } from './texts.js';
 
@@ -43,9 +43,9 @@ function showRefused(/** @type {Answer} */ answer, /** @type {Element} */ parent
  * @param {boolean} isOnPaper
  * @returns {Section[]}
  */
-function sectionsOfReadings({ station, results: { residuals } }, isOnPaper) {
+function sectionsOfReadings({ station, results: { residuals, faces: means } }, isOnPaper) {
   /** @type {Section} */
-  const faces = { title: text('faces'), fill: part => facesTables(station, part) };
+  const faces = { title: text('faces'), fill: part => facesTables(station, means, part) };
   if (residuals.status !== ACCEPTED) return [faces];
   const { listed: { name }, field } = station, unfolded = originalOf(field).unfolded ??= new Set();
   /** @type {(title: string, fill: (part: Element) => void) => Section} */
@@ -57,7 +57,10 @@ function sectionsOfReadings({ station, results: { residuals } }, isOnPaper) {
     return isOnPaper ? about : { ...about, isUnfolded: unfolded.has(key), unfold };
   };
   const read = readingsIn(residuals.line);
-  const readings = folded('readings', part => readingsTables(read, part));
+  const readings = folded('readings', part => {
+    readingsTables(read, part);
+    if (means && isOnPaper) faceMeansNote(means, part);
+  });
   const angles = folded('zeniths', part => zenithsTables(read, part));
   const isWanted = hasZeniths() || !isOnPaper;
   return [...isOnPaper ? [] : [faces], readings, ...isWanted ? [angles] : []];

@@ -254,6 +254,22 @@ export function accuracyIn(/** @type {string} */ text) {
 }
 
 /**
+ * What all 2c of a station, or all 2i, say together, as the call wrote it, in mgon: their mean, half
+ * of it, and the greatest less the least.
+ * @typedef {{ mean: string, half: string, spread: string }} FaceMean
+ */
+
+/**
+ * What the face differences of a station say together.
+ * @returns {{ twoC: FaceMean, twoI: FaceMean }}
+ */
+export function facesIn(/** @type {string} */ text) {
+  const [twoC, twoI] = rowsIn(text)
+    .map(({ mean, 'half of mean': half, spread }) => ({ mean, half, spread }));
+  return { twoC, twoI };
+}
+
+/**
  * The verdict on a table, field by field, as the call wrote it: that it agrees, or the name of the
  * fault; of which row, columns, target or observation that speaks; how far the table is apart, and
  * the limit, in units of 0.001 mgon.

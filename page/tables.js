@@ -123,18 +123,41 @@ export function accuracyNote({ degrees: n, deviation, ofAdjusted, squares }, par
   element('p', said.join(' '), parent, { className: 'quiet' });
 }
 
-/**
- * The kinds of face differences, and what is said of each.
- * @type {['twoC' | 'twoI', string][]}
- */
-const FACES = [['twoC', 'twoCCaption'], ['twoI', 'twoICaption']];
+/** @typedef {ReturnType<typeof import('./rows.js').facesIn>} FaceMeans */
 
-/** The face differences of a station, the greatest of each kind marked. */
-export function facesTables(/** @type {Station} */ station, /** @type {Element} */ parent) {
+/**
+ * The kinds of face differences, and what is said of each, and of what they say together.
+ * @type {['twoC' | 'twoI', string, string][]}
+ */
+const FACES = [['twoC', 'twoCCaption', 'twoCMean'], ['twoI', 'twoICaption', 'twoIMean']];
+
+/**
+ * What the face differences of some kinds say together, as the call wrote it.
+ * @param {FaceMeans} means
+ * @param {Element} parent
+ */
+export function faceMeansNote(means, parent, kinds = FACES) {
+  const said = kinds.map(([kind, , name]) => {
+    const { mean, half, spread } = means[kind];
+    const numbers = { mean: signedNumeral(mean), half: signedNumeral(half), spread: numeral(spread) };
+    return text(name, numbers);
+  });
+  element('p', said.join(' '), parent, { className: 'quiet' });
+}
+
+/**
+ * The face differences of a station, the greatest of each kind marked, and where it was adjusted what
+ * they say together.
+ * @param {Station} station
+ * @param {FaceMeans | undefined} means
+ * @param {Element} parent
+ */
+export function facesTables(station, means, parent) {
   const around = element('div', '', parent, { className: 'beside' });
   const pairs = pairsOf(station.listed);
   const sets = each(pairs.map(pair => pair.set)), targets = each(pairs.map(pair => pair.target));
-  for (const [name, caption] of FACES) {
+  for (const kind of FACES) {
+    const [name, caption] = kind;
     const greatest = pairs.map(pair => pair[name]).reduce((a, b) => sizeOf(b) > sizeOf(a) ? b : a);
     const byPlace = new Map(pairs.map(pair => [`${pair.set} ${pair.target}`, pair[name]]));
     /** @type {(set: string, target: string) => Cell | undefined} */
@@ -146,6 +169,7 @@ export function facesTables(/** @type {Station} */ station, /** @type {Element} 
     };
     const part = element('div', '', around);
     bySets(text(caption, { size: greatest.replace('-', '') }), targets, sets, cell, part, 'numbers');
+    if (means) faceMeansNote(means, part, [kind]);
   }
 }
 

@@ -3,6 +3,7 @@ use Rattle.std.specs.Prelude.{◌≡◌, ℕ, ◌*◌, List, [], ◌++◌, Optio
 use Rattle.adjust_kernel.specs.Stations.{StationValue}
 use Rattle.angle_texts.specs.MgonTexts.{mgon_text}
 use Rattle.direction_table.specs.Texts.{direction_text}
+use Rattle.least_directions.specs.LeastDirections.{IsAdjustable}
 use Rattle.station_report.specs.Deviations.{IsAccuracy, degrees_of}
 use Rattle.station_report.specs.declared.accuracy.Accuracy.{Accuracy}
 
@@ -32,8 +33,9 @@ accuracy_text station accuracy =
     codes "degrees,deviation,of adjusted,squares\n"
     ++ (decimal (degrees_of station) ++ (codes "," ++ (numbers_text accuracy ++ codes "\n")))
 
--- This is that text of a station.
+-- This is that text of a station whose directions can be adjusted: only such a one has an accuracy.
 pub record IsAccuracyText (station : StationValue) (text : List ℕ) : Type 0 where
+  pub adjustable : IsAdjustable station
   pub accuracy : Option Accuracy
   pub is_accuracy : IsAccuracy station accuracy
   pub text_is : text ≡ accuracy_text station accuracy

@@ -2,6 +2,7 @@
 -- needs them.
 pub mod Directions
 pub mod Accuracy
+pub mod Faces
 pub mod Parts
 pub mod Saying
 pub mod Answers

@@ -5,13 +5,13 @@ use Rattle.direction_table.specs.TableTexts.{names_of, table_text}
 use Rattle.direction_table.specs.Texts.{step_of}
 use Rattle.direction_table.specs.declared.table.TargetDirection.{TargetDirection}
 use Rattle.least_directions.proofs.LawLemmas.{one_list as one_rounded}
-use Rattle.least_directions.specs.LeastDirections.{IsAdjustable}
 use Rattle.report_rows.specs.RowTexts.{report_rows_text}
 use Rattle.report_rows.specs.Stating.{AreReportRows}
 use Rattle.row_forms.specs.declared.form.RowForm.{RowForm}
 use Rattle.row_forms.specs.declared.form.RowForm.TheVariants.{Commas}
 use Rattle.station_answers.specs.Accuracy.{IsAccuracyText, accuracy_text}
 use Rattle.station_answers.specs.Directions.{IsDirectionsText, numbers_of}
+use Rattle.station_answers.specs.Faces.{faces_text}
 use Rattle.station_answers.specs.Parts.{IsWholeText, whole_text}
 use Rattle.station_answers.specs.Saying.{SaysReport, SaysResiduals}
 use Rattle.station_answers.specs.Steps.{fits}
@@ -68,12 +68,12 @@ one_rows form its a b p q =
     ∙ sym q.text_is
 
 -- of how accurate it is,
-pub one_accuracy : (station : StationValue) (a b : List ℕ) → IsAdjustable station
-    → IsAccuracyText station a → IsAccuracyText station b → a ≡ b
-one_accuracy station a b adjustable p q =
+pub one_accuracy : (station : StationValue) (a b : List ℕ) → IsAccuracyText station a
+    → IsAccuracyText station b → a ≡ b
+one_accuracy station a b p q =
     p.text_is
     ∙ ap (accuracy_text station)
-    (one_accuracy_of station p.accuracy q.accuracy adjustable p.is_accuracy q.is_accuracy)
+    (one_accuracy_of station p.accuracy q.accuracy p.adjustable p.is_accuracy q.is_accuracy)
     ∙ sym q.text_is
 
 -- and of all of it.
@@ -84,9 +84,8 @@ one_whole count path limits its a b p q =
     let directions = one_directions its.station Commas count p.directions q.directions p.are_directions
     q.are_directions in
     let rows = one_rows Commas its p.rows q.rows p.are_rows q.are_rows in
-    let accuracy = one_accuracy its.station p.accuracy q.accuracy
-    p.are_directions.rounded.adjustable p.is_accuracy q.is_accuracy in
+    let accuracy = one_accuracy its.station p.accuracy q.accuracy p.is_accuracy q.is_accuracy in
     let report = one_report (unnoted path) limits its p.report q.report p.is_report q.is_report in
     p.text_is
-    ∙ (λ i. whole_text (directions i) (rows i) (accuracy i) (report i))
+    ∙ (λ i. whole_text (directions i) (rows i) (accuracy i) (faces_text its) (report i))
     ∙ sym q.text_is

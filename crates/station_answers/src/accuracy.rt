@@ -5,14 +5,10 @@ ghost use Rattle.station_answers.specs.Accuracy.{IsAccuracyText, numbers_text, o
 ghost use Rattle.station_report.specs.Computing.{IsComputedOf};
 ghost use Rattle.station_report.specs.Small.{AreSmall};
 
-use adjust_kernel::Station;
+use adjust_kernel::{Station, UNIT};
 use angle_texts::{push_gon, push_mgon};
 use station_report::{Accuracy, Computed, degrees_of, push_count};
 use std::alloc::{AllocError, Global};
-
-/// Squares of 0.001 mgon have six decimals, as directions in gon have: so many parts of these are
-/// one of the sixth.
-const PARTS: u64 = 1_000;
 
 /// The text of how accurate a station's directions are, by what was computed of it: titles, and a
 /// row of the degrees of freedom, of the standard deviations of one two-face direction and of each
@@ -56,7 +52,8 @@ fn push_accuracy(text: &mut Vec<u8>, accuracy: Accuracy) -> Result<(), AllocErro
     text.push(b',')?;
     push_of_adjusted(text, accuracy.of_adjusted)?;
     text.push(b',')?;
-    push_gon(text, PARTS * accuracy.squares)
+    // Squares of 0.001 mgon have six decimals in mgon^2, as directions have in gon.
+    push_gon(text, UNIT * accuracy.squares)
 }
 
 /// Adds the standard deviation of each adjusted direction in mgon; nothing where there is none.

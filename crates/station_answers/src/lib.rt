@@ -11,6 +11,7 @@ mod accuracy;
 mod answer;
 mod answering;
 mod directions;
+mod faces;
 pub mod laws;
 mod parts;
 mod report;

@@ -9,8 +9,9 @@ use station_compare::CompareFault;
 use station_report::{Head, computed_of, text_by};
 use std::alloc::Global;
 
-/// The report of a station: its readings and face differences, adjusted directions, residuals, the
-/// greatest of them, and the standard deviation of one two-face direction.
+/// The report of a station: its readings and face differences, zenith angles, adjusted directions,
+/// residuals, the greatest of them, the sum of their squares, and the standard deviations of one
+/// two-face direction and of each adjusted direction.
 ///
 /// All is exactly rounded, the middle of two upwards, and of the least-squares directions: least
 /// over all directions, orientations and full turns.

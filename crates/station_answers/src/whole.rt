@@ -10,6 +10,7 @@ ghost use Rattle.station_answers.specs.Saying.{SaysWhole};
 use crate::accuracy::accuracy_by;
 use crate::answer::StationAnswer;
 use crate::directions::{Directions, directions_by};
+use crate::faces::faces_by;
 use crate::parts::push_part;
 use direction_table::Decimals;
 use exact_adjustment::{Adjustment, adjust};
@@ -21,7 +22,8 @@ use station_report::{Head, computed_by, text_by as report_by};
 use std::alloc::{AllocError, Global};
 
 /// All of a station, of one adjustment: the table of its directions, the rows of its report, how
-/// accurate it is, and its report, each after a line of its title and of how many bytes it has.
+/// accurate it is, what its face differences say together, and its report, each after a line of its
+/// title and of how many bytes it has.
 ///
 /// The directions, the rows and the report are those of [`crate::Directions`],
 /// [`crate::ReportRows`] and [`crate::Report`], to the byte.
@@ -75,12 +77,13 @@ fn text_by(
     let directions = directions_by(alloc, station, adjustment, asked)?;
     let rows = rows_by(alloc, surveyed, &computed.rows, RowForm::Commas)?;
     let accuracy = accuracy_by(alloc, station, &computed)?;
+    let faces = faces_by(alloc, surveyed)?;
     let head = Head {
         path: whole.path,
         notes: None,
     };
     let report = report_by(alloc, head, limits, surveyed, &computed, &[])?;
-    let text = joined(alloc, &directions, &rows, &accuracy, &report)?;
+    let text = joined(alloc, &directions, &rows, &accuracy, &faces, &report)?;
     Ok(text)
 }
 
@@ -90,15 +93,17 @@ fn joined(
     directions: &[u8],
     rows: &[u8],
     accuracy: &[u8],
+    faces: &[u8],
     report: &[u8],
 ) -> Result<Vec<u8>, AllocError>
-    ensures { IfOk result (λ text.
-        text.items ≡ whole_text directions.now rows.now accuracy.now report.now) }
+    ensures { IfOk result (λ text. text.items
+        ≡ whole_text directions.now rows.now accuracy.now faces.now report.now) }
 {
     let mut text = Vec::new(alloc);
     push_part(&mut text, b"directions", directions)?;
     push_part(&mut text, b"rows", rows)?;
     push_part(&mut text, b"accuracy", accuracy)?;
+    push_part(&mut text, b"faces", faces)?;
     push_part(&mut text, b"report", report)?;
     Ok(text)
 }

@@ -186,7 +186,8 @@ abbrev pub IsReportOf : ℕ → ℕ → List ℕ → ReportHead → List ℕ →
 IsReportOf two_c two_i gsi head name = IsTextOf (SaysReport head) two_c two_i gsi name
 
 -- It is all of it: its directions with so many decimals, the rows of its report, how accurate it
--- is, and its report, which names the field file by these bytes of a path.
+-- is, what its face differences say together, and its report, which names the field file by these
+-- bytes of a path.
 abbrev pub IsWholeOf : ℕ → ℕ → List ℕ → List ℕ → List ℕ → ℕ → ℕ → ℕ → List ℕ → Type 0
 IsWholeOf two_c two_i gsi path name decimals =
     IsTextOf (SaysWhole decimals path) two_c two_i gsi name

@@ -15,7 +15,7 @@ use std::alloc::{AllocError, Global};
 
 /// Hands out the lines that a report has of what a whole field file recorded of instrument and time:
 /// one for each of its words 12, 13, 17, 18 and 19 that it has, as they stand. Of a file that has a
-/// fault no more is promised than that lines are handed out.
+/// fault nothing is promised of the text.
 ///
 /// The language is 0 for English, 1 for German and 2 for French. Answers 0 for the lines, 1 where
 /// there was no memory, 2 for another language, and 3 where `out` has too little room.

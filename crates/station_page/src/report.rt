@@ -18,8 +18,8 @@ use std::alloc::Global;
 
 /// Hands out the report of the station of this name, of a whole field file, whose name stands in
 /// the report: what was read in both faces, the least-squares directions, the residuals, the
-/// greatest of them, and the standard deviation of one two-face direction, exactly rounded; or the
-/// line of the refusal.
+/// greatest of them, the sum of their squares, and the standard deviations of one two-face direction
+/// and of each adjusted direction, exactly rounded; or the line of the refusal.
 ///
 /// The limits of 2c and 2i are in units of 0.00001 gon, at most 1,000,000; the language is 0 for
 /// English, 1 for German and 2 for French. Answers 0 for the report, 1 for a refusal, 2 for a number

@@ -13,8 +13,9 @@ use std::alloc::Global;
 
 /// Hands out all that is answered of the station of this name, of a whole field file, by one
 /// reading and one adjustment: what `station_page_directions` hands out, the rows of its report,
-/// how accurate it is, and what `station_page_report` hands out, each after a line of its title and
-/// of how many bytes it has; or the line of the refusal.
+/// how accurate it is, what its face differences say together, and what `station_page_report` hands
+/// out in English, each after a line of its title and of how many bytes it has; or the line of the
+/// refusal.
 ///
 /// The limits of 2c and 2i are in units of 0.00001 gon, at most 1,000,000; the directions have 1 to
 /// 8 decimals. Answers 0 for the text, 1 for a refusal, 2 for a number out of its range, and 3 where

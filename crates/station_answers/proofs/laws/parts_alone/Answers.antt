@@ -1,6 +1,7 @@
-use Rattle.std.proofs.Common.{ℕ, List}
+use Rattle.std.proofs.Common.{ℕ, List, refl}
 use Rattle.gsi_file.specs.FileAnswers.{FileAnswers}
 use Rattle.station_answers.specs.Answers.{StatesOf}
+use Rattle.station_answers.specs.Faces.{faces_text}
 use Rattle.station_answers.specs.Saying.{SaysWhole}
 use Rattle.station_book.specs.Stations.{SurveyedStation}
 use Rattle.station_book.specs.declared.result_limits.ResultLimits.{ResultLimits}
@@ -26,6 +27,8 @@ returns c = λ limits file name path text count s.
       accuracy = whole.accuracy;
       states_accuracy = answered limits file name path text count s whole.accuracy
           whole.is_accuracy;
+      faces = faces_text s.its;
+      states_faces = answered limits file name path text count s (faces_text s.its) refl;
       report = whole.report;
       states_report = answered limits file name path text count s whole.report whole.is_report;
       text_is = whole.text_is;

@@ -1,5 +1,6 @@
 use Rattle.std.proofs.Common.{◌∙◌, ap, length, rules}
 use Rattle.station_results.proofs.GreatestLaws.{as_many_rows}
+use Rattle.station_answers.specs.Parts.{whole_text}
 use Rattle.station_answers.proofs.whole.text_by.Goals as goal
 
 pub text_of-requires : goal.text_of-requires
@@ -23,5 +24,8 @@ returns c = record {
   is_accuracy = rw c.station-station.ensures at c.in_ok-accuracy.ensures;
   report = c.in_ok-report.report.items;
   is_report = search rules;
-  text_is = search rules;
+  text_is = c.in_ok-text.ensures
+      ∙ (λ i. whole_text (c.deref-2.ensures.value i) (c.deref-3.ensures.value i)
+      (c.deref-4.ensures.value i) ((c.deref-5.ensures.value ∙ c.in_ok-faces.ensures) i)
+      (c.deref-6.ensures.value i));
 }
