@@ -64,8 +64,12 @@ AT_ENDS = re.compile(rb"^(?:\xef\xbb\xbf|\x1a)+|\x1a+$")
 UTF_16 = (codecs.BOM_UTF16_LE, codecs.BOM_UTF16_BE)
 
 # So many readings at most stand before the first set, as orientation sights; and so many where each
-# target is sighted once, in the face in which the sets begin or in both.
+# target is sighted once, in the face in which the sets begin or in both, but the first perhaps again
+# at the end.
 MOST_BEFORE, MOST_SIGHTED = 3, 200
+
+# A sight in both faces has so many readings, and a set so many at least.
+PAIR, FEWEST_OF_SET = 2, 4
 
 # A block, or those from one to another, or to the end.
 NUMBERS = re.compile(r"([1-9]\d*)(?:(-)([1-9]\d*)?)?")
@@ -423,22 +427,33 @@ def without_again(readings: list[Block]) -> list[Block]:
     return kept
 
 
+def without_closing(readings: list[Block]) -> list[Block]:
+    """Readings without those behind the first, at their end and a pair at most, that read its target
+    again."""
+    end = len(readings)
+    while end > max(1, len(readings) - PAIR) and readings[end - 1].target() == readings[0].target():
+        end -= 1
+    return readings[:end]
+
+
 def may_stand_before(readings: list[Block], face: int) -> bool:
     """Whether readings may be sights that belong to none of the sets, which begin in this face: a
-    target may have been sighted again at once."""
+    target may have been sighted again at once, and the first one at the end."""
     if len(readings) > MOST_BEFORE:
-        return are_sighted_once(without_again(readings), face)
+        opened = without_again(readings), without_closing(readings)
+        return any(are_sighted_once(sights, face) for sights in opened)
     in_this = {reading.target() for reading in readings if reading.face() == face}
     return {reading.target() for reading in readings} <= in_this
 
 
 def counts_before(readings: list[Block]) -> range:
     """How many readings may stand before sets, of which one has at least four: three, or more up to
-    where a target is sighted in a face once more, but for one that is at once read again."""
+    where a target is sighted in a face once more, but for one that is at once read again, and for the
+    first one in both faces."""
     first = readings[:MOST_SIGHTED]
     kept = without_again(first)
-    once = [len(part) + len(first) - len(kept) for part in read_once(kept)[:1]]
-    most = min(max([MOST_BEFORE, *once]), len(readings) - 4)
+    once = [len(part) + len(first) - len(kept) + PAIR for part in read_once(kept)[:1]]
+    most = min(max([MOST_BEFORE, *once]), len(readings) - FEWEST_OF_SET)
     return range(max(most, 0) + 1)
 
 

@@ -149,11 +149,14 @@ function readOnce(/** @type {Reading[]} */ readings) {
 
 // ---------------------------------------------------------------- whole sets
 
-/** So many readings at most stand before the first set; more where each target is sighted once. */
+/**
+ * So many readings at most stand before the first set; more where each target is sighted once, but
+ * the first perhaps again.
+ */
 const MOST_BEFORE = 3, MOST_SIGHTED = 200;
 
-/** So many readings has a set at least. */
-const FEWEST_OF_SET = 4;
+/** A sight in both faces has so many readings, and a set so many at least. */
+const PAIR = 2, FEWEST_OF_SET = 4;
 
 /**
  * Whether each target is read in both faces, and there are two at least: all in one face and then
@@ -201,21 +204,33 @@ function withoutAgain(/** @type {Reading[]} */ readings) {
 }
 
 /**
+ * Readings without those behind the first, at their end and a pair at most, that read its target
+ * again.
+ */
+function withoutClosing(/** @type {Reading[]} */ readings) {
+  const others = readings.map(({ target }) => target !== readings[0].target).lastIndexOf(true) + 1;
+  return readings.slice(0, Math.max(others, readings.length - PAIR, 1));
+}
+
+/**
  * Whether readings may be sights that belong to none of the sets, which begin in this face: a target
- * may have been sighted again at once.
+ * may have been sighted again at once, and the first one at the end.
  * @param {Reading[]} readings
  * @param {number} face
  */
 function mayStandBefore(readings, face) {
-  const count = countedIn(readings);
-  return readings.length > MOST_BEFORE ? areSightedOnce(withoutAgain(readings), face)
+  const count = countedIn(readings), opened = [withoutAgain(readings), withoutClosing(readings)];
+  return readings.length > MOST_BEFORE ? opened.some(sights => areSightedOnce(sights, face))
     : readings.every(({ target }) => count(target, face) > 0);
 }
 
-/** How many readings may stand before sets: none, and each number up to the greatest. */
+/**
+ * How many readings may stand before sets: none, and each number up to the greatest: up to where a
+ * target is sighted in a face once more, and a pair for the first one again.
+ */
 function countsBefore(/** @type {Reading[]} */ readings) {
   const first = readings.slice(0, MOST_SIGHTED), kept = withoutAgain(first);
-  const [once = []] = readOnce(kept), again = first.length - kept.length;
+  const [once = []] = readOnce(kept), again = first.length - kept.length + PAIR;
   const most = Math.min(Math.max(MOST_BEFORE, once.length + again), readings.length - FEWEST_OF_SET);
   return Array.from({ length: Math.max(most, 0) + 1 }, (_, before) => before);
 }

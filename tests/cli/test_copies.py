@@ -77,7 +77,7 @@ WAYS = {
 
 def sights_before(targets):
     """Sights before the sets, three at most: to their targets and to another, X, in one face or in
-    both; or more to different targets."""
+    both; or more to different targets, the first of which may be sighted again at the end."""
     for one in [*targets, "X"]:
         yield from (one, one + one.lower(), one.lower() + one)
         for other in [*targets, "X"]:
@@ -85,6 +85,7 @@ def sights_before(targets):
             yield from (one + other, one + pair, pair + one, one + other + one)
             yield from (other + other + pair, one + one + pair, pair + one + one)
             yield from (one + one.lower() + pair, one.lower() + one + pair)
+    yield from (pairs_of("BXB"), pairs_of("XBX"), "BXAB", "BAaXB", pairs_of("BAXB"))
     yield from (targets + "XY", pairs_of(targets), "XY" + pairs_of(targets[-1]))
 
 
@@ -316,7 +317,7 @@ class PrepareTest(ProgramTest):
                 numbers = list(range(len(whole) + 1, len(whole) + end + 1))
                 self.assertIn(found, ([], numbers), whole + one[:end])
                 counts[bool(found)] += 1
-        self.assertGreater(counts[True], 2 * counts[False], counts)
+        self.assertGreater(2 * counts[True], 3 * counts[False], counts)
 
     def changed(self, field, args, expected):
         """Compares the copy, and looks at the log: each line as it was and as it is."""
