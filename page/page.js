@@ -121,7 +121,7 @@ function drawVerdict() {
     });
   });
   part.className = said[0].mood;
-  document.title = [...answerInShort(said), NAME].join(' \u2013 ');
+  nameTab(said);
 }
 
 /** What the page is called where nothing is answered, and not printed. */
@@ -133,6 +133,11 @@ function answerInShort(/** @type {{ said: string, isLeading?: boolean }[]} */ sa
   if (phase.is !== 'done' || !card) return [];
   return cards.length > 1 ? [said.map(one => one.said).join(text('between'))]
     : [text('labelled', { label: text(MOODS[card.mood]), said: titleOf(card) })];
+}
+
+/** Names the tab by what it says of the answers, and the page. */
+function nameTab(said = verdicts()) {
+  document.title = [...answerInShort(said), NAME].join(' \u2013 ');
 }
 
 /** Leads to a card, or to what it asks for. */
@@ -470,13 +475,9 @@ const desk = {
   },
 };
 
-/** What the page was called before it was printed. */
-let unprinted = NAME;
-
 onbeforeprint = () => {
   const { inputs, limits, only } = now, cards = isStale() ? [] : now.cards;
   const [alone] = only ? [only] : cards.length === 1 ? cards : [];
-  unprinted = document.title;
   // (by its title the file is called that a browser prints to)
   if (inputs.length > 0)
     document.title = alone ? nameOfProtocol(alone) : text('contents', { n: inputs.length });
@@ -487,7 +488,7 @@ onbeforeprint = () => {
     showProtocols(inputs, cards, limits, $('verdict').textContent ?? '', $('protocol'));
 };
 onafterprint = () => {
-  document.title = unprinted;
+  nameTab();
   now = { ...now, only: undefined };
 };
 

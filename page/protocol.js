@@ -153,15 +153,19 @@ const HAS_NO_FEET = !('CSSMarginRule' in window);
 
 /**
  * Has each page of a protocol say what it is of, at its foot. Browsers that write nothing there
- * have a line that stands on all pages that are printed: so it is that of what comes first.
+ * have a line that stands on all pages that are printed: so it is that of what comes first. Of others
+ * it is the foot of a table, which they repeat on each page.
  * @param {HTMLElement} part
  * @param {string} said
  * @param {string} page its name, where others are printed too
  */
 function nameItsPages(part, said, page) {
   if (HAS_NO_FEET) {
-    part.classList.add('footed');
-    if (page !== '') return;
+    part.classList.add(page ? 'apart' : 'footed');
+    if (page) {
+      element('span', said, element('p', '', part, { className: 'own' }));
+      return;
+    }
     element('style', '@page { margin-bottom: 6mm }', part);
     element('p', said, part, { className: 'each' });
     return;

@@ -560,6 +560,26 @@ class PageInBrowserTest(TimedTest):
         self.assertIn("Field file            station_p7.gsi\n", report)
         self.assertIn(f"\nStandard deviation    {deviation:.3f} mgon, of one two-face direction\n", report)
 
+    def test_what_face_differences_say_together_is_shown(self):
+        """Below their tables, and on paper below the readings."""
+        page = self.page(P7_FIELD)
+        tables = page.js(
+            "[...document.querySelectorAll('.results table')].slice(2).map(table => [...table.querySelectorAll('td')]"
+            ".map(cell => cell.textContent.replace('\u2212', '-')).filter(cell => cell !== '\u00d7'))"
+        )
+        said = []
+        for name, error, cells in zip(("2c", "2i"), ("collimation", "index"), tables):
+            numbers = [Fraction(cell) for cell in cells]
+            mean = sum(numbers) / len(numbers)
+            of_all, half = (math.floor(100 * one + Fraction(1, 2)) / 100 for one in (mean, mean / 2))
+            spread = float(max(numbers) - min(numbers))
+            text = f"{name}: mean {of_all:+.2f}, half of it {half:+.2f} ({error} error), spread {spread:.2f}."
+            said.append(text.replace("-", "\u2212"))
+        self.assertEqual((2, 22), (len(tables), len(tables[0])))
+        self.assertEqual(said, [one for one in page.texts(".results .quiet") if "spread" in one])
+        page.js("onbeforeprint()")
+        self.assertIn(" ".join(said), page.texts("#protocol .quiet"))
+
     def test_where_there_is_no_adjustment_it_is_said_once(self):
         case = ROOT / "conformance" / "refused" / "adjustment" / "fault_adjust_residual_for_report_rows"
         line = (case / "stderr").read_text().splitlines()[0]
@@ -1782,7 +1802,8 @@ class PageInBrowserTest(TimedTest):
         page = self.page(self.file("wide.gsi", bench.field_file(bench.Shape("wide", *WIDE)).encode()))
         pages = self.printed(page)
         text = "".join(pages)
-        shown = " ".join(page.texts(".results td, #protocol .across .caption, #protocol .picture text"))
+        told = "#protocol .across .caption, #protocol .quiet, #protocol .picture text"
+        shown = " ".join(page.texts(".results td, " + told))
         values = re.compile(r"(?<![\d.])[+\u2212]\d+\.\d\d\d?(?!\d)")
         self.assertEqual(Counter(values.findall(shown)), Counter(values.findall(text)))
         for number, one in enumerate(pages, 1):

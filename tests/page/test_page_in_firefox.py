@@ -56,14 +56,32 @@ class PageInFirefoxTest(StepsTest):
             )
             self.assertEqual(expected, shown)
 
+    def pages(self, page):
+        """The text of each page of paper."""
+        to_text = ["pdftotext", "-layout", "-", "-"]
+        said = subprocess.run(to_text, input=page.printed(), stdout=subprocess.PIPE, check=True).stdout.decode()
+        return said.split("\f")[:-1]
+
+    @unittest.skipUnless(shutil.which("pdftotext"), "no pdftotext is found")
+    def test_each_of_several_protocols_has_its_own_name_on_its_pages(self):
+        page = self.page()
+        page.drop(ROOT / "examples" / "station_p7.gsi", ROOT / "examples" / "station_s1.gsi")
+        until(lambda: page.js("return document.querySelectorAll('details.results').length === 2"))
+        page.js("for (const one of document.querySelectorAll('details.results')) one.open = true")
+        until(lambda: page.js("return document.querySelectorAll('.results.filled').length === 2"))
+        names = ["Protocol of sets: Station P7, station_p7.gsi", "Protocol of sets: Station S1, station_s1.gsi"]
+        contents, *others = self.pages(page)
+        self.assertEqual([0, 0], [contents.count(name) for name in names])
+        found = [[name for name in names if name in one] for one in others]
+        self.assertEqual([[name] for name in names], found)
+
     @unittest.skipUnless(shutil.which("pdftotext"), "no pdftotext is found")
     def test_the_protocol_of_a_usual_station_has_one_page(self):
         page = self.page()
         page.drop(*EXAMPLES[:2])
         until(lambda: page.text(".results.filled"))
-        to_text = ["pdftotext", "-layout", "-", "-"]
-        said = subprocess.run(to_text, input=page.printed(), stdout=subprocess.PIPE, check=True).stdout.decode()
-        self.assertEqual(1, said.count("\f"))
+        said, *others = self.pages(page)
+        self.assertEqual([], others)
         for text in ("Protocol of sets: Station P7", "Residuals as a picture", "SHA-256 of the module inside"):
             self.assertIn(text, said)
 
@@ -75,9 +93,7 @@ class PageInFirefoxTest(StepsTest):
         wide.write_text(bench.field_file(bench.Shape("wide", *WIDE)))
         page.drop(wide)
         until(lambda: page.text(".results.filled"))
-        to_text = ["pdftotext", "-layout", "-", "-"]
-        said = subprocess.run(to_text, input=page.printed(), stdout=subprocess.PIPE, check=True).stdout.decode()
-        pages = [[line.strip() for line in one.splitlines() if line.strip()] for one in said.split("\f")[:-1]]
+        pages = [[line.strip() for line in one.splitlines() if line.strip()] for one in self.pages(page)]
         self.assertGreater(len(pages), 5)
         name = "Protocol of sets: Station S1, wide.gsi"
         for number, lines in enumerate(pages, 1):
