@@ -154,12 +154,7 @@ fn own_text<E: EachAnswer>(
 }
 
 /// Writes that text, and flushes once.
-///
-/// # Errors
-///
-/// Those of the text; `Write` where a call of the writer failed. At any other nothing was asked of
-/// the writer.
-pub fn write_answer_of_all<R: Source, A: StationAnswer, W: Sink>(
+fn write_answer_of_all<R: Source, A: StationAnswer, W: Sink>(
     alloc: Global,
     gsi: R,
     limits: ResultLimits,

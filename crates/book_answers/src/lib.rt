@@ -15,8 +15,8 @@ mod part;
 mod refusal;
 mod table;
 
-pub use answering::{NotedText, answer_of_all, run_answer_of_all, write_answer_of_all};
+pub use answering::{NotedText, answer_of_all, run_answer_of_all};
 pub use arrangement::Arrangement;
 pub use part::{PartAsked, PartText};
 pub use refusal::{LONGEST_STATION_REFUSAL, StationRefusal, StationRefusalText, refusal_text};
-pub use table::{run_table_answer_of_all, table_answer_of_all, write_table_answer_of_all};
+pub use table::{run_table_answer_of_all, table_answer_of_all};

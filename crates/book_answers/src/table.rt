@@ -1,7 +1,7 @@
 //! The one text of all stations of a field file and of a table of their directions: answered,
 //! written, and run as a command.
-ghost use Rattle.std.specs.Prelude.{◌≡◌, ◌≤◌, length};
-ghost use Rattle.book_answers.specs.Refusals.{fault_of, named_refusal_text};
+ghost use Rattle.std.specs.Prelude.{◌≡◌, ◌≤◌, IfOk, Ok, length};
+ghost use Rattle.book_answers.specs.Refusals.{fault_of, named_refusal_text, of_no_one};
 ghost use Rattle.book_answers.specs.Tables as tables;
 ghost use Rattle.book_answers.specs.Tables.{IsRunOfTable, TellsTexts, notes_of};
 ghost use Rattle.book_answers.specs.TableTexts.{IsOfBytes, IsOfInput, stray_refusal};
@@ -9,8 +9,9 @@ ghost use Rattle.byte_ends.specs.Came.{BytesCame, Leaves};
 ghost use Rattle.byte_ends.specs.Input.{input_within};
 ghost use Rattle.byte_ends.specs.Source.{reader_change, UntilDropped};
 ghost use Rattle.byte_ends.specs.Writers.{writer_change};
-ghost use Rattle.station_check.specs.RunEndings.{RunWithNotes, Tells};
+ghost use Rattle.station_check.specs.RunEndings.{PrintsAnswer, RunWithNotes, Tells};
 ghost use Rattle.station_compare.specs.Answers.{table_left};
+ghost use Rattle.station_compare.specs.declared.fault.CompareFault.TheVariants.{Write};
 ghost use Rattle.station_tables.specs.declared.line.TheConstants.{LONGEST_TABLES};
 ghost use Rattle.table_answers.specs.Answers.{ReadsBoth};
 
@@ -129,27 +130,17 @@ fn arrangement_of(text: PartText) -> Arrangement
     }
 }
 
-/// Writes that text, and flushes once; then gives it, with its notes.
-///
-/// # Errors
-///
-/// Those of the text; `Write` where a call of the writer failed. At any other nothing was asked of
-/// the writer.
-pub fn write_table_answer_of_all<R: Source, Q: Source, W: Sink>(
-    alloc: Global,
-    gsi: R,
-    table: &mut Q,
-    limits: ResultLimits,
-    asked: PartAsked,
-    writer: &mut W,
+/// Prints the text of an answer, flushes once, and passes on the answer; or its refusal.
+fn print_told<W: Sink>(
+    answer: Result<NotedText, StationRefusal>,
+    out: &mut W,
 ) -> Result<NotedText, StationRefusal>
-    ensures { UntilDropped R.told R.failed R.gave gsi (λ gsi. IsRunOfTable asked limits gsi
-        (reader_change Q.told Q.failed Q.gave table.old table.new) result
-        (writer_change W.Sink writer.old writer.new)) }
+    ensures printed { PrintsAnswer (λ told. told.text.items) (of_no_one Write) answer result
+        (writer_change W.Sink out.old out.new) }
+    ensures given { IfOk result (λ told. answer ≡ Ok told) }
 {
-    let (answer, _gsi) = table_answer_of_all(alloc, gsi, table, limits, asked);
     let told = answer?;
-    write_whole(writer, &told.text)?;
+    write_whole(out, &told.text)?;
     Ok(told)
 }
 
@@ -171,7 +162,8 @@ pub fn run_table_answer_of_all<R: Source, Q: Source, W: Sink, E: Sink>(
         result (writer_change W.Sink out.old out.new)
         (writer_change E.Sink err.old err.new)) }
 {
-    match write_table_answer_of_all(alloc, gsi, table, limits, asked, out) {
+    let (answer, _gsi) = table_answer_of_all(alloc, gsi, table, limits, asked);
+    match print_told(answer, out) {
         Ok(told) => tell(&told.notes, err),
         Err(refused) => refuse_by(refusal_text(&refused).as_slice(), err),
     }

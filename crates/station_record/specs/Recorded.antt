@@ -9,7 +9,6 @@ use Rattle.gsi_file.specs.FileAnswers.{FileAnswers}
 use Rattle.instrument_reports.specs.Answers.{SaysReportOf, SaysTableReportOf}
 use Rattle.instrument_reports.specs.Printing.{as_printed}
 use Rattle.report_phrases.specs.Phrases.{said}
-use Rattle.report_phrases.specs.declared.language.Language.{Language}
 use Rattle.report_phrases.specs.declared.phrase.Phrase.TheVariants as phrase
 use Rattle.sha2.specs.Sha256.{sha256}
 use Rattle.station_answers.specs.Answers.{TellsOf}
@@ -88,36 +87,41 @@ IsRecordedCompare form limits within station gsi gsi_name table table_name r not
     IsRecordedBoth (λ _. SaysComparison form within limits) (PrintsRecorded gsi_name table_name) form
     limits gsi table station r note out
 
--- The text of a report in a language, and then its digest: that of its field file, beside its name.
-abbrev pub recorded_report_text : Language → List ℕ → List ℕ → List ℕ → List ℕ
-recorded_report_text language text gsi gsi_name =
-    text ++ (said language phrase.Digests ++ digest_line gsi gsi_name)
+-- The text of a report of this head as it is printed, with the digest of its field file behind it.
+abbrev pub recorded_report_text : ReportHead → List ℕ → List ℕ → List ℕ
+recorded_report_text head gsi text = as_printed head.notes
+    (text ++ (said head.notes.language phrase.Digests ++ digest_line gsi head.path))
 
--- The same of a report with a table: the digests of the field file and of the table.
-abbrev pub recorded_both_text : Language → List ℕ → List ℕ → List ℕ → List ℕ → List ℕ → List ℕ
-recorded_both_text language text gsi gsi_name table table_name =
-    text ++ recorded_text (said language phrase.Digests) gsi gsi_name table table_name
+-- The same of a report with a table: with the digests of the field file and of the table.
+abbrev pub recorded_both_text : ReportAsked → List ℕ → List ℕ → List ℕ → List ℕ
+recorded_both_text asked gsi table text = as_printed asked.head.notes
+    (text ++ recorded_text (said asked.head.notes.language phrase.Digests) gsi asked.head.path table
+    asked.table_path)
 
--- A run of the report that is recorded: all that the report promises of its text, with the hint of a
--- refusal, and how it was printed. The digest is that of the very bytes that the reader gave and
--- that the promise speaks of.
-pub record IsRecordedReport {A : Type 0} (head : ReportHead) (limits : ResultLimits)
-    (gsi : ReaderChange) (station : List ℕ) (r : Result A Refusal) (out : WriterChange)
-    : Type 0 where
+-- A run of what is answered of one station that is recorded: all that is promised of its text, with
+-- the hint of a refusal, and how that was printed with a digest: that of the very bytes that the
+-- reader gave and that the promise speaks of.
+pub record IsRecordedOf {A : Type 0} (Says : FileAnswers → SurveyedStation → List ℕ → Type 0)
+    (print : List ℕ → List ℕ → List ℕ) (limits : ResultLimits) (gsi : ReaderChange)
+    (station : List ℕ) (r : Result A Refusal) (out : WriterChange) : Type 0 where
   pub answer : Result (List ℕ) Refusal
   pub tells : ReadsFieldFile gsi (by_fault answer)
-      (λ file. TellsOf (SaysReportOf file head limits) limits file station (by_fault answer)
+      (λ file. TellsOf (Says file) limits file station (by_fault answer)
       × IsHinted limits file station answer)
-  pub printed : PrintsAnswer (λ text. as_printed head.notes (recorded_report_text
-      head.notes.language text (sha256 tells.came.given) head.path))
-      (unhinted compare.Write) answer r out
+  pub printed : PrintsAnswer (print (sha256 tells.came.given)) (unhinted compare.Write) answer r out
+
+-- A recorded run of the report.
+abbrev pub IsRecordedReport : {A : Type 0} → ReportHead → ResultLimits → ReaderChange → List ℕ
+    → Result A Refusal → WriterChange → Type 0
+IsRecordedReport head limits gsi station r out =
+    IsRecordedOf (λ file. SaysReportOf file head limits) (recorded_report_text head) limits gsi
+    station r out
 
 -- What is made of a report with a table: its text and the digests, and its verdict.
 abbrev pub PrintsRecordedReport : {A : Type 0} → ReportAsked → List ℕ → List ℕ → ReportValue
     → Result A CompareFault → WriterChange → Type 0
 PrintsRecordedReport asked gsi table report r out =
-    PrintsVerdict (as_printed asked.head.notes (recorded_both_text asked.head.notes.language
-    report.text gsi asked.head.path table asked.table_path)) report.beyond r out
+    PrintsVerdict (recorded_both_text asked gsi table report.text) report.beyond r out
 
 -- A recorded run of the report with a table.
 abbrev pub IsRecordedTableReport : {A : Type 0} → ReportAsked → ResultLimits → ReaderChange

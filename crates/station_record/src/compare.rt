@@ -88,11 +88,11 @@ fn print_verdict<W: Sink>(
 }
 
 /// An answer, and the note of its table: no byte where there is no answer.
-pub(crate) fn parts_of<T: Drop>(
+fn parts_of(
     alloc: Global,
-    noted: Result<Noted<T>, Refusal>,
-) -> (Result<T, Refusal>, Vec<u8>)
-    ensures { ArePartsOf noted result.0 result.1.items }
+    noted: Result<Noted<Compared>, Refusal>,
+) -> (Result<Compared, Refusal>, Vec<u8>)
+    ensures { ArePartsOf (λ own whole. whole ≡ own) noted result.0 result.1.items }
 {
     match noted {
         Ok(noted) => (Ok(noted.answer), noted.note),

@@ -3,7 +3,6 @@
 ghost use Rattle.std.specs.Prelude.{⊤};
 ghost use Rattle.byte_ends.specs.Writers.{writer_change};
 ghost use Rattle.byte_ends.specs.Source.{UntilDropped};
-ghost use Rattle.instrument_reports.specs.Printing.{as_printed};
 ghost use Rattle.station_check.specs.RunEndings.{Run};
 ghost use Rattle.station_compare.specs.Refusals.{refusal_text};
 ghost use Rattle.station_report.specs.NoteTexts.{head_of};
@@ -55,9 +54,8 @@ fn recorded_report(
     gsi: &[u8; 32],
     head: Head<'_, '_>,
 ) -> Result<Vec<u8>, Refusal>
-    ensures { IsMadeOf (λ text. text.items) (λ text. as_printed (head_of head.entry).notes
-        (recorded_report_text (head_of head.entry).notes.language text gsi.now
-        head.entry.path.now)) answer result }
+    ensures { IsMadeOf (λ text. text.items) (recorded_report_text (head_of head.entry) gsi.now)
+        answer result }
 {
     let text = answer?;
     Ok(with_digest(alloc, text, gsi, head)?)

@@ -3,14 +3,14 @@
 ghost use Rattle.std.specs.Prelude.{⊤};
 ghost use Rattle.byte_ends.specs.Writers.{writer_change};
 ghost use Rattle.byte_ends.specs.Source.{UntilDropped};
-ghost use Rattle.instrument_reports.specs.Printing.{IsNotedMade, as_printed};
-ghost use Rattle.station_record.specs.Recorded.{IsRecordedTableReport, recorded_both_text};
+ghost use Rattle.station_record.specs.Made.{IsRecordedTable};
+ghost use Rattle.station_record.specs.Parts.{ArePartsOf};
+ghost use Rattle.station_record.specs.Recorded.{IsRecordedTableReport};
 ghost use Rattle.table_answers.specs.Printing.{PrintsReport};
 ghost use Rattle.table_answers.specs.Runs.{PrintsBeside};
 ghost use Rattle.table_answers.specs.Telling.{RunTold};
 ghost use Rattle.table_report.specs.Values.{asked_of, value_of};
 
-use crate::compare::parts_of;
 use crate::texts::with_digests;
 use byte_digests::Digesting;
 use byte_ends::{Sink, Source};
@@ -55,32 +55,32 @@ pub fn run_table_report_recorded<R: Source, Q: Source, W: Sink, E: Sink>(
     );
     let gsi_digest = digested_gsi.digest();
     let table_digest = digested_table.digest();
-    let recorded = recorded_both(alloc, answer, &gsi_digest, &table_digest, asked);
-    let (report, note) = parts_of(alloc, recorded);
+    let (report, note) = recorded_both(alloc, answer, &gsi_digest, &table_digest, asked);
     let printed = print_report(report, out);
     tell(printed, &note, err)
 }
 
-/// A report with a table as it is printed, with the digests of its two files; or the refusal.
+/// A report with a table as it is printed, with the digests of its two files, and the note of the
+/// table; or the refusal.
 fn recorded_both(
     alloc: Global,
     answer: Result<Noted<TableReport>, Refusal>,
     gsi: &[u8; 32],
     table: &[u8; 32],
     asked: &Asked<'_, '_>,
-) -> Result<Noted<TableReport>, Refusal>
-    ensures { IsNotedMade (λ text. as_printed (asked_of asked.now).head.notes
-        (recorded_both_text (asked_of asked.now).head.notes.language text gsi.now
-        (asked_of asked.now).head.path table.now (asked_of asked.now).table_path))
-        answer result }
+) -> (Result<TableReport, Refusal>, Vec<u8>)
+    ensures { ArePartsOf (IsRecordedTable (asked_of asked.now) gsi.now table.now) answer result.0
+        result.1.items }
 {
-    let noted = answer?;
+    let noted = match answer {
+        Ok(noted) => noted,
+        Err(refusal) => return (Err(refusal), Vec::new(alloc)),
+    };
     let beyond = noted.answer.beyond;
-    let text = with_digests(alloc, noted.answer.text, gsi, table, asked)?;
-    Ok(Noted {
-        answer: TableReport { text, beyond },
-        note: noted.note,
-    })
+    match with_digests(alloc, noted.answer.text, gsi, table, asked) {
+        Ok(text) => (Ok(TableReport { text, beyond }), noted.note),
+        Err(fault) => (Err(Refusal::from(fault)), Vec::new(alloc)),
+    }
 }
 
 /// Prints a report, and answers its verdict; or passes on a refusal.

@@ -59,8 +59,8 @@ fn with_file_row(
     path: &[u8],
     digest: &[u8; 32],
 ) -> Result<Vec<u8>, Refusal>
-    ensures { IsMadeOf (λ text. text.items)
-        (λ rows. spec.recorded_rows_text form rows path.now digest.now) answer result }
+    ensures { IsMadeOf (λ text. text.items) (spec.recorded_rows_text form path.now digest.now)
+        answer result }
 {
     let mut rows = answer?;
     match push_file_row(alloc, &mut rows, form, path, digest) {

@@ -3,7 +3,6 @@
 ghost use Rattle.std.specs.Prelude.{◌≡◌, ◌++◌, OnOk, MatchResult};
 ghost use Rattle.byte_digests.specs.DigestLines.{digest_line};
 ghost use Rattle.byte_ends.specs.Writers.{writer_change};
-ghost use Rattle.instrument_reports.specs.Printing as spec;
 ghost use Rattle.report_phrases.specs.Phrases.{said};
 ghost use Rattle.report_phrases.specs.declared.phrase.Phrase.TheVariants.{Digests};
 ghost use Rattle.station_check.specs.RunEndings.{PrintsAnswer};
@@ -67,9 +66,8 @@ pub(crate) fn with_digest(
     gsi: &[u8; 32],
     head: Head<'_, '_>,
 ) -> Result<Vec<u8>, CompareFault>
-    ensures { MatchResult result (λ whole. whole.items ≡ spec.as_printed (head_of head.entry).notes
-        (recorded_report_text (head_of head.entry).notes.language text.items gsi.now
-        head.entry.path.now))
+    ensures { MatchResult result
+        (λ whole. whole.items ≡ recorded_report_text (head_of head.entry) gsi.now text.items)
         (λ fault. fault ≡ Memory) }
 {
     let mut recorded = text;
@@ -88,9 +86,7 @@ pub(crate) fn with_digests(
     asked: &Asked<'_, '_>,
 ) -> Result<Vec<u8>, CompareFault>
     ensures { MatchResult result (λ whole. whole.items
-        ≡ spec.as_printed (asked_of asked.now).head.notes
-        (recorded_both_text (asked_of asked.now).head.notes.language text.items gsi.now
-        (asked_of asked.now).head.path table.now (asked_of asked.now).table_path))
+        ≡ recorded_both_text (asked_of asked.now) gsi.now table.now text.items)
         (λ fault. fault ≡ Memory) }
 {
     let head = asked.head;

@@ -1,62 +1,37 @@
-use Rattle.std.proofs.Common.{subst}
-use Rattle.byte_digests.proofs.Histories.{digested}
+use Rattle.std.proofs.Common.{◌≡◌, sym}
 use Rattle.byte_digests.specs.Digesting.{reader_of}
-use Rattle.byte_ends.specs.Writers.{writer_change}
-use Rattle.byte_ends.specs.Source.{reader_change}
-use Rattle.station_compare.specs.Refusals.{by_fault}
-use Rattle.station_record.specs.Recorded.{IsRecordedCompare, PrintsRecorded}
-use Rattle.station_record.proofs.ReportUndigested.{both_of, recorded_both}
+use Rattle.station_record.specs.Recorded.{PrintsRecorded}
+use Rattle.station_record.proofs.Undigested.{recorded_both}
 use Rattle.table_answers.specs.Comparisons.{SaysComparison}
 use Rattle.station_record.proofs.compare.run_compare_recorded.Goals as goal
 
 pub returns : goal.returns
 returns g c =
-    let gsi = c.new-digested_gsi.result in
     let gsi' = c.table_answer_of-answer.result.1 in
-    let table = c.new-digested_table.result in
     let table' = c.table_answer_of-answer.new.table in
-    let answer = c.table_answer_of-answer.result.0 in
-    let parts = c.parts_of-compared in
-    let a = c.table_answer_of-answer.ensures in
-    let out = writer_change g.W.Sink c.args.out.now
-    c.print_verdict-printed.new.out in
-    let printed = c.print_verdict-printed.result in
-    let answers = both_of g.R.Source.told g.R.Source.failed g.R.Source.gave g.Q.Source.told
-    g.Q.Source.failed g.Q.Source.gave gsi gsi' table table' (by_fault answer) _
-    c.new-digested_gsi.ensures.nothing c.new-digested_table.ensures.nothing a in
-    let gsi_held = (digested g.R.Source.told g.R.Source.failed g.R.Source.gave gsi gsi'
-    a.gsi_bytes c.new-digested_gsi.ensures.nothing a.gsi_reads).1 in
-    let table_held = (digested g.Q.Source.told g.Q.Source.failed g.Q.Source.gave table table'
-    a.table_bytes c.new-digested_table.ensures.nothing a.table_reads).1 in
-    let run = recorded_both (λ compared. compared) (λ _. SaysComparison c.args.form c.args.within
-    c.args.limits) (PrintsRecorded c.args.gsi.name.now c.args.table.name.now) c.args.form
-    c.args.limits _ _ c.args.station.now answer parts.result.0 parts.result.1.items parts.ensures
-    answers c.digest-gsi_digest.result c.digest-table_digest.result
-    (c.digest-gsi_digest.ensures a.gsi_bytes gsi_held)
-    (c.digest-table_digest.ensures a.table_bytes table_held) printed out
-    c.print_verdict-printed.ensures in
-    let of_gsi = subst (λ (r : _). IsRecordedCompare c.args.form c.args.limits c.args.within
-    c.args.station.now
-    (reader_change g.R.Source.told g.R.Source.failed g.R.Source.gave r (reader_of gsi'))
-    c.args.gsi.name.now (reader_change g.Q.Source.told g.Q.Source.failed g.Q.Source.gave
-    (reader_of table) (reader_of table')) c.args.table.name.now printed parts.result.1.items out)
-    c.new-digested_gsi.ensures.reader run in
-    let of_both = subst (λ (q : _). IsRecordedCompare c.args.form c.args.limits c.args.within
-    c.args.station.now
-    (reader_change g.R.Source.told g.R.Source.failed g.R.Source.gave c.args.gsi.reader
-    (reader_of gsi'))
-    c.args.gsi.name.now (reader_change g.Q.Source.told g.Q.Source.failed g.Q.Source.gave q
-    (reader_of table')) c.args.table.name.now printed parts.result.1.items out)
-    c.new-digested_table.ensures.reader of_gsi in (
+    let form = c.args.form in
+    let limits = c.args.limits in (
       reader_of gsi',
       (
         reader_of table',
-        record {
-          answer = printed;
-          note = parts.result.1.items;
-          so = of_both;
+        rw (sym c.new-digested_gsi.ensures.reader, sym c.new-digested_table.ensures.reader) (record {
+          answer = c.print_verdict-printed.result;
+          note = c.parts_of-compared.result.1.items;
+          so = recorded_both g.R.Source.told g.R.Source.failed g.R.Source.gave g.Q.Source.told
+              g.Q.Source.failed g.Q.Source.gave c.new-digested_gsi.result gsi'
+              c.new-digested_table.result table' c.new-digested_gsi.ensures.nothing
+              c.new-digested_table.ensures.nothing c.digest-gsi_digest.result
+              c.digest-table_digest.result c.digest-gsi_digest.ensures c.digest-table_digest.ensures
+              (λ compared. compared) (λ _. SaysComparison form c.args.within limits)
+              (PrintsRecorded c.args.gsi.name.now c.args.table.name.now) (λ own whole. whole ≡ own)
+              (PrintsRecorded c.args.gsi.name.now c.args.table.name.now c.digest-gsi_digest.result
+              c.digest-table_digest.result) form limits c.args.station.now
+              c.table_answer_of-answer.result.0 c.parts_of-compared.result.0
+              c.parts_of-compared.result.1.items c.table_answer_of-answer.ensures
+              c.parts_of-compared.ensures _ _ c.print_verdict-printed.ensures
+              (λ own whole same p. rw same at p);
           exits = c.tell.ensures.exits;
           told = rw c.deref.ensures.value at c.tell.ensures.told;
-        },
+        }),
       ),
     )
