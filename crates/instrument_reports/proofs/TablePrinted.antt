@@ -3,6 +3,7 @@ use Rattle.std.proofs.Common.{◌≡◌, ◌∙◌, ℕ, List, [], Option, Resul
 use Rattle.std.specs.Prelude.{MatchResult}
 use Rattle.byte_ends.specs.Sink.{WriterChange}
 use Rattle.byte_ends.specs.Source.{ReaderChange}
+use Rattle.instrument_reports.proofs.Kept.{both_retold}
 use Rattle.instrument_reports.specs.Answers.{SaysTableReportOf}
 use Rattle.instrument_reports.specs.Printing.{IsNotedMade, as_printed}
 use Rattle.instrument_reports.specs.Runs.{IsTableReportRun}
@@ -37,15 +38,7 @@ pub table_printed : {A : Type 0} (asked : ReportAsked) (limits : ResultLimits)
     → IsTableReportRun asked limits gsi table name r note out
 table_printed asked limits gsi table name (Ok own) (Ok whole) a made r note out p noted = record {
   answer = Ok (value_of own.answer, own.note.items);
-  tells = record {
-    gsi_bytes = a.gsi_bytes;
-    gsi_reads = a.gsi_reads;
-    table_bytes = a.table_bytes;
-    table_reads = a.table_reads;
-    so = a.so;
-    gsi_reader = a.gsi_reader;
-    table_reader = a.table_reader;
-  };
+  tells = both_retold a (λ left stated may so. so) (λ l. l) (λ l. l);
   printed = (
     subst (λ (t : List ℕ). PrintsVerdict t own.answer.beyond (by_fault r) out) made.0
         (subst (λ (b : Option HowFar). PrintsVerdict whole.answer.text.items b (by_fault r) out)
@@ -56,29 +49,13 @@ table_printed asked limits gsi table name (Ok own) (Ok whole) a made r note out 
 }
 table_printed asked limits gsi table name (Ok own) (Err refusal) a made r note out p noted = record {
   answer = Err (unhinted Memory);
-  tells = record {
-    gsi_bytes = a.gsi_bytes;
-    gsi_reads = a.gsi_reads;
-    table_bytes = a.table_bytes;
-    table_reads = a.table_reads;
-    so = λ left table_left may table_may. (tt, refl);
-    gsi_reader = a.gsi_reader.unfailed;
-    table_reader = a.table_reader.unfailed;
-  };
+  tells = both_retold a (λ left stated may so. (tt, refl)) (λ l. l.unfailed) (λ l. l.unfailed);
   printed = rw made at p;
   noted = noted;
 }
 table_printed asked limits gsi table name (Err refusal) all a made r note out p noted = record {
   answer = Err refusal;
-  tells = record {
-    gsi_bytes = a.gsi_bytes;
-    gsi_reads = a.gsi_reads;
-    table_bytes = a.table_bytes;
-    table_reads = a.table_reads;
-    so = a.so;
-    gsi_reader = a.gsi_reader;
-    table_reader = a.table_reader;
-  };
+  tells = both_retold a (λ left stated may so. so) (λ l. l) (λ l. l);
   printed = rw made at p;
   noted = rw made at noted;
 }

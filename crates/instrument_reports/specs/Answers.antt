@@ -2,7 +2,6 @@
 use Rattle.std.specs.Prelude.{◌≡◌, ℕ, List, Result, Ok, Err}
 use Rattle.book_answers.specs.Answers.{IsRefusedOfAll, StatesAll}
 use Rattle.book_answers.specs.declared.arrangement.Arrangement.{Arrangement}
-use Rattle.book_answers.specs.declared.arrangement.Arrangement.TheVariants.{Pages, Rows}
 use Rattle.book_answers.specs.declared.refusal.StationRefusal.{StationRefusal}
 use Rattle.gsi_file.specs.FileAnswers.{FileAnswers}
 use Rattle.gsi_word.specs.Blocks.{GsiBlock}
@@ -32,12 +31,16 @@ pub record TellsInstrument (put : Putting) (file : FileAnswers) (IsOwn : List �
   pub of_file : AreBlocksOf file blocks
   pub text_is : text ≡ put (instrument_of blocks) own
 
+-- What this says of a station, made so with what its file recorded.
+abbrev pub SaysWith : Putting → (SurveyedStation → List ℕ → Type 0) → FileAnswers
+    → SurveyedStation → List ℕ → Type 0
+SaysWith put Says file = λ its text. TellsInstrument put file (Says its) text
+
 -- The report of a station of this file, with what the file recorded on each page.
 abbrev pub SaysReportOf : FileAnswers → ReportHead → ResultLimits → SurveyedStation → List ℕ
     → Type 0
 SaysReportOf file head limits =
-    λ its text.
-    TellsInstrument (on_pages head.notes.language) file (SaysReport head limits its) text
+    SaysWith (on_pages head.notes.language) (SaysReport head limits) file
 
 -- The same of the report with a table.
 abbrev pub SaysTableReportOf : FileAnswers → ReportAsked → ResultLimits → SurveyedStation → List ℕ
@@ -50,8 +53,7 @@ SaysTableReportOf file asked limits = λ its bytes report.
 -- The rows of the report of a station of this file in a form, and then those of what the file
 -- recorded.
 abbrev pub SaysRowsOf : FileAnswers → RowForm → SurveyedStation → List ℕ → Type 0
-SaysRowsOf file form =
-    λ its text. TellsInstrument (with_recorded_rows form) file (AreReportRows form its) text
+SaysRowsOf file form = SaysWith (with_recorded_rows form) (AreReportRows form) file
 
 -- The texts of all stations in one, of each what this says, arranged so, and made so with what
 -- their file recorded, once; or why there is none.
@@ -60,15 +62,3 @@ abbrev pub TellsAll : Putting → (SurveyedStation → List ℕ → Type 0) → 
 TellsAll put Says limits arrangement file (Ok text) =
     TellsInstrument put file (StatesAll Says limits arrangement file) text
 TellsAll put Says limits arrangement file (Err refused) = IsRefusedOfAll Says limits file refused
-
--- The reports of all stations in one text, and on each page what their file recorded.
-abbrev pub TellsReports : ReportHead → ResultLimits → FileAnswers
-    → Result (List ℕ) StationRefusal → Type 0
-TellsReports head limits file r =
-    TellsAll (on_pages head.notes.language) (SaysReport head limits) limits Pages file r
-
--- The rows of all stations under one line of titles, and then those of what their file recorded.
-abbrev pub TellsRows : RowForm → ResultLimits → FileAnswers → Result (List ℕ) StationRefusal
-    → Type 0
-TellsRows form limits file r =
-    TellsAll (with_recorded_rows form) (AreReportRows form) limits Rows file r

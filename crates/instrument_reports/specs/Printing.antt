@@ -17,12 +17,17 @@ abbrev pub as_printed : NotesValue → List ℕ → List ℕ
 as_printed notes text =
     if notes.pages then paged (said notes.language Station) text else text
 
--- A report with a table and its note, of which another text is made; or that there was no memory
--- for it; and a refusal stays.
+-- A report with a table and its note, whose text alone has become another, so that this is so of
+-- both; or that there was no memory for it; and a refusal stays.
+abbrev pub IsNotedOf : (List ℕ → List ℕ → Type 0) → Result (Noted TableReport) Refusal
+    → Result (Noted TableReport) Refusal → Type 0
+IsNotedOf IsText (Ok own) (Ok whole) =
+    IsText own.answer.text.items whole.answer.text.items
+    × (whole.answer.beyond ≡ own.answer.beyond) × (whole.note.items ≡ own.note.items)
+IsNotedOf IsText (Ok own) (Err refusal) = refusal ≡ unhinted Memory
+IsNotedOf IsText (Err refusal) r = r ≡ Err refusal
+
+-- The same of a text that is made of its own.
 abbrev pub IsNotedMade : (List ℕ → List ℕ) → Result (Noted TableReport) Refusal
     → Result (Noted TableReport) Refusal → Type 0
-IsNotedMade make (Ok own) (Ok whole) =
-    (whole.answer.text.items ≡ make own.answer.text.items)
-    × (whole.answer.beyond ≡ own.answer.beyond) × (whole.note.items ≡ own.note.items)
-IsNotedMade make (Ok own) (Err refusal) = refusal ≡ unhinted Memory
-IsNotedMade make (Err refusal) r = r ≡ Err refusal
+IsNotedMade make own r = IsNotedOf (λ text whole. whole ≡ make text) own r

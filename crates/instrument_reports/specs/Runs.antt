@@ -1,15 +1,20 @@
 -- What the answer of a run says, and what `out` got.
 use Rattle.std.specs.Prelude.{◌≡◌, ℕ, List, Result}
 use Rattle.book_answers.specs.Refusals.{fault_of, of_no_one}
+use Rattle.book_answers.specs.declared.arrangement.Arrangement.TheVariants.{Pages, Rows}
 use Rattle.book_answers.specs.declared.refusal.StationRefusal.{StationRefusal}
 use Rattle.byte_ends.specs.Sink.{WriterChange}
 use Rattle.byte_ends.specs.Source.{ReaderChange}
 use Rattle.gsi_file.specs.FileAnswers.{FileAnswers}
 use Rattle.instrument_reports.specs.Answers.{SaysReportOf, SaysRowsOf, SaysTableReportOf}
-use Rattle.instrument_reports.specs.Answers.{TellsReports, TellsRows}
+use Rattle.instrument_reports.specs.Answers.{TellsAll}
 use Rattle.instrument_reports.specs.Printing.{as_printed}
+use Rattle.instrument_reports.specs.Rows.{with_recorded_rows}
+use Rattle.instrument_words.specs.Below.{on_pages}
+use Rattle.report_rows.specs.Stating.{AreReportRows}
 use Rattle.row_forms.specs.declared.form.RowForm.{RowForm}
 use Rattle.station_answers.specs.Answers.{TellsOf}
+use Rattle.station_answers.specs.Saying.{SaysReport}
 use Rattle.station_book.specs.Stations.{SurveyedStation}
 use Rattle.station_book.specs.declared.result_limits.ResultLimits.{ResultLimits}
 use Rattle.station_check.specs.RunEndings.{PrintsAnswer}
@@ -57,17 +62,19 @@ pub record IsRunOfEach {A : Type 0} (Tells : FileAnswers → Result (List ℕ) S
   pub tells : ReadsFieldFile gsi (fault_of answer) (λ file. Tells file answer)
   pub printed : PrintsAnswer print (of_no_one Write) answer r out
 
--- A run of the reports of all stations,
+-- A run of the reports of all stations in one text, on each page of which is what was recorded,
 abbrev pub IsReportsRun : {A : Type 0} → ReportHead → ResultLimits → ReaderChange
     → Result A StationRefusal → WriterChange → Type 0
 IsReportsRun head limits gsi r out =
-    IsRunOfEach (TellsReports head limits) (as_printed head.notes) gsi r out
+    IsRunOfEach (TellsAll (on_pages head.notes.language) (SaysReport head limits) limits Pages)
+    (as_printed head.notes) gsi r out
 
--- and of their rows.
+-- and of their rows under one line of titles, after which stand those of what was recorded.
 abbrev pub IsReportRowsRunOfAll : {A : Type 0} → RowForm → ResultLimits → ReaderChange
     → Result A StationRefusal → WriterChange → Type 0
 IsReportRowsRunOfAll form limits gsi r out =
-    IsRunOfEach (TellsRows form limits) (λ rows. rows) gsi r out
+    IsRunOfEach (TellsAll (with_recorded_rows form) (AreReportRows form) limits Rows)
+    (λ rows. rows) gsi r out
 
 -- A run of the report with a table, and the note of the table.
 pub record IsTableReportRun {A : Type 0} (asked : ReportAsked) (limits : ResultLimits)

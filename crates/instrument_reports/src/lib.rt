@@ -9,17 +9,13 @@
 pub mod laws;
 mod printing;
 mod recorded;
-mod report;
 mod report_with_table;
-mod reports;
-mod rows;
-mod rows_of_all;
+mod station;
+mod stations;
 mod telling;
 
 pub use printing::as_printed;
 pub use recorded::push_further_row;
-pub use report::{report_of, run_report};
 pub use report_with_table::{run_table_report, table_report_of};
-pub use reports::{reports_of, run_reports};
-pub use rows::{rows_of, run_rows};
-pub use rows_of_all::run_rows_of_all;
+pub use station::{report_of, rows_of, run_report, run_rows};
+pub use stations::{run_reports, run_rows_of_all};

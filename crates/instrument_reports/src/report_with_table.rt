@@ -4,10 +4,10 @@ ghost use Rattle.std.specs.Prelude.{⊤, MatchResult, option_map};
 ghost use Rattle.byte_ends.specs.Source.{UntilDropped, reader_change};
 ghost use Rattle.byte_ends.specs.Writers.{writer_change};
 ghost use Rattle.instrument_reports.specs.Answers.{SaysTableReportOf};
-ghost use Rattle.instrument_reports.specs.Printing.{IsNotedMade};
+ghost use Rattle.instrument_reports.specs.Printing.{IsNotedMade, IsNotedOf};
 ghost use Rattle.instrument_reports.specs.Printing as spec;
 ghost use Rattle.instrument_reports.specs.Runs.{IsTableReportRun};
-ghost use Rattle.instrument_reports.specs.Telling.{IsNotedWith};
+ghost use Rattle.instrument_reports.specs.Telling.{IsWith};
 ghost use Rattle.instrument_words.specs.Below.{on_pages};
 ghost use Rattle.station_compare.specs.Hints.{IsHinted};
 ghost use Rattle.station_compare.specs.Refusals.{by_fault};
@@ -20,10 +20,10 @@ ghost use Rattle.table_answers.specs.Telling.{RunTold};
 ghost use Rattle.table_report.specs.Values.{asked_of, value_of};
 
 use crate::printing::as_printed;
-use crate::telling::text_with;
+use crate::telling::Telling;
 use byte_ends::{Sink, Source};
 use instrument_words::Rereading;
-use report_phrases::Language;
+use station_answers::Report;
 use station_book::ResultLimits;
 use station_compare::{CompareFault, Refusal};
 use station_report::Head;
@@ -57,23 +57,23 @@ pub fn table_report_of<R: Source, Q: Source>(
     let reading = Rereading::new(alloc, gsi);
     let (answer, reading) = table_answer_of(alloc, reading, table, name, limits, asked);
     let (gsi, kept) = reading.into_parts();
-    (noted_with(alloc, asked.head.language(), answer, kept), gsi)
+    (noted_with(alloc, asked.head, answer, kept), gsi)
 }
 
-/// The answer of a report with a table in a language, with what these bytes of its field file
+/// The answer of a report with a table and this head, with what these bytes of its field file
 /// recorded.
 fn noted_with(
     alloc: Global,
-    language: Language,
+    head: Head<'_, '_>,
     answer: Result<Noted<TableReport>, Refusal>,
     kept: Option<Vec<u8>>,
 ) -> Result<Noted<TableReport>, Refusal>
-    ensures { IsNotedWith (on_pages language) (option_map (λ bytes. bytes.items) kept) answer
-        result }
+    ensures { IsNotedOf (IsWith (on_pages (head_of head.entry).notes.language)
+        (option_map (λ bytes. bytes.items) kept)) answer result }
 {
     let noted = answer?;
-    let text = text_with(alloc, language, &noted.answer.text, &kept)?;
     let beyond = noted.answer.beyond;
+    let text = Report { head }.told(alloc, noted.answer.text, &kept)?;
     Ok(Noted {
         answer: TableReport { text, beyond },
         note: noted.note,

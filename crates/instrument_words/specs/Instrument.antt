@@ -1,9 +1,11 @@
 -- What a field file recorded of instrument and time: the contents of its words 12, 13, 17, 18 and 19
 -- (GSI manual), as they stand. What their digits mean depends on how the instrument was set.
-use Rattle.std.specs.Prelude.{◌≡◌, ℕ, Bool, not, List, [], ◌∷◌, map, Option, Some, None}
+use Rattle.std.specs.Prelude.{◌≡◌, ◌⊎◌, ◌++◌, ℕ, Bool, not, List, [], ◌∷◌, map, Option, Some, None}
 use Rattle.std.specs.List.{AllZip, flat_map, list_any}
 use Rattle.std.specs.Str.{bytes_eq}
 use Rattle.gsi_file.specs.FileAnswers.{FileAnswers}
+use Rattle.gsi_file.specs.ToCome.{FaultIsNext, only}
+use Rattle.gsi_file.specs.declared.file_fault.FileKind.{FileKind}
 use Rattle.gsi_word.specs.Blocks.{GsiBlock, IsBlock}
 use Rattle.gsi_word.specs.FoundWords.{words_with}
 use Rattle.gsi_word.specs.Words.{GsiWord}
@@ -67,6 +69,18 @@ instrument_of blocks = record {
 pub record AreBlocksOf (file : FileAnswers) (blocks : List GsiBlock) : Type 0 where
   pub ended : file.last ≡ None
   pub lines : AllZip IsBlock file.lines blocks
+
+-- These answers are the end of a field file, or a fault of it is next.
+abbrev pub AreOver : FileAnswers → Type 0
+AreOver left = (left ≡ only None) ⊎ ((kind : FileKind) × FaultIsNext left kind)
+
+-- The blocks of a field file, in order, up to its end or to its first fault.
+pub record AreBlocksUpTo (file : FileAnswers) (blocks : List GsiBlock) : Type 0 where
+  pub lines : List (List ℕ)
+  pub left : FileAnswers
+  pub each : AllZip IsBlock lines blocks
+  pub split : file ≡ record { lines = lines ++ left.lines; last = left.last }
+  pub over : AreOver left
 
 -- what is told, without where it lies in memory
 abbrev pub contents_value : Contents → ContentsValue

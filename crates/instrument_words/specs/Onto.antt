@@ -4,7 +4,7 @@ use Rattle.std.specs.List.{list_any}
 use Rattle.gsi_file.specs.FileAnswers.{FileAnswers}
 use Rattle.gsi_file.specs.ToCome.{ToCome}
 use Rattle.gsi_word.specs.Blocks.{GsiBlock}
-use Rattle.instrument_words.specs.Instrument.{AreBlocksOf, ContentsValue, InstrumentValue, contents_of}
+use Rattle.instrument_words.specs.Instrument.{AreBlocksUpTo, ContentsValue, InstrumentValue, contents_of}
 use Rattle.instrument_words.specs.Instrument.{differs, last_after, told_of}
 use Rattle.instrument_words.specs.declared.instrument.TheConstants.{SERIAL_NUMBER, INSTRUMENT_TYPE, DATE}
 use Rattle.instrument_words.specs.declared.instrument.TheConstants.{TIME_FORMAT_1, TIME_FORMAT_2}
@@ -28,8 +28,8 @@ instrument_onto r more = record {
   time_format_2 = onto r.time_format_2 (contents_of TIME_FORMAT_2 more);
 }
 
--- The lines that are still to come end without a fault, and are these blocks.
+-- These are the blocks that are still to come, up to the end or to a fault.
 pub record AreToCome (t : ToCome) (blocks : List GsiBlock) : Type 0 where
   pub left : FileAnswers
   pub known : t.answers ≡ Some left
-  pub are_blocks : AreBlocksOf left blocks
+  pub are_blocks : AreBlocksUpTo left blocks

@@ -62,6 +62,7 @@ fn push_pages(whole: &mut Vec<u8>, text: &[u8], lines: &[u8]) -> Result<(), Allo
 /// instrument and time on each page, below the line that names it.
 ///
 /// The only error is that memory was refused.
+#[tactic(auto, using(crate::proofs::Coming::all_blocks))]
 pub fn with_instrument(
     alloc: Global,
     language: Language,

@@ -5,7 +5,7 @@ ghost use Rattle.gsi_file.specs.FileAnswers.{file_answers};
 ghost use Rattle.gsi_word.specs.BlockViews.{block_of};
 ghost use Rattle.gsi_word.specs.Blocks.{GsiBlock};
 ghost use Rattle.instrument_words.specs.Onto.{instrument_onto};
-ghost use Rattle.instrument_words.specs.Instrument.{AreBlocksOf, instrument_of, instrument_value};
+ghost use Rattle.instrument_words.specs.Instrument.{AreBlocksUpTo, instrument_of, instrument_value};
 
 use crate::contents::{Contents, with_block};
 use gsi_file::MemoryLines;
@@ -68,11 +68,11 @@ fn with_words<'a>(told: Instrument<'a>, block: &Block<'a>) -> Instrument<'a>
     }
 }
 
-/// What a field file of these bytes recorded, if it ends without a fault of its lines: of each
-/// index the contents of its words, in the order of the file.
+/// What a field file of these bytes recorded, up to its first fault: of each index the contents of
+/// its words, in the order of the file.
 pub fn instrument_in(bytes: &[u8]) -> Instrument<'_>
     ensures { (blocks : List GsiBlock)
-        → AreBlocksOf (file_answers (record { bytes = bytes.now; fails = false })) blocks
+        → AreBlocksUpTo (file_answers (record { bytes = bytes.now; fails = false })) blocks
         → instrument_value result ≡ instrument_of blocks }
 {
     let mut told = nothing();

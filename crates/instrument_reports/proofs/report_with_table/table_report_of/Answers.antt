@@ -26,4 +26,4 @@ returns g c =
     c.noted_with.result _ tells
     (subst (λ (b : Option (List ℕ)). IfSome b (λ bytes. a.gsi_bytes ≡ bytes))
     (sym c.into_parts-gsi.ensures.kept) held)
-    (rw c.language.ensures at c.noted_with.ensures))
+    c.noted_with.ensures)

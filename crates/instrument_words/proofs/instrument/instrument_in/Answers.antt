@@ -2,7 +2,7 @@ use Rattle.std.proofs.Common.{ap, sym, ◌∙◌}
 use Rattle.gsi_file.specs.InMemory.{comes}
 use Rattle.gsi_file.specs.ToCome.{GivesEnd, GivesLine}
 use Rattle.gsi_word.specs.BlockViews.{block_of}
-use Rattle.instrument_words.proofs.Coming.{end_comes, line_comes, no_fault_answered}
+use Rattle.instrument_words.proofs.Coming.{end_comes, line_comes, fault_answered}
 use Rattle.instrument_words.proofs.Telling.{all_told}
 use Rattle.instrument_words.specs.Onto.{instrument_onto}
 use Rattle.instrument_words.specs.Instrument.{instrument_value}
@@ -35,5 +35,7 @@ returns-in-Ok-None c = λ blocks of_file.
 pub returns-in-Err : goal.returns-in-Err
 returns-in-Err c = λ blocks of_file.
     let before = c.lines.invariant blocks of_file in
-    absurd (no_fault_answered (comes c.lines.lines) (comes c.next.new.self) c.in-Err.field-0 before.0
-    before.1 c.in-Err.ensures.answers)
+    let over = fault_answered (comes c.lines.lines) (comes c.next.new.self) c.in-Err.field-0 before.0
+    before.1 c.in-Err.ensures.answers in
+    all_told (instrument_value c.lines.told)
+    ∙ sym (ap (instrument_onto (instrument_value c.lines.told)) over) ∙ before.2

@@ -1,10 +1,8 @@
 use Rattle.std.proofs.Common.{◌≡◌, Option, List, ℕ, sym, subst}
 use Rattle.std.specs.Prelude.{IfSome}
 use Rattle.instrument_reports.proofs.Kept.{answered, field_file_of, kept}
-use Rattle.instrument_reports.specs.Rows.{with_recorded_rows}
-use Rattle.report_rows.specs.Stating.{AreReportRows}
 use Rattle.station_compare.specs.Refusals.{by_fault}
-use Rattle.instrument_reports.proofs.rows.rows_of.Goals as goal
+use Rattle.instrument_reports.proofs.station.told_of.Goals as goal
 
 pub returns : goal.returns
 returns g c =
@@ -20,8 +18,9 @@ returns g c =
     let held = (kept told failed gave old new a.came.given c.new-reading.ensures.nothing
     a.came.by_reads).1 in
     rw (sym c.new-reading.ensures.reader, c.into_parts-gsi.ensures.reader)
-    (answered (with_recorded_rows c.args.form) (AreReportRows c.args.form) c.args.limits
-    c.args.name.now (λ text. text.items) _ answer c.answer_with_rows.result _ tells
+    (answered (λ text. text.items) (g.A.Telling.put c.args.asked.now)
+    (g.A.StationAnswer.says c.args.asked.now c.args.limits) c.args.limits c.args.name.now _ answer
+    c.answer_with.result _ tells
     (subst (λ (b : Option (List ℕ)). IfSome b (λ bytes. a.came.given ≡ bytes))
     (sym c.into_parts-gsi.ensures.kept) held)
-    c.answer_with_rows.ensures)
+    c.answer_with.ensures)

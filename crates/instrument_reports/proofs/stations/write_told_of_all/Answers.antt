@@ -1,59 +1,53 @@
 use Rattle.std.proofs.Common.{◌≡◌, refl, rules, Ok, Err}
 use Rattle.book_answers.specs.Refusals.{of_no_one}
+use Rattle.instrument_reports.proofs.Kept.{retold}
 use Rattle.station_compare.specs.declared.fault.CompareFault.TheVariants.{Memory, Write}
-use Rattle.instrument_reports.proofs.reports.write_reports.Goals as goal
+use Rattle.instrument_reports.proofs.stations.write_told_of_all.Goals as goal
 
 pub returns-in_err-text : goal.returns-in_err-text
 returns-in_err-text g c =
-    let told = rw c.in_err-text.was at c.reports_of-answer.ensures in (
-      c.reports_of-answer.result.1,
+    let told = rw c.in_err-text.was at c.told_of_all-answer.ensures in (
+      c.told_of_all-answer.result.1,
       record {
         answer = Err c.in_err-text.field-0.0;
-        tells = record { came = told.came; left = told.left };
+        tells = retold told (λ left may so. so) (λ l. l);
         printed = (search rules, refl);
       },
     )
 
 pub returns : goal.returns
 returns g c =
-    let told = rw c.in_ok-text.was at c.reports_of-answer.ensures in (
-      c.reports_of-answer.result.1,
+    let told = rw c.in_ok-text.was at c.told_of_all-answer.ensures in (
+      c.told_of_all-answer.result.1,
       record {
         answer = Ok c.in_ok-text.text.items;
-        tells = record { came = told.came; left = told.left };
+        tells = retold told (λ left may so. so) (λ l. l);
         printed = (record { got = search rules; unfailed = search rules }, search rules);
       },
     )
 
 pub returns-in_err-write_whole : goal.returns-in_err-write_whole
 returns-in_err-write_whole g c =
-    let told = rw c.in_ok-text.was at c.reports_of-answer.ensures in
+    let told = rw c.in_ok-text.was at c.told_of_all-answer.ensures in
     let is_its : c.from_residual-in_err-write_whole.result ≡ Err (of_no_one Write) = search rules in
     rw is_its (
-      c.reports_of-answer.result.1,
+      c.told_of_all-answer.result.1,
       record {
         answer = Ok c.in_ok-text.text.items;
-        tells = record { came = told.came; left = told.left };
+        tells = retold told (λ left may so. so) (λ l. l);
         printed = (refl, record { got = search rules; call_failed = search rules });
       },
     )
 
 pub returns-in_err-printed : goal.returns-in_err-printed
 returns-in_err-printed g c =
-    let told = rw c.in_ok-text.was at c.reports_of-answer.ensures in
+    let told = rw c.in_ok-text.was at c.told_of_all-answer.ensures in
     let is_its : c.from_residual-in_err-printed.result ≡ Err (of_no_one Memory) = search rules in
     rw is_its (
-      c.reports_of-answer.result.1,
+      c.told_of_all-answer.result.1,
       record {
         answer = Err (of_no_one Memory);
-        tells = record {
-          came = record {
-            given = told.came.given;
-            by_reads = told.came.by_reads;
-            so = λ left may. λ name. (tt, refl);
-          };
-          left = told.left.unfailed;
-        };
+        tells = retold told (λ left may so. λ name. (tt, refl)) (λ l. l.unfailed);
         printed = (refl, refl);
       },
     )
