@@ -75,7 +75,6 @@ use Rattle.command_run.specs.Unopened.{there_line, unopened_line}
 use Rattle.command_run.specs.declared.host.NoWords.{NoWords}
 use Rattle.command_run.specs.declared.host.NoWords.TheVariants as no_words
 use Rattle.command_run.specs.StationNames.{name_bytes}
-use Rattle.command_run.specs.TitlesTexts.{titles_line}
 use Rattle.command_run.specs.declared.hindrance.Hindrance.{Hindrance}
 use Rattle.command_run.specs.declared.hindrance.Hindrance.TheVariants as hindrance
 use Rattle.command_run.specs.declared.station_name.StationName.{StationName}
@@ -93,6 +92,7 @@ use Rattle.table_answers.specs.Runs.{IsTableRun}
 use Rattle.table_answers.specs.Saying.{SaysDifferences}
 use Rattle.table_answers.specs.Telling.{RunTold}
 use Rattle.table_report.specs.Stating.{ReportAsked}
+use Rattle.table_titles.specs.FaultTexts.{titles_line}
 use Rattle.table_titles.specs.TitledInput.{ComesOfInput}
 use Rattle.table_titles.specs.declared.fault.TitlesFault.{TitlesFault}
 

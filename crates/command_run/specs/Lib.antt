@@ -2,7 +2,6 @@
 -- needs them.
 pub mod Hosts
 pub mod Unopened
-pub mod TitlesTexts
 pub mod StationNames
 pub mod NewFiles
 pub mod Explaining

@@ -1,11 +1,8 @@
-//! Why no run is made of a request, and the line that says so.
-
-ghost use Rattle.std.specs.Prelude.{◌≡◌};
-ghost use Rattle.command_run.specs.TitlesTexts as spec;
+//! Why no run is made of a request.
 
 use crate::unopened::Unopened;
 use station_compare::Refusal;
-use table_titles::{TitleOf, TitlesFault};
+use table_titles::TitlesFault;
 
 /// Why no run is made of a request.
 #[derive(Drop)]
@@ -21,20 +18,4 @@ pub(crate) enum Hindrance<'a> {
 
     /// It names columns of its table by titles, and the table has none of these.
     Columns(TitlesFault),
-}
-
-/// The line of a refusal for the titles of a table, with its line feed.
-pub(crate) fn titles_line(fault: TitlesFault) -> &'static str
-    ensures { result.now ≡ spec.titles_line fault }
-{
-    match fault {
-        TitlesFault::Read => "refused: table: Read\n",
-        TitlesFault::TooLong => "refused: table: TooLong\n",
-        TitlesFault::NoTitle(TitleOf::Targets) => "refused: table: NoTitle 1\n",
-        TitlesFault::NoTitle(TitleOf::Directions) => "refused: table: NoTitle 2\n",
-        TitlesFault::TwiceTitled(TitleOf::Targets) => "refused: table: TwiceTitled 1\n",
-        TitlesFault::TwiceTitled(TitleOf::Directions) => "refused: table: TwiceTitled 2\n",
-        TitlesFault::SameTitle => "refused: table: SameTitle\n",
-        TitlesFault::Memory => "refused: out of memory\n",
-    }
 }

@@ -10,7 +10,7 @@ ghost use Rattle.command_run.specs.Answering.{TellsHindrance};
 ghost use Rattle.command_run.specs.Hosts.{known_of, readers};
 
 use crate::answering::answer;
-use crate::hindrance::{Hindrance, titles_line};
+use crate::hindrance::Hindrance;
 use crate::host::{Host, NoWords};
 use crate::new_file::NewFile;
 use crate::unopened::{Unopened, there_line, unopened_line};
@@ -20,6 +20,7 @@ use command_line::asked_for;
 use station_check::{Fault, VERSION, refuse, refuse_by};
 use station_explain::Explanation;
 use std::alloc::Global;
+use table_titles::titles_line;
 
 /// The exit status of a mistake on the command line, or of a file that can't be opened.
 pub const USAGE: u8 = 2;

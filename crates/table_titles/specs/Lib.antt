@@ -2,3 +2,4 @@
 pub mod Titles
 pub mod TitledInput
 pub mod Faults
+pub mod FaultTexts

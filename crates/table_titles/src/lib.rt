@@ -7,9 +7,11 @@
 
 mod columns;
 mod fault;
+mod line;
 mod row;
 mod titles;
 
 pub use columns::{columns_by_titles, titled_columns};
 pub use fault::TitlesFault;
+pub use line::titles_line;
 pub use titles::{TitleOf, Titles};
