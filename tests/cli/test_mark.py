@@ -51,7 +51,9 @@ def set_of(targets):
 
 def refused_station(name, fault, readings):
     """What is told where a file is refused for its one station, at a block."""
-    told = f"note: station {name}: not recognized, {fault}; {readings} readings stay outside\n"
+    leads_on = model.LEADS_ON[fault.split(": ")[1]].decode()
+    outside = f"{readings} readings stay outside: {leads_on}"
+    told = f"note: station {name}: not recognized, {fault}; {outside}\n"
     return told.encode() + refused(fault.replace(": ", ": mark: "))
 
 

@@ -1,5 +1,6 @@
 -- The public definitions, which public contracts cite, in the order in which a reader needs them.
 pub mod Answers
+pub mod LeadsOn
 pub mod Notes
 pub mod ToldRows
 pub mod FaultTexts

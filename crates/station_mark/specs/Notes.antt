@@ -12,6 +12,7 @@ use Rattle.set_marks.specs.declared.marked.Marked.{Marked}
 use Rattle.set_marks.specs.declared.recognized.Recognized.{Recognized}
 use Rattle.set_marks.specs.declared.remarks.Remarks.{Remarks}
 use Rattle.set_marks.specs.declared.zeniths.ZenithRange.{ZenithRange}
+use Rattle.station_mark.specs.LeadsOn.{leads_on}
 
 -- the ending of a word for this many: none for one
 abbrev pub plural : ℕ → List ℕ
@@ -36,9 +37,13 @@ flaw_text f = codes "block " ++ (decimal f.block ++ (codes ": " ++ mark_kind_nam
 
 -- of a station with a fault, this and how many readings the station has:
 -- `not recognized, block 14: ReadTwice; 22 readings stay outside`
-abbrev pub fault_text : Flaw → ℕ → List ℕ
-fault_text f readings =
+abbrev pub unrecognized_text : Flaw → ℕ → List ℕ
+unrecognized_text f readings =
     codes "not recognized, " ++ (flaw_text f ++ (codes "; " ++ left_outside_text readings))
+
+-- the same, and what leads on
+abbrev pub fault_text : Flaw → ℕ → List ℕ
+fault_text f readings = unrecognized_text f readings ++ (codes ": " ++ leads_on f.kind)
 
 -- the target that opens the sets, and the one at which the first set turns: `, from TOWER to P12`
 abbrev pub ends_text : Option Remarks → List ℕ

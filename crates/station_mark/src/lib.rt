@@ -18,6 +18,7 @@ mod copy;
 mod fault;
 mod given;
 pub mod laws;
+mod leading;
 mod mark;
 mod marked_file;
 mod notes;

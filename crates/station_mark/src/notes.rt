@@ -4,6 +4,7 @@ ghost use Rattle.std.specs.Prelude.{◌≡◌, ◌++◌, [], IfOk, OnOk, codes, 
 ghost use Rattle.station_mark.specs.Notes.{again_line, are_missing, counted, ends_text, fault_text};
 ghost use Rattle.station_mark.specs.Notes.{faultless_text, flaw_text, has_readings, is_named_again};
 ghost use Rattle.station_mark.specs.Notes.{left_outside_text, line_head, line_of_some, missing_text};
+ghost use Rattle.station_mark.specs.Notes.{unrecognized_text};
 ghost use Rattle.station_mark.specs.Notes.{names_after, next_lines, others_text, outside_text};
 ghost use Rattle.station_mark.specs.Notes.{recognized_text, remarks_lines, sets_text};
 ghost use Rattle.station_mark.specs.Notes.{station_lines, stations_text, unread_line};
@@ -13,6 +14,7 @@ ghost use Rattle.station_mark.specs.Notes.{opened_again_line, opened_again_text,
 ghost use Rattle.station_mark.specs.Notes.{read_lines, written_again_text};
 ghost use Rattle.station_mark.specs.Notes as spec;
 
+use crate::leading::leads_on;
 use adjust_kernel::Name;
 use itoa::Buffer;
 use set_marks::{Flaw, Names, Recognized, Remarks, SetPair, ZenithRange};
@@ -212,6 +214,16 @@ fn add_told(text: &mut Vec<u8>, station: &Recognized) -> Result<(), AllocError>
 /// Adds what is told of a station with a fault, and so many readings.
 fn add_fault(text: &mut Vec<u8>, flaw: Flaw, readings: usize) -> Result<(), AllocError>
     ensures { OnOk result (text.new.items ≡ text.old.items ++ fault_text flaw readings) }
+{
+    add_unrecognized(text, flaw, readings)?;
+    text.extend_from_slice(b": ")?;
+    text.extend_from_slice(leads_on(flaw.kind).as_bytes())?;
+    Ok(())
+}
+
+/// Adds a fault of a station, and how many readings the station has.
+fn add_unrecognized(text: &mut Vec<u8>, flaw: Flaw, readings: usize) -> Result<(), AllocError>
+    ensures { OnOk result (text.new.items ≡ text.old.items ++ unrecognized_text flaw readings) }
 {
     text.extend_from_slice(b"not recognized, ")?;
     add_flaw(text, flaw)?;

@@ -159,7 +159,8 @@ fn each_station_is_told_before_the_line_of_a_refusal(rt: HostRuntime) -> Result<
     let told: &[u8] =
         b"note: station P1: 1 set, 2 targets, from A to B; 0 readings before them and 0 after stay \
 outside\n\
-note: station P2: not recognized, block 9: FaceMissing; 3 readings stay outside\n\
+note: station P2: not recognized, block 9: FaceMissing; 3 readings stay outside: \
+leave the target out of this set, or give it its right name\n\
 refused: block 9: mark: FaceMissing\n";
     expect_run(&rt, alloc, TWO_STATIONS, false, None, (1, b"", told))
 }
@@ -186,7 +187,8 @@ fn a_station_with_a_fault_stays_outside_where_it_is_stated(rt: HostRuntime) -> R
     let notes: &[u8] =
         b"note: station P1: 1 set, 2 targets, from A to B; 0 readings before them and 0 after stay \
 outside\n\
-note: station P2: not recognized, block 9: FaceMissing; 3 readings stay outside\n\
+note: station P2: not recognized, block 9: FaceMissing; 3 readings stay outside: \
+leave the target out of this set, or give it its right name\n\
 note: compare this with the field book\n";
     expect_run_as_stated(
         &rt,
@@ -206,7 +208,8 @@ fn the_numbers_that_are_stated_are_those_of_the_sets(rt: HostRuntime) -> Result<
     expect_run_as_stated(&rt, alloc, JOB, false, None, right, (0, COPY, NOTES))?;
     let other = numbers(alloc, Some(3), None);
     let refused: &[u8] =
-        b"note: station P1: not recognized, block 2: SetCount; 10 readings stay outside\n\
+        b"note: station P1: not recognized, block 2: SetCount; 10 readings stay outside: \
+leave out a set that was broken off or read again, or state another number\n\
 note: station P2: no sets; 1 reading stays outside\n\
 refused: block 2: mark: SetCount\n";
     expect_run_as_stated(&rt, alloc, JOB, false, None, other, (1, b"", refused))
@@ -524,7 +527,8 @@ note: station P2: no sets; 3 readings stay outside\n\
 note: station P2: set-up line written again 2 times, taken as the same set-up\n\
 note: station P3: no readings\n\
 note: station P2: set up again\n\
-note: station P2: not recognized, block 14: ReadTwice; 4 readings stay outside\n\
+note: station P2: not recognized, block 14: ReadTwice; 4 readings stay outside: \
+leave out the reading that does not count\n\
 note: station P2: set-up line written again 3 times, taken as the same set-up\n\
 note: station P4: no readings\n\
 note: station P4: set-up line written again 18446744073709551615 times, taken as the same \
@@ -540,14 +544,16 @@ fn a_station_with_a_fault_is_told_with_it(rt: HostRuntime) -> Result<(), Fail> {
             14,
             MarkKind::ReadTwice,
             1,
-            b"note: station P1: not recognized, block 14: ReadTwice; 1 reading stays outside\n",
+            b"note: station P1: not recognized, block 14: ReadTwice; 1 reading stays outside: \
+leave out the reading that does not count\n",
         ),
         (
             u32::MAX,
             MarkKind::TooManyStations,
             usize::MAX,
             b"note: station P1: not recognized, block 4294967295: TooManyStations; \
-18446744073709551615 readings stay outside\n",
+18446744073709551615 readings stay outside: \
+mark copies that have a part each\n",
         ),
     ];
     for (block, kind, readings, want) in cases {
@@ -569,7 +575,8 @@ fn a_station_with_a_fault_is_told_with_it(rt: HostRuntime) -> Result<(), Fail> {
     ];
     let want: &[u8] = b"note: station P1: no sets; 2 readings stay outside\n\
 note: station P1: set up again\n\
-note: station P1: not recognized, block 5: StationTwice; 3 readings stay outside\n\
+note: station P1: not recognized, block 5: StationTwice; 3 readings stay outside: \
+state --same-set-up or --again\n\
 note: station P1: set up again\n\
 note: station P1: no sets; 4 readings stay outside\n";
     expect_told(&rt, alloc, &stations, want)

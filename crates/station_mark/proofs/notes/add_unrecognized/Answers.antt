@@ -1,7 +1,7 @@
 use Rattle.std.specs.Prelude.{codes}
 use Rattle.station_mark.specs.Notes.{flaw_text, left_outside_text}
 use Rattle.station_mark.proofs.Joined.{four_joined}
-use Rattle.station_mark.proofs.notes.add_fault.Goals as goal
+use Rattle.station_mark.proofs.notes.add_unrecognized.Goals as goal
 
 pub returns : goal.returns
 returns c = four_joined c.args.text.now.items (codes "not recognized, ") (flaw_text c.args.flaw)
