@@ -436,14 +436,18 @@ def without_closing(readings: list[Block]) -> list[Block]:
     return readings[:end]
 
 
-def may_stand_before(readings: list[Block], face: int) -> bool:
+def may_open(readings: list[Block], face: int) -> bool:
     """Whether readings may be sights that belong to none of the sets, which begin in this face: a
-    target may have been sighted again at once, and the first one at the end."""
+    target may have been sighted again at once."""
     if len(readings) > MOST_BEFORE:
-        opened = without_again(readings), without_closing(readings)
-        return any(are_sighted_once(sights, face) for sights in opened)
+        return are_sighted_once(without_again(readings), face)
     in_this = {reading.target() for reading in readings if reading.face() == face}
     return {reading.target() for reading in readings} <= in_this
+
+
+def may_stand_before(readings: list[Block], face: int) -> bool:
+    """The same, or the first target may have been sighted again at the end."""
+    return may_open(readings, face) or are_sighted_once(without_closing(readings), face)
 
 
 def counts_before(readings: list[Block]) -> range:
@@ -546,8 +550,8 @@ def broken_after(readings: list[Block], before: int) -> list[Block] | None:
 def broken_set(readings: list[Block]) -> list[Block]:
     """The readings of a last set that was broken off, however many stand before the sets; none
     where all sets may be whole."""
-    found = [broken_after(readings, before) for before in counts_before(readings)]
-    divided = [broken for broken in found if broken is not None]
+    found = [(before, broken_after(readings, before)) for before in counts_before(readings)]
+    divided = [broken for _, broken in found if broken is not None]
     if not all(divided) or not divided:
         return []
     numbers = {range_said(broken[0].number, broken[-1].number) for broken in divided}
@@ -556,7 +560,10 @@ def broken_set(readings: list[Block]) -> list[Block]:
             f"the last set that was broken off may have {' or '.join(sorted(numbers))}: leave out "
             "by --blocks what the field book says"
         )
-    return [] if whole_sets(divided[0], readings) else divided[0]
+    # Sights that end with their first target alone may as well be a set and what closes it.
+    counts = [before for before, broken in found if broken is not None]
+    opens = any(may_open(readings[:before], readings[before].face()) for before in counts)
+    return [] if not opens or whole_sets(divided[0], readings) else divided[0]
 
 
 def broken_off(blocks: list[Block]) -> list[Block]:

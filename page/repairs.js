@@ -214,15 +214,22 @@ function withoutClosing(/** @type {Reading[]} */ readings) {
 
 /**
  * Whether readings may be sights that belong to none of the sets, which begin in this face: a target
- * may have been sighted again at once, and the first one at the end.
+ * may have been sighted again at once.
  * @param {Reading[]} readings
  * @param {number} face
  */
-function mayStandBefore(readings, face) {
-  const count = countedIn(readings), opened = [withoutAgain(readings), withoutClosing(readings)];
-  return readings.length > MOST_BEFORE ? opened.some(sights => areSightedOnce(sights, face))
+function mayOpen(readings, face) {
+  const count = countedIn(readings);
+  return readings.length > MOST_BEFORE ? areSightedOnce(withoutAgain(readings), face)
     : readings.every(({ target }) => count(target, face) > 0);
 }
+
+/**
+ * The same, or the first target may have been sighted again at the end.
+ * @type {typeof mayOpen}
+ */
+const mayStandBefore = (readings, face) =>
+  mayOpen(readings, face) || areSightedOnce(withoutClosing(readings), face);
 
 /**
  * How many readings may stand before sets: none, and each number up to the greatest: up to where a
@@ -385,14 +392,18 @@ function brokenAfter(readings, before) {
  * all sets may be whole, or where it may have others.
  */
 function brokenSet(/** @type {Reading[]} */ readings) {
-  const divided = countsBefore(readings).flatMap(before => {
+  const found = countsBefore(readings).flatMap(before => {
     const broken = brokenAfter(readings, before);
-    return broken ? [broken] : [];
+    return broken ? [{ before, broken }] : [];
   });
-  const [first = []] = divided, said = (/** @type {Reading[]} */ broken) =>
+  const divided = found.map(({ broken }) => broken), [first = []] = divided;
+  // (sights that end with their first target alone may as well be a set and what closes it)
+  const opens = found.some(({ before }) =>
+    mayOpen(readings.slice(0, before), readings[before].face));
+  const said = (/** @type {Reading[]} */ broken) =>
     `${broken[0]?.block}-${broken[broken.length - 1]?.block}`;
   const isOne = first.length > 0 && divided.every(broken => said(broken) === said(first));
-  return isOne && !mayBeWhole(first, readings) ? first : [];
+  return isOne && opens && !mayBeWhole(first, readings) ? first : [];
 }
 
 // ---------------------------------------------------------------- what is proposed
