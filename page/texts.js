@@ -54,6 +54,12 @@ const inFrench = (/** @type {string} */ said) => said.replace(/ (?=[:;?!»])|(?<
 /** A text as its language sets it. */
 export const typeset = (/** @type {string} */ said) => language === 'fr' ? inFrench(said) : said;
 
+/**
+ * How a language tells one from more, once it was spoken.
+ * @type {Record<string, Intl.PluralRules>}
+ */
+const plurals = {};
+
 /** The words in the place of which texts have numbers with decimals. */
 const NUMBERS = new Set([
   'size', 'apart', 'limit', 'twoC', 'twoI', 'residual', 'within', 'least', 'most', 'step',
@@ -67,7 +73,8 @@ const NUMBERS = new Set([
  */
 export function text(name, values = {}) {
   const [one, more] = (TEXTS[language]?.[name] ?? '').split('|');
-  const isOne = more === undefined || new Intl.PluralRules(language).select(Number(values.n)) === 'one';
+  const rules = plurals[language] ??= new Intl.PluralRules(language);
+  const isOne = more === undefined || rules.select(Number(values.n)) === 'one';
   return typeset(isOne ? one : more).replace(/\{(\w+)\}/g, (_, word) => {
     const value = String(values[word]);
     return NUMBERS.has(word) ? numeral(value) : value;

@@ -1,4 +1,4 @@
-// The page's side of the worker: each call is a promise of its answer, and all can be stopped.
+// The page's side of the workers: each call is a promise of its answer, and all can be stopped.
 import { bytesOfText } from './packed.js';
 import { part, stored } from './stored.js';
 
@@ -13,35 +13,46 @@ export class Stopped extends Error {}
 
 const bytesOf = (/** @type {string} */ text) => new TextEncoder().encode(text);
 
-/** @type {Worker | undefined} */
-let worker;
-/** The numbers of the files that the worker has. */
-let handed = new WeakMap();
-/** Has the worker forget a file that is no longer here. */
-const gone = new FinalizationRegistry(file => worker?.postMessage({ forget: file }));
-/** The script of the worker, once it is unpacked. */
+/**
+ * A worker, the numbers of the files that it has, and what comes once the module is in it.
+ * @typedef {{ worker: Worker, handed: WeakMap<Uint8Array, number>, ready: Promise<unknown> }} Hand
+ */
+
+/**
+ * The worker that answers.
+ * @type {Hand | undefined}
+ */
+let first;
+/**
+ * Another beside it, for what is asked of a large file and no other call waits for.
+ * @type {Hand | undefined}
+ */
+let second;
+/** The calls that go to the second one, of a file with so many bytes. */
+const BESIDE = ['digest', 'instrument'], LARGE = 1_000_000;
+/** Has a worker forget a file that is no longer here. */
+const gone = new FinalizationRegistry(({ worker, file }) => worker.postMessage({ forget: file }));
+/** The script of the workers, once it is unpacked. */
 let script = '';
 /** @type {Map<number, { resolve: Function, reject: Function }>} */
 const waiting = new Map();
 let count = 0;
 
-/** Hands a message to the worker; answers what comes back. */
-function sent(/** @type {object} */ message) {
+/** Hands a message to a worker; answers what comes back. */
+function sent(/** @type {Worker} */ worker, /** @type {object} */ message) {
   return new Promise((resolve, reject) => {
     waiting.set(++count, { resolve, reject });
-    /** @type {Worker} */ (worker).postMessage({ id: count, ...message });
+    worker.postMessage({ id: count, ...message });
   });
 }
 
 /**
- * Starts a worker with the module in it, at once where its script is unpacked; fails where the
- * browser can't run the module.
+ * A new worker, into which the module goes.
+ * @returns {Hand}
  */
-export async function start() {
-  script ||= (await stored()).calls;
+function hired() {
   const address = URL.createObjectURL(new Blob([script], { type: 'text/javascript' }));
-  worker = new Worker(address);
-  handed = new WeakMap();
+  const worker = new Worker(address);
   worker.onmessage = ({ data: { id, answer, error } }) => {
     const { resolve, reject } = waiting.get(id) ?? {};
     waiting.delete(id);
@@ -51,7 +62,18 @@ export async function start() {
   worker.onerror = event => {
     for (const { reject } of waiting.values()) reject(new Error(event.message));
   };
-  await sent({ module: bytesOfText(part('module')) });
+  const ready = sent(worker, { module: bytesOfText(part('module')) });
+  return { worker, handed: new WeakMap(), ready };
+}
+
+/**
+ * Starts a worker with the module in it, at once where its script is unpacked; fails where the
+ * browser can't run the module.
+ */
+export async function start() {
+  script ||= (await stored()).calls;
+  first = hired();
+  await first.ready;
 }
 
 /** Whether a call is under way. */
@@ -59,20 +81,32 @@ export const isAsked = () => waiting.size > 0;
 
 /** Ends what is under way; the next calls go to a new worker. */
 export function stop() {
-  worker?.terminate();
+  for (const hand of [first, second]) hand?.worker.terminate();
   for (const { reject } of waiting.values()) reject(new Stopped());
   waiting.clear();
+  second = undefined;
   start().catch(() => {});
 }
 
+/** The worker to which a call goes. */
+function handFor(/** @type {string} */ name, /** @type {unknown[]} */ inputs) {
+  const isLarge = inputs.some(input => input instanceof Uint8Array && input.length >= LARGE);
+  if (!BESIDE.includes(name) || !isLarge) return /** @type {Hand} */ (first);
+  second ??= hired();
+  second.ready.catch(() => {});
+  return second;
+}
+
 /**
- * A file as the worker takes it: with its bytes the first time, and then by its number alone.
+ * A file as a worker takes it: with its bytes the first time, and then by its number alone.
+ * @param {Uint8Array} bytes
+ * @param {Hand} hand
  */
-function asHanded(/** @type {Uint8Array} */ bytes) {
+function asHanded(bytes, { worker, handed }) {
   const file = handed.get(bytes);
   if (file) return { file };
   handed.set(bytes, ++count);
-  gone.register(bytes, count);
+  gone.register(bytes, { worker, file: count });
   return { file: count, bytes };
 }
 
@@ -83,11 +117,12 @@ function asHanded(/** @type {Uint8Array} */ bytes) {
  * @returns {Promise<Reply>}
  */
 export async function ask(name, ...inputs) {
+  const hand = handFor(name, inputs);
   const given = inputs.map(input => {
     if (typeof input === 'string') return bytesOf(input);
-    return input instanceof Uint8Array ? asHanded(input) : input;
+    return input instanceof Uint8Array ? asHanded(input, hand) : input;
   });
-  const { status, shown, told } = await sent({ name, inputs: given });
+  const { status, shown, told } = await sent(hand.worker, { name, inputs: given });
   const [bytes = new Uint8Array(), more = new Uint8Array()] = shown;
   const [text, beside] = [bytes, more].map(one => new TextDecoder().decode(one));
   return { status, bytes, text, beside: beside.trimEnd(), told };
