@@ -17,6 +17,7 @@ station_check_change = station_page_change;
 station_check_digest = station_page_digest;
 station_check_explain = station_page_explain;
 station_check_explanation = station_page_explanation;
+station_check_columns = station_page_columns;
 station_check_place = station_page_place;
 station_check_instrument = station_page_instrument;
 station_check_records = station_page_records;

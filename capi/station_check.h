@@ -298,6 +298,15 @@ uint8_t station_check_explain(const char *line, size_t line_length,
 uint8_t station_check_explanation(const char *line, size_t line_length,
                                   char *text, size_t room, size_t *length);
 
+/* By which columns a table with these titles, of targets and of directions, is to be read: their
+ * numbers, counted from 1, with a comma between, as "2,3"; or the line of the refusal. Titles are
+ * compared as they stand in one row, without the blanks around them, capitals too. 64 bytes are
+ * always enough. */
+uint8_t station_check_columns(const void *table, size_t table_length,
+                              const char *targets, size_t targets_length,
+                              const char *directions, size_t directions_length,
+                              char *text, size_t room, size_t *length);
+
 /* Where the line of a refusal stands, in the field file or in the sheet or the table of the call that
  * refused; of length 0 where there is none. A row below titles: `what` it is ("block", "sheet row",
  * "table row"; "target", "set" or "observation" among the sheet's rows of these; "station target",
@@ -312,9 +321,9 @@ uint8_t station_check_place(const char *line, size_t line_length,
                             const void *other, size_t other_length,
                             char *rows, size_t room, size_t *length);
 
-/* The lines that a report in a language has of the words 12, 13, 17, 18 and 19 of a field file
- * without a fault of its lines, as they stand, in UTF-8: what it recorded of instrument and time. 512
- * bytes are always enough. */
+/* The lines that a report in a language has of the words 12, 13, 17, 18 and 19 of a field file, as
+ * they stand, in UTF-8: what it recorded of instrument and time; of one with a fault of its lines,
+ * what the blocks before that did. 512 bytes are always enough. */
 uint8_t station_check_instrument(const void *gsi, size_t gsi_length, uint32_t language,
                                  char *text, size_t room, size_t *length);
 

@@ -20,8 +20,8 @@ the others it is 10 mgon.
 
 A table of directions states gon, or by its `unit` "degrees", or "dmmss", which is two digits of
 minutes after the point and then the seconds. `columns` are those of names and of directions,
-counted from 1; where none are stated the table has two, or the one pair of its columns that fits is
-found. The `note` of the answer, or of a refusal, tells which columns were read, and how much was
+counted from 1, as (2, 6), or by their titles, as ("Target", "Hz"); where none are stated the table
+has two, or the one pair of its columns that fits is found. The `note` of the answer, or of a refusal, tells which columns were read, and how much was
 passed over, where there are more than two; and another unit in which a table that is apart agrees.
 
 The library is the one that STATION_CHECK_LIBRARY names, else that of the installation which this
@@ -326,12 +326,12 @@ def compare(
     two_i: int = FACES,
     within: int | None = None,
     unit: str = "gon",
-    columns: tuple[int, int] | None = None,
+    columns: tuple[int, int] | tuple[str, str] | None = None,
 ) -> Noted:
     """The line of the agreement, with the greatest residual; `within` is in units of 0.001 mgon,
     and if it is None what is usual for the decimals of the table."""
     faces = _numbers(two_c=two_c, two_i=two_i)
-    numbers = [*faces, *_form(unit, columns), *_stated(within=within)]
+    numbers = [*faces, *_form(unit, columns, table), *_stated(within=within)]
     told = _told("compare", [gsi, table, _text(station)], numbers)
     return Noted(told.removesuffix("\n"), told.note)
 
@@ -344,13 +344,13 @@ def differences(
     two_c: int = FACES,
     two_i: int = FACES,
     unit: str = "gon",
-    columns: tuple[int, int] | None = None,
+    columns: tuple[int, int] | tuple[str, str] | None = None,
     decimal_comma: bool = False,
 ) -> Noted:
     """The differences of the table, target by target, after the rotation that makes the largest
     smallest: exactly rounded, however large they are. The table may lack targets if it states two or
     more: their rows have the least-squares direction alone."""
-    numbers = [*_numbers(two_c=two_c, two_i=two_i), *_form(unit, columns)]
+    numbers = [*_numbers(two_c=two_c, two_i=two_i), *_form(unit, columns, table)]
     call = "comma_differences" if decimal_comma else "differences"
     return _told(call, [gsi, table, _text(station)], numbers)
 
@@ -366,12 +366,12 @@ def table(
     two_i: int = FACES,
     within: int | None = None,
     unit: str = "gon",
-    columns: tuple[int, int] | None = None,
+    columns: tuple[int, int] | tuple[str, str] | None = None,
 ) -> Table:
     """All of a table beside its station, of one reading of each file and one adjustment, whether it
     agrees or is apart; its report names both files by these paths."""
     faces = _numbers(two_c=two_c, two_i=two_i)
-    numbers = [*faces, *_form(unit, columns), *_stated(within=within)]
+    numbers = [*faces, *_form(unit, columns, table), *_stated(within=within)]
     paths = os.fsencode(path), os.fsencode(table_path)
     reply = _call("table", [gsi, paths[0], table, paths[1], _text(station)], numbers, texts=2)
     parts = {title: os.fsdecode(part) for title, part in _parts(reply.text)}
@@ -708,14 +708,25 @@ def _stated(**limit: int | None) -> Sequence[ctypes.c_uint32]:
     return [ctypes.c_uint32(1), *_numbers(**{parameter: value})]
 
 
-def _form(unit: str, columns: tuple[int, int] | None) -> Sequence[ctypes.c_uint32]:
+def _form(
+    unit: str, columns: tuple[int, int] | tuple[str, str] | None, table: File
+) -> Sequence[ctypes.c_uint32]:
     """How a table is to be read, as the library takes it."""
     if unit not in _UNITS:
         raise ValueError(f"unit is {unit!r}: state one of {', '.join(_UNITS)}")
-    pair = (0, 0) if columns is None else tuple(_whole("columns", column) for column in columns)
-    if len(pair) != 2 or columns is not None and pair[0] == pair[1]:
-        raise ValueError("columns are two: that of the names and that of the directions, as (2, 6)")
+    pair = (0, 0) if columns is None else _pair(columns, table)
     return [ctypes.c_uint32(number) for number in (_UNITS[unit], *pair)]
+
+
+def _pair(columns: Sequence[int | str], table: File) -> Sequence[int]:
+    """Two columns that are stated, by their numbers: those of a table with two titles too."""
+    titles = [_text(one) for one in columns if isinstance(one, str)]
+    numbers = [_whole("columns", one) for one in columns if not isinstance(one, str)]
+    if len(titles) == 2 and not numbers:
+        return [int(number) for number in _answer("columns", [table, *titles], []).split(b",")]
+    if titles or len(set(numbers)) != 2 or len(numbers) != 2:
+        raise ValueError("columns are two: that of the names and that of the directions, as (2, 6)")
+    return numbers
 
 
 def _line(text: bytes) -> str:

@@ -1,7 +1,7 @@
 // Which call is asked for which files, and what it answered: a card for each station, and for each
 // file that belongs to none. Nothing here decides a verdict.
 import { ask, digestOf } from './work.js';
-import { explanationIn, nameIn, readFaults } from './faults.js';
+import { explanationIn, nameIn, readFaults, toldOf } from './faults.js';
 import {
   UNITS, fieldOfSheet, originalOf, stationOfSheet, stationOfTable, stemOf, tellApart, tellingPartOf,
   withTaken,
@@ -127,6 +127,11 @@ export const filesOf = (/** @type {Card} */ { field, answers }) =>
 
 /** The number by which the calls know a language. */
 const languageNumber = (/** @type {string} */ code) => Object.keys(LANGUAGES).indexOf(code);
+
+/** Has the digest of a file at hand. */
+async function withDigest(/** @type {Input} */ file) {
+  file.digest ||= await digestOf(file);
+}
 
 /** Has at hand what a field file recorded of instrument and time, in the language of the page. */
 export async function record(/** @type {Input} */ field) {
@@ -295,7 +300,26 @@ async function readRows(/** @type {Input} */ file) {
     const { told = [] } = await ask('records', part, separator.charCodeAt(0));
     return separator === ' ' ? told.map(fields => fields.filter(field => field !== '')) : told;
   });
-  file.rows = (await Promise.all(read)).flat();
+  const all = await Promise.all(read), firsts = all.map(([first = []]) => first);
+  file.rows = all.flat();
+  file.titles = firsts.reduce((most, one) => one.length > most.length ? one : most, []);
+}
+
+/** The number of a column, from 1, as the calls take it. */
+const COLUMN = /^[1-9]\d{0,5}$/;
+
+/**
+ * States by which columns a table is to be read, of targets and of directions: by their numbers, or
+ * by their titles, which a call looks for. Answers why it has none with these, and else nothing.
+ * @param {Input} table
+ * @param {string[]} stated
+ */
+export async function stateColumns(table, stated) {
+  const areNumbers = stated.every(one => COLUMN.test(one)), given = originalOf(table);
+  const { status, text: said } = areNumbers ? { status: ACCEPTED, text: stated.join() }
+    : await ask('columns', table.bytes, ...stated);
+  if (status === ACCEPTED) given.columns = said.split(',').map(Number);
+  return status === ACCEPTED ? '' : toldOf(await explanationOf(said.trimEnd())).what;
 }
 
 /**
@@ -426,17 +450,17 @@ export async function makeCards(inputs, limits, cards, told) {
     for (const file of others) await readRows(file);
     for (const field of fields) {
       tell(field);
-      field.digest ||= await digestOf(field);
-      await record(field);
-      cards.push(...await cardsOfField(field, limits));
+      // (of a large file the others are answered beside the first)
+      const [made] = await Promise.all(
+        [cardsOfField(field, limits), withDigest(field), record(field)]);
+      cards.push(...made);
       left.delete(field);
     }
     tellApart([...given, ...read().filter(field => field.original)]);
     for (const file of others) {
       if (!left.has(file)) continue;
       tell(file);
-      for (const one of file.original ? [file.original, file] : [file])
-        one.digest ||= await digestOf(one);
+      for (const one of file.original ? [file.original, file] : [file]) await withDigest(one);
       await placeFile(file, cards, read(), stations(), limits);
       left.delete(file);
     }

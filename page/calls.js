@@ -130,5 +130,7 @@ export const calls = {
   instrument: (core, gsi, language) =>
     callOf(core, 'station_page_instrument', [gsi], [language]),
   records: (core, text, separator) => callOf(core, 'station_page_records', [text], [separator]),
+  columns: (core, table, targets, directions) =>
+    callOf(core, 'station_page_columns', [table, targets, directions], []),
   place: (core, line, gsi, other) => callOf(core, 'station_page_place', [line, gsi, other], []),
 };

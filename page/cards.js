@@ -37,7 +37,7 @@ import { hasComma, text } from './texts.js';
  * its protocol says of what else was handed in, to print it, to name the station of a field file, or
  * the code whose blocks begin its stations, to state the numbers of sets and targets of stations,
  * what one is whose name comes again, that stations that aren't recognized stay outside, by which
- * columns a table is to be read, or to have lines changed in a copy, which answers why that can't be.
+ * columns a table is to be read, or to have lines changed in a copy: both answer why that can't be.
  * @typedef {{ limits: import('./limits.js').Limits, called: (card: StationCard) => string,
  *   load: (card: StationCard) => Promise<void>,
  *   beside: (card: Card) => string[], print: (card: Card) => void,
@@ -46,7 +46,7 @@ import { hasComma, text } from './texts.js';
  *   count: (field: Input, stations: string[], numbers: import('./files.js').Numbers) => void,
  *   setUp: (field: Input, again?: import('./files.js').Again) => void,
  *   leaveOut: (field: Input, others: boolean) => void,
- *   readBy: (table: Input, columns?: number[]) => void,
+ *   readBy: (table: Input, columns?: string[]) => Promise<string>,
  *   change: (field: Input, changes: Change[]) => Promise<string> }} Desk
  * @typedef {import('./changes.js').Change} Change
  * @typedef {import('./repairs.js').Proposal} Proposal
@@ -96,13 +96,13 @@ function showAnswer(answer, card, desk, parent) {
   const columns = columnsText(answer);
   if (columns) element('p', columns, part, { className: 'columns' });
   showFault(answer, part);
-  if (other) askColumns(originalOf(other), answer, desk, part);
+  if (other?.kind === 'table') askColumns(other, answer, desk, part);
   offerChange(answer, desk, part);
   showCommand(answer, part);
 }
 
-/** The largest number of a column. */
-const MOST_COLUMNS = 999_999;
+/** So many columns have the tables of which none are asked for, where these need not be. */
+const USUAL_COLUMNS = 2;
 /**
  * The fields of columns: what each is called.
  * @type {[string, string][]}
@@ -110,38 +110,44 @@ const MOST_COLUMNS = 999_999;
 const ASKED_COLUMNS = [['names', 'nameColumn'], ['directions', 'directionColumn']];
 
 /**
- * Asks by which columns a table is to be read: where more than one pair fits, and where some are
- * stated, which may be forgotten again.
+ * Asks by which columns a refused table is to be read, by numbers or titles, where it has more than
+ * two; and where some are stated, which may be forgotten again.
  * @param {Input} table
  * @param {Answer} answer
  * @param {Desk} desk
  * @param {Element} parent
  */
-function askColumns(table, { verdict }, desk, parent) {
-  const { columns = [] } = table, { first, second } = verdict ?? {};
-  if (columns.length === 0 && verdict?.verdict !== 'Columns') return;
+function askColumns(table, { status, verdict }, desk, parent) {
+  const given = originalOf(table), { columns = [] } = given, { first, second } = verdict ?? {};
+  const { titles = [] } = table, isRefused = status === REFUSED && titles.length > USUAL_COLUMNS;
+  if (columns.length === 0 && verdict?.verdict !== 'Columns' && !isRefused) return;
   const form = element('form', '', parent, { className: 'buttons' });
-  form.setAttribute('aria-label', text('columnsOf', { name: table.shown }));
-  if (second) element('span', text('columnsFit', { first, second }), form);
-  const typed = table.typing ??= new Map(), typing = typed.get('columns') ?? {};
+  form.setAttribute('aria-label', text('columnsOf', { name: given.shown }));
+  if (verdict?.verdict === 'Columns') element('span', text('columnsFit', { first, second }), form);
+  const typed = given.typing ??= new Map(), typing = typed.get('columns') ?? {};
   typed.set('columns', typing);
   const inputs = ASKED_COLUMNS.map(([name, called], nth) => {
     const label = element('label', `${text(called)} `, form);
-    const value = typing[name] ?? String(columns[nth] ?? '');
-    const about = { type: 'number', min: '1', max: String(MOST_COLUMNS), required: true, value };
+    const about = { type: 'text', required: true, value: typing[name] ?? String(columns[nth] ?? '') };
     const input = /** @type {HTMLInputElement} */ (element('input', '', label, about));
     input.oninput = () => { typing[name] = input.value; };
+    propose(input, `${given.shown} ${name}`, () => titles.map(one => one.trim()).filter(Boolean));
     return input;
   });
   element('button', text('readColumns'), form, { type: 'submit', className: 'button' });
   if (columns.length > 0) button(text('findColumns'), form, () => readBy());
-  const readBy = (/** @type {number[] | undefined} */ stated) => {
+  const said = element('p', '', form, { className: 'bad' });
+  said.setAttribute('role', 'status');
+  const readBy = async (/** @type {string[] | undefined} */ stated) => {
     typed.delete('columns');
-    desk.readBy(table, stated);
+    const refused = await desk.readBy(table, stated);
+    if (!refused) return;
+    typed.set('columns', typing);
+    said.textContent = refused;
   };
   form.onsubmit = event => {
     event.preventDefault();
-    readBy(inputs.map(input => Number(input.value)));
+    readBy(inputs.map(input => input.value.trim()));
   };
 }
 

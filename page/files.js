@@ -22,14 +22,15 @@ import { each } from './rows.js';
  * `unfolded` has those whose readings the user unfolded. `recorded` has by the language the lines of
  * what it recorded of instrument and time, and is there with the digest once the file was judged.
  * `rows` has the fields of the first rows of a sheet, and of the rows of a table by each separator
- * that it may have: the core reads them before the file is judged.
+ * that it may have: the core reads them before the file is judged. `titles` may be a table's, in
+ * its first row.
  * @typedef {{ name: string, path: string, handle?: any, shown: string, bytes: Uint8Array,
  *   kind: Kind, digest: string, choice?: { field: Input, name: string }, unit?: Unit,
  *   columns?: number[], station?: string, typed?: string, original?: Input, taken?: Input,
  *   numbers?: Map<string, Numbers>, typing?: Map<string, Record<string, string>>, code?: string,
  *   typedCode?: string, again?: Again, others?: boolean,
  *   saved?: Map<string, () => string>, unfolded?: Set<string>, recorded?: Record<string, string[]>,
- *   rows?: string[][], changes?: import('./changes.js').Change[],
+ *   rows?: string[][], titles?: string[], changes?: import('./changes.js').Change[],
  *   changing?: Map<number, Changing>, given?: Input }} Input
  * What is being typed of a change of a line: the reason and the new name of its point, and what was
  * said of that last.

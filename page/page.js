@@ -1,5 +1,5 @@
 // What the user does: files come in, limits are stated. All that is shown is drawn of one state.
-import { isOfStation, judge, makeCards, record, resultsOf } from './answers.js';
+import { isOfStation, judge, makeCards, record, resultsOf, stateColumns } from './answers.js';
 import { showCard } from './cards.js';
 import { asHandedIn, changeLines, changesOf, stillOf } from './changes.js';
 import { drawInTurn, drawNow, isOther, partsInSight, redraw, redrawEach } from './drawing.js';
@@ -465,8 +465,11 @@ const desk = {
   },
   /** @type {import('./cards.js').Desk['readBy']} */
   async readBy(table, columns) {
-    table.columns = columns;
-    await checkAgain(table);
+    const { turn } = now, given = originalOf(table);
+    const refused = columns ? await stateColumns(table, columns).catch(whyIn) : '';
+    if (!columns) given.columns = undefined;
+    if (!refused && turn === now.turn) await checkAgain(given);
+    return refused;
   },
   /** @type {import('./cards.js').Desk['setUp']} */
   async setUp(field, again) {

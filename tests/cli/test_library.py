@@ -27,7 +27,7 @@ from generated import SEED, station_to_adjust
 from in_parts import parts_of, printed_of
 from kinds import refusal_in, without_hint
 from program import EXAMPLE, PROGRAM, ROOT, SWEEP, Answer, ProgramTest, answer_of, answer_to
-from rows import answer_of_residuals, as_call, has_titles
+from rows import answer_of_residuals, as_call
 
 sys.path.insert(0, str(ROOT / "conformance"))
 import run  # noqa: E402
@@ -378,8 +378,8 @@ def loaded() -> Any:
 def call_of(case: run.Case) -> Call | None:
     """The call of the module that a case is; none where it is of the command line alone."""
     command, *words = case.args or ["words"]
-    # (limits in mgon are texts, and so are titles, which the program reads)
-    is_read = has_titles(words) or any(word.endswith("mgon") for word in words)
+    # (limits in mgon are texts, which the program reads)
+    is_read = any(word.endswith("mgon") for word in words)
     if command not in OPERANDS or case.expected[0] > 1 or is_read:
         return None
     operands, options = list[str](), dict[str, Any]()
@@ -395,7 +395,8 @@ def call_of(case: run.Case) -> Call | None:
             # (where both are stated it is the second)
             options["unit"] = max(options.get("unit", name), name, key=UNITS.index)
         elif name == COLUMNS:
-            options[given] = tuple(map(int, (value or words.pop(0)).split(",")))
+            pair = (value or words.pop(0)).split(",")
+            options[given] = tuple(map(int, pair) if all(map(str.isdigit, pair)) else pair)
         elif name in NUMBERS:
             station, _, number = (value or words.pop(0)).rpartition("=")
             options.setdefault(given, {})[station or None] = int(number)
@@ -844,7 +845,7 @@ class LibraryTest(ProgramTest):
         if not shutil.which("nm"):
             self.skipTest("no nm is found")
         declared = set(re.findall(r"^uint8_t (\w+)\(", HEADER.read_text(), re.MULTILINE))
-        self.assertEqual(24, len(declared))
+        self.assertEqual(25, len(declared))
         shown = subprocess.run(["nm", "-D", LIBRARY], check=True, capture_output=True, text=True).stdout
         kinds = {name.partition("@")[0]: kind for kind, name in re.findall(r"(?:[0-9a-f]{16}| {16}) (\w) (\S+)", shown)}
         self.assertEqual(declared, {name for name, kind in kinds.items() if kind == "T"})

@@ -39,8 +39,8 @@ const calls = vm.runInThisContext('calls');
 const core = await WebAssembly.compile(unpacked('module'));
 
 const options = { ...DEFAULTS }, operands = [];
-// The columns of a table that are stated, or none.
-let columns = [0, 0];
+// The columns of a table that are stated, or none; and their titles, where these are.
+let columns = [0, 0], titles;
 // Whether rows have semicolons and decimal commas.
 let hasCommas = false;
 // The language of a report, by its number.
@@ -55,7 +55,7 @@ while (words.length > 0) {
   else if (word === '--decimal-comma') hasCommas = true;
   else if (word in UNITS) options['--unit'] = Math.max(options['--unit'], UNITS[word]);
   else if (word === '--language') language = LANGUAGES.indexOf(value ?? words.shift());
-  else if (word === '--columns') columns = (value ?? words.shift()).split(',').map(Number);
+  else if (word === '--columns') titles = (value ?? words.shift()).split(',');
   else if (word in options) options[word] = Number(value ?? words.shift());
   else operands.push(word);
 }
@@ -76,6 +76,16 @@ if (options['--left'] !== null) {
 
 const bytesOf = file => new Uint8Array(fs.readFileSync(file));
 const nameOf = word => new TextEncoder().encode(word);
+if (titles?.every(one => /^\d+$/.test(one))) columns = titles.map(Number);
+else if (titles) {
+  const { status, shown: [bytes] } = await calls.columns(core, bytesOf(operands.at(-1)), ...titles.map(nameOf));
+  if (status !== 0) {
+    fs.writeFileSync(2, bytes);
+    process.exit(status);
+  }
+  columns = String(Buffer.from(bytes)).split(',').map(Number);
+}
+
 const faces = [options['--two-c'], options['--two-i']], form = [options['--unit'], ...columns];
 
 const marked = (call, gsi) => {

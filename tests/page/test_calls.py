@@ -26,7 +26,7 @@ import records
 from in_parts import parts_of, printed_of
 from kinds import refusal_in, without_hint
 from program import EXAMPLE, PROGRAM, ROOT, SWEEP, TimedTest, answer_to, side_by_side
-from rows import answer_of_residuals, as_call, has_titles, residuals_in
+from rows import answer_of_residuals, as_call, residuals_in
 
 sys.path[:0] = [str(ROOT / name) for name in ("conformance", "page")]
 import build  # noqa: E402
@@ -202,9 +202,9 @@ def is_nameless(case):
 def is_of_page(case):
     """Whether the files of a case can be handed in: they are there, and none is a folder. What the
     program notes beside an empty list is its own, and so are rows, digests, all stations at once, a
-    station that is left out, columns by their titles, reports with a table, with notes, in pages or
-    with what the file recorded, how changes of lines are stated and told, limits in mgon, and a limit
-    of residuals but of a sheet."""
+    station that is left out, reports with a table, with notes, in pages or with what the file
+    recorded, how changes of lines are stated and told, limits in mgon, and a limit of residuals but
+    of a sheet."""
     paths = [case.folder / word for word in case.args if "." in word]
     is_recorded = case.args[:1] == ["report"] and any(
         path.is_file() and RECORDED.search(path.read_bytes()) for path in paths
@@ -213,7 +213,7 @@ def is_of_page(case):
     is_stated = any(word in OF_PROGRAM or word.startswith(NAMED_BY_PROGRAM) for word in case.args)
     is_held = case.args[:1] != ["check"] and any(word.startswith("--residual") for word in case.args)
     is_own = is_noted or is_stated or is_held or any(word.endswith("mgon") for word in case.args)
-    is_own = is_own or case.args[:1] == ["change"] or has_titles(case.args) or is_nameless(case) or is_recorded
+    is_own = is_own or case.args[:1] == ["change"] or is_nameless(case) or is_recorded
     return not is_own and case.expected[0] < 2 and all(path.is_file() for path in paths)
 
 
@@ -370,7 +370,8 @@ def notes_of(told):
         yield "set up again"
     if told["fault"]:
         [(block, _, fault, _)] = told["fault"]
-        yield f"not recognized, block {block}: {fault}; {left_outside(before)}"
+        leads_on = model.LEADS_ON[fault].decode()
+        yield f"not recognized, block {block}: {fault}; {left_outside(before)}: {leads_on}"
     elif sets:
         [(_, _, opening, turning)] = told["ends"]
         ends = f"{counted(sets, 'set')}, {counted(targets, 'target')}, from {opening} to {turning}"

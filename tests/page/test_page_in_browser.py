@@ -1241,6 +1241,24 @@ class PageInBrowserTest(TimedTest):
             page.press("Find the columns")
         self.assertEqual([refused], page.texts(".exact samp"))
 
+    def test_columns_are_stated_by_their_titles(self):
+        """As the program takes them; the titles are proposed, and one that no column has is told of."""
+        table = b"Ziel;Soll;Hz\nA;1;0\nB;2;50.00003\n"
+        page = self.page(FIELD, self.file("titled.csv", table))
+        asked, submit = "[...document.querySelectorAll('.answer form input')]", "document.querySelector('.answer form').requestSubmit()"
+        state = f"(([names, directions]) => {{ names.value = 'Ziel'; directions.value = '%s'; directions.oninput(); names.oninput() }})({asked}); {submit}"
+        page.js(state % "hz")
+        page.wait("document.querySelector('.answer form [role=status]').textContent !== ''")
+        self.assertEqual("No column of the table has the stated title.", page.text(".answer form [role=status]"))
+        self.assertEqual(["Ziel", "hz"], page.js(f"{asked}.map(one => one.value)"))
+        page.js(f"{asked}[1].onfocus()")
+        self.assertEqual(["Ziel", "Soll", "Hz"], page.js(f"[...{asked}[1].list.options].map(one => one.value)"))
+        with page.answered():
+            page.js(state % "Hz")
+        _, said, told = model.compared(FIELD.read_bytes(), b"S1", table, form=model.TableForm(columns=(b"1", b"3")))
+        self.assertEqual((said + told).decode().splitlines(), page.texts(".exact samp"))
+        self.assertEqual("station_check compare --columns 1,3 station_s1.gsi S1 titled.csv", page.text(".exact code"))
+
     def test_the_unit_of_a_table_is_chosen_beside_it(self):
         stated = [(name, Fraction(gon) * 9 / 10) for name, gon in csv.reader(P7_TABLE.read_text().splitlines())]
         degrees = "".join(f"{name},{float(angle):.6f}\n" for name, angle in stated).encode()
@@ -2207,7 +2225,7 @@ class PageInBrowserTest(TimedTest):
         table = self.file("four.csv", FOUR_DECIMALS)
         page = self.page()
         page.js(
-            "globalThis.posted = []; const post = worker.postMessage.bind(worker);"
+            "globalThis.posted = []; const { worker } = first, post = worker.postMessage.bind(worker);"
             " worker.postMessage = said => { posted.push(...(said.inputs ?? []).flatMap(one => one?.bytes ? [one.bytes.length] : [])); post(said) }"
         )
         page.give(P7_FIELD, table)

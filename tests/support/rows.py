@@ -3,7 +3,6 @@ out so many of the columns that `report --csv` prints."""
 
 import csv
 import io
-import re
 from pathlib import Path
 from typing import Any
 
@@ -43,8 +42,3 @@ def as_call(case: Any) -> Any:
     if case.args[:2] != AS_ROWS or OF_OTHER_ROWS.intersection(case.args):
         return case
     return case._replace(args=["residuals", *case.args[2:]], expected=of_residuals(case.expected))
-
-
-def has_titles(words: list[str]) -> bool:
-    """Whether columns are stated by their titles: the calls take their numbers alone."""
-    return re.search(r"--columns[= ](?!\d+,\d+( |$))", " ".join(words)) is not None

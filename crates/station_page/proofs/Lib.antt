@@ -1,3 +1,4 @@
 mod FieldTexts
 mod Comparisons
+mod Made
 pub mod NamedFaults

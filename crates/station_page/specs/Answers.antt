@@ -15,12 +15,9 @@ use Rattle.station_book.specs.Limits.{FaceLimits}
 use Rattle.station_book.specs.ResultLimits.{of_faces}
 use Rattle.station_book.specs.Stations.{SurveyedStation}
 use Rattle.station_book.specs.declared.result_limits.ResultLimits.{ResultLimits}
-use Rattle.set_marks.specs.Markings.{AnswersMark}
-use Rattle.job_statements.specs.Numbers.{said_in}
 use Rattle.job_statements.specs.declared.beginnings.Beginnings.{Beginnings}
+use Rattle.set_marks.specs.declared.fault.MarkFault.{MarkFault}
 use Rattle.set_marks.specs.declared.fault.MarkFault.TheVariants as mark
-use Rattle.set_marks.specs.declared.marked.Marked.{Marked}
-use Rattle.set_marks.specs.declared.refused.Refused.{Refused}
 use Rattle.job_statements.specs.declared.stated.Stated.{Stated}
 use Rattle.station_check.specs.Came.{source_of}
 use Rattle.station_check.specs.Answerable.{IsOfCheck}
@@ -39,7 +36,6 @@ use Rattle.station_compare.specs.declared.agreement.Agreement.{Agreement}
 use Rattle.station_compare.specs.declared.fault.CompareFault.{CompareFault}
 use Rattle.station_differences.specs.declared.line_form.LineForm.TheVariants.{Rows}
 use Rattle.station_explain.specs.Table.{Explanation, IsTheTable}
-use Rattle.report_phrases.specs.declared.language.Language.{Language}
 use Rattle.station_report.specs.NoteTexts.{ReportHead}
 use Rattle.table_answers.specs.Answers.{TellsBeside}
 use Rattle.table_answers.specs.Comparisons.{SaysComparison, noted_verdict, verdict}
@@ -53,8 +49,7 @@ use Rattle.table_answers.specs.Saying.{SaysDifferences}
 use Rattle.table_answers.specs.Wholes.{IsWhole, WholeValue, verdict_parts}
 use Rattle.table_answers.specs.declared.compared.Compared.{Compared}
 use Rattle.table_report.specs.Stating.{ReportAsked}
-use Rattle.station_mark.specs.FaultTexts.{refusal_line}
-use Rattle.station_mark.specs.declared.fault.PrintFault.TheVariants.{Mark}
+use Rattle.table_titles.specs.declared.fault.TitlesFault.{TitlesFault}
 use Rattle.changed_lines.specs.Answers.{IsChanged, IsFault}
 use Rattle.changed_lines.specs.Sayings.{SayChanges}
 use Rattle.changed_lines.specs.declared.change.Change.{Change}
@@ -63,18 +58,20 @@ use Rattle.changed_lines.specs.declared.fault.ChangeFault.TheVariants as change
 use Rattle.station_page.specs.Changes.{copy_or_refusal}
 use Rattle.station_change.specs.FaultTexts.{change_line}
 use Rattle.station_page.specs.Explained.{AnswersLine, explanation_or_refusal}
-use Rattle.station_page.specs.HandedOut.{HandsOut, verdict_line, text_or_refusal, refusal_text}
-use Rattle.station_page.specs.HandedOut.{comparison_line, table_or_refusal, copy_text}
-use Rattle.station_page.specs.HandedOut.{copy_or_refusal_line, listed_or_refusal, notes_or_refusal}
-use Rattle.station_page.specs.HandedOut.{rows_told}
+use Rattle.station_page.specs.HandedOut.{HandsOut, HandsOutMade, verdict_line, text_or_refusal}
+use Rattle.station_page.specs.HandedOut.{comparison_line, listed_or_refusal, refusal_text}
+use Rattle.station_page.specs.HandedOut.{table_or_refusal}
 use Rattle.station_page.specs.Limits.{States, stated_limit}
 use Rattle.station_page.specs.Listed.{TellsListed}
-use Rattle.station_page.specs.Placed.{TellsPlace}
-use Rattle.station_page.specs.Recorded.{TellsRecorded}
-use Rattle.station_page.specs.TextRecords.{TellsTheRecords}
+use Rattle.station_page.specs.Marked.{Marks, copy_text, untold_text}
+use Rattle.station_page.specs.Placed.{IsPlaceText}
+use Rattle.station_page.specs.Recorded.{IsRecorded}
+use Rattle.station_page.specs.TextRecords.{AreTheRecords}
+use Rattle.station_page.specs.Titled.{TellsColumns, columns_or_line}
 use Rattle.station_page.specs.declared.explain.ExplainedAs.{ExplainedAs}
 use Rattle.station_page.specs.declared.explain.Unexplained.{Unexplained}
 use Rattle.station_page.specs.declared.hand_out.TheConstants.{OUT_OF_RANGE}
+use Rattle.station_page.specs.declared.marking.ToldAs.{ToldAs}
 
 -- The status and the line are those of the verdict on these bytes, of which the whole promise is
 -- kept; with room for the longest line of one it is answered.
@@ -266,76 +263,43 @@ pub record IsTableOf (two_c two_i : ℕ) (asked : ReportAsked) (gsi table name :
       shown
   pub hands_note_out : HandsOut status (note_of answer) note_room answered note
 
--- The status, the copy and what is told of it, or the text of the refusal, are those of putting
+-- The status, the copy and what is told of it in this form, or the refusal, are those of putting
 -- codes into these bytes, by beginnings and by what is stated of the file.
-pub record IsMarkOf (AreBeginnings : Beginnings → Type 0) (IsStated : Stated → Type 0)
-    (gsi : List ℕ) (notes_room : ℕ) (notes : List ℕ) (room answered : ℕ) (shown : List ℕ)
-    : Type 0 where
+pub record IsMarkOf (form : ToldAs) (AreBeginnings : Beginnings → Type 0)
+    (IsStated : Stated → Type 0) (gsi : List ℕ) (told_room : ℕ) (told : List ℕ)
+    (room answered : ℕ) (shown : List ℕ) : Type 0 where
   pub beginnings : Beginnings
   pub are_beginnings : AreBeginnings beginnings
-  pub stated : Stated
-  pub is_stated : IsStated stated
-  pub answer : Result Marked Refused
-  pub marks : AnswersMark beginnings (said_in stated) gsi (file_answers (source_of gsi)) answer
+  pub copy : Result (List ℕ) MarkFault
+  pub text : List ℕ
+  pub marks : Marks form beginnings IsStated gsi copy text
   pub status : ℕ
-  pub hands_copy_out : HandsOut (status_of answer) (copy_text gsi answer) room status shown
-  pub hands_notes_out : HandsOut status (notes_or_refusal answer) notes_room answered notes
+  pub hands_copy_out : HandsOut (status_of copy) (copy_text form copy) room status shown
+  pub hands_text_out : HandsOut status text told_room answered told
 
--- Memory ran out for what is stated: no copy is handed out, and in the place of the notes the line
--- that says so.
-pub record RanOut (notes_room : ℕ) (notes : List ℕ) (room answered : ℕ) (shown : List ℕ)
-    : Type 0 where
+-- Memory ran out: what is in the place of the copy is handed out, and what is told then.
+pub record RanOut (form : ToldAs) (told_room : ℕ) (told : List ℕ) (room answered : ℕ)
+    (shown : List ℕ) : Type 0 where
   pub status : ℕ
-  pub hands_no_copy_out : HandsOut REFUSED [] room status shown
-  pub hands_line_out : HandsOut status (refusal_line (Mark mark.Memory)) notes_room answered notes
+  pub hands_no_copy_out : HandsOut REFUSED (copy_text form (Err mark.Memory)) room status shown
+  pub hands_text_out : HandsOut status (untold_text form) told_room answered told
 
 -- What is stated can't be: nothing is handed out, and the status says so.
 pub record IsBeyond (AreBeginnings : Beginnings → Type 0) (IsStated : Stated → Type 0)
-    (notes : List ℕ) (answered : ℕ) (shown : List ℕ) : Type 0 where
+    (told : List ℕ) (answered : ℕ) (shown : List ℕ) : Type 0 where
   pub none : (beginnings : Beginnings) (stated : Stated) → AreBeginnings beginnings
       → ¬ (IsStated stated)
   pub status : answered ≡ OUT_OF_RANGE
   pub no_copy : shown ≡ []
-  pub no_notes : notes ≡ []
+  pub none_told : told ≡ []
 
 -- One of these is answered.
-abbrev pub IsMarkAnswer : (Beginnings → Type 0) → (Stated → Type 0) → List ℕ → ℕ → List ℕ → ℕ → ℕ
-    → List ℕ → Type 0
-IsMarkAnswer AreBeginnings IsStated gsi notes_room notes room answered shown =
-    IsMarkOf AreBeginnings IsStated gsi notes_room notes room answered shown
-    ⊎ RanOut notes_room notes room answered shown
-    ⊎ IsBeyond AreBeginnings IsStated notes answered shown
-
--- The status, the copy or the line of the refusal, and the rows of what is told are those of putting
--- codes into these bytes, by beginnings and by what is stated of the file.
-pub record IsMarkRowsOf (AreBeginnings : Beginnings → Type 0) (IsStated : Stated → Type 0)
-    (gsi : List ℕ) (rows_room : ℕ) (rows : List ℕ) (room answered : ℕ) (shown : List ℕ)
-    : Type 0 where
-  pub beginnings : Beginnings
-  pub are_beginnings : AreBeginnings beginnings
-  pub stated : Stated
-  pub is_stated : IsStated stated
-  pub answer : Result Marked Refused
-  pub marks : AnswersMark beginnings (said_in stated) gsi (file_answers (source_of gsi)) answer
-  pub status : ℕ
-  pub hands_copy_out : HandsOut (status_of answer) (copy_or_refusal_line gsi answer) room status
-      shown
-  pub hands_rows_out : HandsOut status (rows_told answer) rows_room answered rows
-
--- Memory ran out: in the place of the copy the line that says so is handed out, and no rows.
-pub record RanOutOfRows (rows_room : ℕ) (rows : List ℕ) (room answered : ℕ) (shown : List ℕ)
-    : Type 0 where
-  pub status : ℕ
-  pub hands_line_out : HandsOut REFUSED (refusal_line (Mark mark.Memory)) room status shown
-  pub hands_no_rows_out : HandsOut status [] rows_room answered rows
-
--- One of these is answered.
-abbrev pub IsMarkRowsAnswer : (Beginnings → Type 0) → (Stated → Type 0) → List ℕ → ℕ → List ℕ → ℕ
-    → ℕ → List ℕ → Type 0
-IsMarkRowsAnswer AreBeginnings IsStated gsi rows_room rows room answered shown =
-    IsMarkRowsOf AreBeginnings IsStated gsi rows_room rows room answered shown
-    ⊎ RanOutOfRows rows_room rows room answered shown
-    ⊎ IsBeyond AreBeginnings IsStated rows answered shown
+abbrev pub IsMarkAnswer : ToldAs → (Beginnings → Type 0) → (Stated → Type 0) → List ℕ → ℕ → List ℕ
+    → ℕ → ℕ → List ℕ → Type 0
+IsMarkAnswer form AreBeginnings IsStated gsi told_room told room answered shown =
+    IsMarkOf form AreBeginnings IsStated gsi told_room told room answered shown
+    ⊎ RanOut form told_room told room answered shown
+    ⊎ IsBeyond AreBeginnings IsStated told answered shown
 
 -- The line of these bytes' digest and of this name is handed out; with so much room it always is.
 pub record IsDigestOf (file name : List ℕ) (room answered : ℕ) (shown : List ℕ) : Type 0 where
@@ -357,28 +321,26 @@ pub record IsExplanationOf (form : ExplainedAs) (line : List ℕ) (room answered
   pub is_the_table : IsTheTable table
   pub explains : IsExplanationFrom form table line room answered shown
 
--- The status and the text are those of where the line of a refusal stands in these bytes of a field
--- file and of another file; or memory ran out.
-pub record IsPlaceOf (line gsi other : List ℕ) (room answered : ℕ) (shown : List ℕ) : Type 0 where
-  pub answer : Result (List ℕ) Fault
-  pub tells : TellsPlace line gsi other answer
-  pub hands_out : HandsOut (status_of answer) (listed_or_refusal answer) room answered shown
-
--- The status and the text are those of what these bytes recorded of instrument and time, in a
--- language; or memory ran out.
-pub record IsInstrumentOf (language : Language) (gsi : List ℕ) (room answered : ℕ)
-    (shown : List ℕ) : Type 0 where
-  pub answer : Result (List ℕ) Fault
-  pub tells : TellsRecorded language gsi answer
-  pub hands_out : HandsOut (status_of answer) (listed_or_refusal answer) room answered shown
-
--- The status and the text are those of the records of this text, whose fields this byte separates;
--- or memory ran out.
-pub record IsRecordsOf (separator : ℕ) (text : List ℕ) (room answered : ℕ) (shown : List ℕ)
+-- The status and the text are those of the columns of this table with these titles; or memory ran
+-- out.
+pub record IsColumnsOf (targets directions table : List ℕ) (room answered : ℕ) (shown : List ℕ)
     : Type 0 where
-  pub answer : Result (List ℕ) Fault
-  pub tells : TellsTheRecords separator text answer
-  pub hands_out : HandsOut (status_of answer) (listed_or_refusal answer) room answered shown
+  pub answer : Result (List ℕ) TitlesFault
+  pub tells : TellsColumns targets directions table answer
+  pub hands_out : HandsOut (status_of answer) (columns_or_line answer) room answered shown
+
+-- The text is that of where the line of a refusal stands in these bytes of a field file and of
+-- another file; or memory ran out.
+abbrev pub IsPlaceOf : List ℕ → List ℕ → List ℕ → ℕ → ℕ → List ℕ → Type 0
+IsPlaceOf line gsi other = HandsOutMade (IsPlaceText line gsi other)
+
+-- It is what these bytes recorded of instrument and time, in a language.
+abbrev pub IsInstrumentOf : Language → List ℕ → ℕ → ℕ → List ℕ → Type 0
+IsInstrumentOf language gsi = HandsOutMade (IsRecorded language gsi)
+
+-- It has the records of this text, whose fields this byte separates.
+abbrev pub IsRecordsOf : ℕ → List ℕ → ℕ → ℕ → List ℕ → Type 0
+IsRecordsOf separator text = HandsOutMade (AreTheRecords separator text)
 
 -- What comes of these changes of a field file: the copy, or the fault.
 abbrev pub Changes : List ℕ → List Change → Result (List ℕ) ChangeFault → Type 0

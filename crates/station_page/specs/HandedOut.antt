@@ -1,21 +1,15 @@
 -- What a call hands out: its status, and a text at the front of the room that it was given.
-use Rattle.std.specs.Prelude.{◌≡◌, ◌<◌, ◌≤◌, ℕ, List, [], length, take, drop, Result, Ok, Err}
+use Rattle.std.specs.Prelude.{◌≡◌, ◌<◌, ◌≤◌, ◌⊎◌, ℕ, List, [], length, take, drop}
+use Rattle.std.specs.Prelude.{Result, Ok, Err}
 use Rattle.adjust_kernel.specs.declared.accepted.Accepted.{Accepted}
 use Rattle.station_check.specs.declared.fault.Fault.{Fault}
+use Rattle.station_check.specs.declared.fault.Fault.TheVariants.{Memory}
+use Rattle.station_check.specs.declared.runs.TheConstants.{ACCEPTED, REFUSED}
 use Rattle.station_check.specs.VerdictLines.{accepted_line, refusal_line}
 use Rattle.station_compare.specs.AgreementTexts.{agreement_line}
 use Rattle.station_compare.specs.FaultTexts as compare
 use Rattle.station_compare.specs.declared.agreement.Agreement.{Agreement}
 use Rattle.station_compare.specs.declared.fault.CompareFault.{CompareFault}
-use Rattle.set_marks.specs.Markings.{copy_of, fault_in, told_in}
-use Rattle.set_marks.specs.declared.marked.Marked.{Marked}
-use Rattle.set_marks.specs.declared.refused.Refused.{Refused}
-use Rattle.station_mark.specs.FaultTexts.{unmarked}
-use Rattle.station_mark.specs.FaultTexts.{refusal_line as refusal_line_of_mark}
-use Rattle.station_mark.specs.FaultTexts.{refusal_text as refusal_text_of_mark}
-use Rattle.station_mark.specs.Notes.{notes_of}
-use Rattle.station_mark.specs.ToldRows.{told_rows}
-use Rattle.station_mark.specs.declared.fault.PrintFault.TheVariants.{Mark}
 use Rattle.station_page.specs.declared.hand_out.TheConstants.{OUT_OF_RANGE, TOO_LITTLE_ROOM}
 
 -- The text is handed out whole, with this status, exactly where there is room for it; else nothing
@@ -23,6 +17,12 @@ use Rattle.station_page.specs.declared.hand_out.TheConstants.{OUT_OF_RANGE, TOO_
 pub record HandsOut (status : ℕ) (text : List ℕ) (room answered : ℕ) (shown : List ℕ) : Type 0 where
   pub fits : length text ≤ room → (answered ≡ status) × (shown ≡ text)
   pub too_little : room < length text → (answered ≡ TOO_LITTLE_ROOM) × (shown ≡ [])
+
+-- A text of which this is so is handed out; or memory ran out, and the line says so.
+abbrev pub HandsOutMade : (List ℕ → Type 0) → ℕ → ℕ → List ℕ → Type 0
+HandsOutMade IsSo room answered shown =
+    ((text : List ℕ) × IsSo text × HandsOut ACCEPTED text room answered shown)
+    ⊎ HandsOut REFUSED (refusal_line Memory) room answered shown
 
 -- A call leaves its room as it was after so many bytes at the front.
 pub record Leaves (old new : List ℕ) (written : ℕ) : Type 0 where
@@ -79,23 +79,3 @@ comparison_line (Err fault) = compare.refusal_line fault
 abbrev pub table_or_refusal : Result (List ℕ) CompareFault → List ℕ
 table_or_refusal (Ok table) = table
 table_or_refusal (Err fault) = compare.refusal_line fault
-
--- the copy of these bytes, with codes; at a refusal nothing
-abbrev pub copy_text : List ℕ → Result Marked Refused → List ℕ
-copy_text gsi (Ok m) = copy_of gsi m
-copy_text gsi (Err refused) = []
-
--- what is told of it, or the text of the refusal
-abbrev pub notes_or_refusal : Result Marked Refused → List ℕ
-notes_or_refusal (Ok m) = notes_of m
-notes_or_refusal (Err refused) = refusal_text_of_mark (unmarked refused)
-
--- the copy of these bytes, with codes; at a refusal its line
-abbrev pub copy_or_refusal_line : List ℕ → Result Marked Refused → List ℕ
-copy_or_refusal_line gsi (Ok m) = copy_of gsi m
-copy_or_refusal_line gsi (Err refused) = refusal_line_of_mark (Mark (fault_in refused))
-
--- the rows of its stations; at a refusal of those that were judged
-abbrev pub rows_told : Result Marked Refused → List ℕ
-rows_told (Ok m) = told_rows m.stations.items
-rows_told (Err refused) = told_rows (told_in refused)

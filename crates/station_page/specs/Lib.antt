@@ -4,17 +4,16 @@ pub mod Limits
 pub mod Forms
 pub mod Asked
 pub mod Statements
+pub mod Marked
 pub mod Changes
 pub mod Listed
 pub mod Placed
 pub mod Languages
 pub mod Recorded
 pub mod TextRecords
+pub mod Titled
 pub mod Answers
 pub mod HandedOut
 pub mod Explained
--- The inside: what a text in memory holds, and a copy with its notes or its rows. No public contract cites
--- them.
+-- The inside: what a text in memory holds. No public contract cites it.
 pub mod Texts
-pub mod Noted
-pub mod Told

@@ -1,11 +1,9 @@
 -- Where a refusal stands, as it is handed out.
-use Rattle.std.specs.Prelude.{◌≡◌, ℕ, List, Option, Some, None, Result, Ok, Err}
+use Rattle.std.specs.Prelude.{◌≡◌, ℕ, List, Option, Some, None}
 use Rattle.refusal_places.specs.NamedPlaces.{named_in}
 use Rattle.refusal_places.specs.PlaceTexts.{place_text}
 use Rattle.refusal_places.specs.Places.{IsPlace}
 use Rattle.refusal_places.specs.declared.place.Place.{Place}
-use Rattle.station_check.specs.declared.fault.Fault.{Fault}
-use Rattle.station_check.specs.declared.fault.Fault.TheVariants.{Memory}
 
 -- The line names this, and so it stands in these files; or it names nothing.
 abbrev pub IsPlaceIn : List ℕ → List ℕ → List ℕ → Option Place → Type 0
@@ -17,8 +15,3 @@ pub record IsPlaceText (line gsi other text : List ℕ) : Type 0 where
   pub place : Option Place
   pub is_place : IsPlaceIn line gsi other place
   pub text_is : text ≡ place_text place
-
--- The answer is that, or that memory ran out.
-abbrev pub TellsPlace : List ℕ → List ℕ → List ℕ → Result (List ℕ) Fault → Type 0
-TellsPlace line gsi other (Ok text) = IsPlaceText line gsi other text
-TellsPlace line gsi other (Err fault) = fault ≡ Memory

@@ -1,11 +1,9 @@
 -- The records of a text whose fields a byte separates, as they are handed out.
-use Rattle.std.specs.Prelude.{◌≡◌, ◌⊎◌, ℕ, List, ◌++◌, Result, Ok, Err, codes, decimal, length}
+use Rattle.std.specs.Prelude.{◌≡◌, ◌⊎◌, ℕ, List, ◌++◌, codes, decimal, length}
 use Rattle.std.specs.List.{concat, flat_map, join_by}
 use Rattle.csv.specs.Reading.{AreRecords, default_config, strip_bom}
 use Rattle.csv.specs.declared.parser.Config.{Config}
 use Rattle.csv.specs.declared.parser.State.TheVariants as st
-use Rattle.station_check.specs.declared.fault.Fault.{Fault}
-use Rattle.station_check.specs.declared.fault.Fault.TheVariants.{Memory}
 
 -- A byte that may separate fields: a comma, a semicolon, a tab or a blank.
 abbrev pub IsSeparator : ℕ → Type 0
@@ -29,8 +27,3 @@ pub record AreTheRecords (separator : ℕ) (text bytes : List ℕ) : Type 0 wher
   pub rows : List (List (List ℕ))
   pub are_all : AreRecords (separated_by separator) st.StartRecord (strip_bom text) rows
   pub bytes_are : bytes ≡ flat_map record_text rows
-
--- The answer is that, or that memory ran out.
-abbrev pub TellsTheRecords : ℕ → List ℕ → Result (List ℕ) Fault → Type 0
-TellsTheRecords separator text (Ok bytes) = AreTheRecords separator text bytes
-TellsTheRecords separator text (Err fault) = fault ≡ Memory

@@ -1,6 +1,6 @@
 //! The check of a sheet, for a page.
 
-ghost use Rattle.std.specs.Prelude.{◌≡◌, ◌<◌, ◌≤◌, length, IfOk, IfErr};
+ghost use Rattle.std.specs.Prelude.{◌≡◌, ◌<◌, ◌≤◌, length, IfNone, IfSome};
 ghost use Rattle.station_check.specs.RunEndings.{status_of};
 ghost use Rattle.station_check.specs.declared.verdict_line.TheConstants.{LONGEST_VERDICT_LINE};
 ghost use Rattle.station_page.specs.Answers.{IsCheckOf};
@@ -41,30 +41,23 @@ pub extern "C" fn station_page_check(
     let Some(limits) = Limits::new(two_c, two_i) else {
         return OUT_OF_RANGE;
     };
-    let Ok(residual) = residual_limit(is_stated, residual) else {
+    let Some(residual) = residual_limit(is_stated, residual) else {
         return OUT_OF_RANGE;
     };
     let verdict = check_slices(alloc, gsi, sheet, limits, residual);
     hand_out_verdict(&verdict, out, written)
 }
 
-/// A limit is above the largest.
-#[derive(Clone, Copy, Drop)]
-pub(crate) struct BeyondLimits;
-
-/// The residual limit, where it is said that one is stated.
-fn residual_limit(is_stated: bool, residual: u32) -> Result<Option<ResidualLimit>, BeyondLimits>
-    ensures ok { IfOk result (λ limit. limit ≡ stated_limit is_stated residual) }
-    ensures valid { IfOk result (λ _. IsResidualLimit is_stated residual) }
-    ensures invalid { IfErr result (λ _. IsResidualLimit is_stated residual → ⊥) }
+/// The residual limit, where it is said that one is stated, unless it is above the largest.
+fn residual_limit(is_stated: bool, residual: u32) -> Option<Option<ResidualLimit>>
+    ensures limit { IfSome result (λ limit. limit ≡ stated_limit is_stated residual) }
+    ensures valid { IfSome result (λ _. IsResidualLimit is_stated residual) }
+    ensures none { IfNone result (IsResidualLimit is_stated residual → ⊥) }
 {
     if !is_stated {
-        return Ok(None);
+        return Some(None);
     }
-    match ResidualLimit::new(residual) {
-        Some(limit) => Ok(Some(limit)),
-        None => Err(BeyondLimits),
-    }
+    Some(Some(ResidualLimit::new(residual)?))
 }
 
 /// Hands out the line of a verdict.

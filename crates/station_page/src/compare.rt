@@ -1,6 +1,6 @@
 //! The comparison of a table of directions, for a page.
 
-ghost use Rattle.std.specs.Prelude.{◌≡◌, ◌<◌, ◌≤◌, length, take, IfOk, IfErr};
+ghost use Rattle.std.specs.Prelude.{◌≡◌, ◌<◌, ◌≤◌, length, take, IfNone, IfSome};
 ghost use Rattle.station_check.specs.RunEndings.{status_of};
 ghost use Rattle.station_check.specs.declared.verdict_line.TheConstants.{LONGEST_VERDICT_LINE};
 ghost use Rattle.station_page.specs.Answers.{IsComparisonOf};
@@ -10,7 +10,6 @@ ghost use Rattle.station_page.specs.HandedOut.{comparison_line};
 ghost use Rattle.station_page.specs.Limits.{AreFaceLimits, IsWithin, stated_limit};
 
 use crate::beside::answer_beside;
-use crate::check::BeyondLimits;
 use crate::form::form_of;
 use crate::hand_out::{OUT_OF_RANGE, hand_out};
 use direction_table::LARGEST_WITHIN;
@@ -68,7 +67,7 @@ pub extern "C" fn station_page_compare(
     let Some(form) = form_of(unit, names, directions) else {
         return OUT_OF_RANGE;
     };
-    let Ok(within) = stated_within(is_stated, within) else {
+    let Some(within) = stated_within(is_stated, within) else {
         return OUT_OF_RANGE;
     };
     let asked = Comparison { form, within };
@@ -81,19 +80,19 @@ pub extern "C" fn station_page_compare(
     }
 }
 
-/// The limit of a comparison, where it is said that one is stated.
-pub(crate) fn stated_within(is_stated: bool, within: u32) -> Result<Option<u32>, BeyondLimits>
-    ensures ok { IfOk result (λ limit. limit ≡ stated_limit is_stated within) }
-    ensures valid { IfOk result (λ _. IsWithin is_stated within) }
-    ensures invalid { IfErr result (λ _. IsWithin is_stated within → ⊥) }
+/// The limit of a comparison, where it is said that one is stated, unless it is above the largest.
+pub(crate) fn stated_within(is_stated: bool, within: u32) -> Option<Option<u32>>
+    ensures limit { IfSome result (λ limit. limit ≡ stated_limit is_stated within) }
+    ensures valid { IfSome result (λ _. IsWithin is_stated within) }
+    ensures none { IfNone result (IsWithin is_stated within → ⊥) }
 {
     if !is_stated {
-        return Ok(None);
+        return Some(None);
     }
     if within > LARGEST_WITHIN {
-        return Err(BeyondLimits);
+        return None;
     }
-    Ok(Some(within))
+    Some(Some(within))
 }
 
 /// Hands out the line of a comparison.

@@ -4,13 +4,13 @@ ghost use Rattle.std.specs.Prelude.{◌≡◌, ◌++◌, codes, option_map, IfOk
 ghost use Rattle.station_answers.specs.Parts.{part_text};
 ghost use Rattle.station_page.specs.Answers.{IsExplanationFrom, IsExplanationOf};
 ghost use Rattle.station_page.specs.Explained.{IsAskedFor, IsExplained, IsUnexplained, Tells};
-ghost use Rattle.station_page.specs.Explained.{explanation_parts};
+ghost use Rattle.station_page.specs.Explained.{explanation_parts, unexplained_line};
 ghost use Rattle.station_page.specs.HandedOut.{Shows};
 ghost use Rattle.station_page.specs.declared.explain.ExplainedAs.TheVariants as spec;
 
 use crate::hand_out::hand_out;
 use station_answers::push_part;
-use station_check::{ACCEPTED, Fault, REFUSED, refusal_line};
+use station_check::{ACCEPTED, REFUSED};
 use station_explain::{
     Explanation, all_explanations, explaining_text, explanation_meant, fault_named_in,
 };
@@ -87,16 +87,18 @@ fn hand_out_explanation(
 {
     match explained(alloc, form, table, line) {
         Ok(text) => hand_out(ACCEPTED, text.as_slice(), out, written),
-        Err(Unexplained::NotUtf8) => hand_out(REFUSED, b"refused: not UTF-8\n", out, written),
-        Err(Unexplained::NoName) => hand_out(REFUSED, b"refused: no such fault\n", out, written),
-        Err(Unexplained::Memory) => {
-            hand_out(
-                REFUSED,
-                refusal_line(Fault::Memory).as_slice(),
-                out,
-                written,
-            )
-        }
+        Err(why) => hand_out(REFUSED, unexplained_line(why), out, written),
+    }
+}
+
+/// The line of a refusal to explain.
+fn unexplained_line(why: Unexplained) -> &'static [u8]
+    ensures { result.now ≡ unexplained_line why }
+{
+    match why {
+        Unexplained::NotUtf8 => b"refused: not UTF-8\n",
+        Unexplained::NoName => b"refused: no such fault\n",
+        Unexplained::Memory => b"refused: out of memory\n",
     }
 }
 

@@ -2,8 +2,10 @@
 
 ghost use Rattle.station_check.specs.RunEndings.{status_of};
 ghost use Rattle.station_page.specs.HandedOut.{HandsOut, Shows, text_or_refusal};
+ghost use Rattle.station_page.specs.Texts.{made_text};
 
 use station_check::{ACCEPTED, Fault, REFUSED, refusal_line};
+use std::alloc::AllocError;
 
 /// The status where a number or a name is out of its range: nothing is answered.
 pub const OUT_OF_RANGE: u8 = 2;
@@ -39,5 +41,20 @@ pub(crate) fn hand_out_answer(
     match answer {
         Ok(()) => hand_out(ACCEPTED, text, out, written),
         Err(fault) => hand_out(REFUSED, refusal_line(*fault).as_slice(), out, written),
+    }
+}
+
+/// Hands out a text, or the line that there was no memory for it.
+pub(crate) fn hand_out_made(
+    text: &Result<Vec<u8>, AllocError>,
+    out: &mut [u8],
+    written: &mut usize,
+) -> u8
+    ensures { Shows (HandsOut (status_of text.now) (made_text text.now)) out.old out.new
+        written.new result }
+{
+    match text {
+        Ok(text) => hand_out(ACCEPTED, text.as_slice(), out, written),
+        Err(_) => hand_out_answer(&Err(Fault::Memory), b"", out, written),
     }
 }

@@ -6,16 +6,15 @@ ghost use Rattle.station_page.specs.HandedOut.{ShowsInRange};
 ghost use Rattle.station_page.specs.Languages.{IsLanguage, stated_language};
 ghost use Rattle.station_page.specs.Recorded.{IsRecorded};
 
-use crate::hand_out::{OUT_OF_RANGE, hand_out};
+use crate::hand_out::{OUT_OF_RANGE, hand_out_made};
 use crate::language::language_of;
 use instrument_words::{instrument_in, push_instrument};
 use report_phrases::Language;
-use station_check::{ACCEPTED, Fault, REFUSED, refusal_line};
 use std::alloc::{AllocError, Global};
 
 /// Hands out the lines that a report has of what a whole field file recorded of instrument and time:
-/// one for each of its words 12, 13, 17, 18 and 19 that it has, as they stand. Of a file that has a
-/// fault nothing is promised of the text.
+/// one for each of the words 12, 13, 17, 18 and 19 that it has, as they stand; of a file that has a
+/// fault, of the blocks before that.
 ///
 /// The language is 0 for English, 1 for German and 2 for French. Answers 0 for the lines, 1 where
 /// there was no memory, 2 for another language, and 3 where `out` has too little room.
@@ -34,17 +33,7 @@ pub extern "C" fn station_page_instrument(
     let Some(language) = language_of(language) else {
         return OUT_OF_RANGE;
     };
-    match lines_of(alloc, gsi, language) {
-        Ok(text) => hand_out(ACCEPTED, text.as_slice(), out, written),
-        Err(_) => {
-            hand_out(
-                REFUSED,
-                refusal_line(Fault::Memory).as_slice(),
-                out,
-                written,
-            )
-        }
-    }
+    hand_out_made(&lines_of(alloc, gsi, language), out, written)
 }
 
 /// The lines of what a field file recorded, in a language.

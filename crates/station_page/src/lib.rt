@@ -25,6 +25,7 @@
 //! | `explain` | hands out what the fault means that a text names |
 //! | `explanation` | hands out the same, part by part |
 //! | `records` | hands out the records of a text, whose fields a byte separates |
+//! | `columns` | hands out by which columns a table with two titles is to be read |
 //! | `place` | hands out where the line of a refusal stands, as a row |
 //!
 //! Each is given whole files as slices, and numbers in the place of options. It hands out its text
@@ -38,6 +39,7 @@
 mod beside;
 mod change;
 mod check;
+mod columns;
 mod comma;
 mod compare;
 mod differences;
@@ -52,7 +54,7 @@ pub mod laws;
 mod list;
 mod listed_rows;
 mod mark;
-mod mark_rows;
+mod marking;
 mod means;
 mod place;
 mod records;

@@ -1,20 +1,13 @@
-//! The copy of a field file with codes put in, for a page.
+//! The copy of a field file with codes put in and what is told of it, for a page.
 
-ghost use Rattle.std.specs.Prelude.{◌≡◌, IfOk, IfNone, IfSome, length, take};
-ghost use Rattle.job_statements.specs.Numbers.{said_in};
-ghost use Rattle.job_statements.specs.declared.stated.Stated.{Stated};
+ghost use Rattle.std.specs.Prelude.{length, take};
 ghost use Rattle.station_page.specs.Answers.{IsMarkAnswer};
-ghost use Rattle.station_page.specs.HandedOut.{HandsOut, Leaves, Shows};
-ghost use Rattle.station_page.specs.Noted.{IsNoted, IsNotedAs, copy_in, notes_in, status_in};
+ghost use Rattle.station_page.specs.HandedOut.{Leaves, Shows};
 ghost use Rattle.station_page.specs.Statements.{StatesBeginnings, StatesFile};
+ghost use Rattle.station_page.specs.declared.marking.ToldAs.TheVariants.{Notes, Rows};
 
-use crate::hand_out::{OUT_OF_RANGE, hand_out};
-use crate::statement::{Untaken, beginnings_in, stated_in};
-use job_statements::{Beginnings, Stated};
-use set_marks::{MarkFault, mark_file, marked_copy};
-use station_check::{ACCEPTED, REFUSED};
-use station_mark::{PrintFault, notes_text, refusal_line, refusal_text};
-use std::alloc::{AllocError, Global};
+use crate::marking::{ToldAs, hand_out_marking};
+use std::alloc::Global;
 
 /// Hands out a copy of a whole field file with codes put in, and in `notes` what was recognized; at
 /// a refusal no copy, and in `notes` the line of it, after the lines of each station where these
@@ -45,122 +38,71 @@ pub extern "C" fn station_page_mark(
     notes: &mut [u8],
     notes_written: &mut usize,
 ) -> u8
-    ensures copy { Shows (IsMarkAnswer (StatesBeginnings name.now code.now same_set_up)
+    ensures copy { Shows (IsMarkAnswer Notes (StatesBeginnings name.now code.now same_set_up)
         (StatesFile sets.now targets.now again others) gsi.now (length notes.old)
         (take notes_written.new notes.new)) out.old out.new written.new result }
     ensures notes { Leaves notes.old notes.new notes_written.new }
 {
-    *written = 0;
-    *notes_written = 0;
-    let Some(beginnings) = beginnings_in(name, code, same_set_up) else {
-        return OUT_OF_RANGE;
-    };
-    let Some(noted) = noted_as(alloc, gsi, beginnings, sets, targets, again, others) else {
-        return OUT_OF_RANGE;
-    };
-    let status = hand_out(noted.status(), noted.copy(), out, written);
-    hand_out_notes(&noted, status, notes, notes_written)
+    hand_out_marking(
+        alloc,
+        ToldAs::Notes,
+        gsi,
+        name,
+        code,
+        sets,
+        targets,
+        same_set_up,
+        again,
+        others,
+        out,
+        written,
+        notes,
+        notes_written,
+    )
 }
 
-/// A copy with codes and its notes, or the text of the refusal, by what is stated of the file;
-/// nothing where that can't be stated.
-fn noted_as(
+/// Hands out what `station_page_mark` does, but in `rows` what is told of each station as rows: the
+/// copy of a whole field file with codes put in, or the line of the refusal; and below titles what
+/// was recognized of the stations, at a refusal too, where they were judged.
+///
+/// What is stated is that of `station_page_mark`. Answers 0 for the copy, 1 for a refusal, 2 where
+/// `name` or `code` can't be one, or a line of `sets` or `targets` can't stand where it does, and 3
+/// where `out` or `rows` has too little room.
+#[unsafe(no_mangle)]
+pub extern "C" fn station_page_mark_rows(
     alloc: Global,
     gsi: &[u8],
-    beginnings: Beginnings,
+    name: &[u8],
+    code: &[u8],
     sets: &[u8],
     targets: &[u8],
+    same_set_up: bool,
     again: bool,
     others: bool,
-) -> Option<Noted>
-    ensures noted { IfSome result (IsNotedAs beginnings
-        (StatesFile sets.now targets.now again others) gsi.now) }
-    ensures none { IfNone result ((stated : Stated)
-        → ¬ (StatesFile sets.now targets.now again others stated)) }
+    out: &mut [u8],
+    written: &mut usize,
+    rows: &mut [u8],
+    rows_written: &mut usize,
+) -> u8
+    ensures copy { Shows (IsMarkAnswer Rows (StatesBeginnings name.now code.now same_set_up)
+        (StatesFile sets.now targets.now again others) gsi.now (length rows.old)
+        (take rows_written.new rows.new)) out.old out.new written.new result }
+    ensures rows { Leaves rows.old rows.new rows_written.new }
 {
-    match stated_in(alloc, sets, targets, again, others) {
-        Ok(stated) => Some(with_notes(alloc, gsi, beginnings, stated)),
-        Err(Untaken::Memory) => Some(Noted::OutOfMemory),
-        Err(Untaken::Wrong) => None,
-    }
-}
-
-/// A copy with codes, and what is told of it; or why there is none.
-#[derive(Drop)]
-enum Noted {
-    /// The copy, and its notes.
-    Marked(Vec<u8>, Vec<u8>),
-    /// The text of the refusal.
-    Unmarked(Vec<u8>),
-    /// There was no memory.
-    OutOfMemory,
-}
-
-impl Noted {
-    /// The status.
-    fn status(&self) -> u8
-        ensures { result ≡ status_in self.now }
-    {
-        match self {
-            Noted::Marked(_, _) => ACCEPTED,
-            Noted::Unmarked(_) | Noted::OutOfMemory => REFUSED,
-        }
-    }
-
-    /// The copy, or nothing.
-    fn copy(&self) -> &[u8]
-        ensures { result.now ≡ copy_in self.now }
-    {
-        match self {
-            Noted::Marked(copy, _) => copy.as_slice(),
-            Noted::Unmarked(_) | Noted::OutOfMemory => b"",
-        }
-    }
-}
-
-/// Hands out the notes, or the text of the refusal in their place.
-fn hand_out_notes(noted: &Noted, status: u8, notes: &mut [u8], written: &mut usize) -> u8
-    ensures { Shows (HandsOut status (notes_in noted.now)) notes.old notes.new written.new result }
-{
-    match noted {
-        Noted::Marked(_, text) | Noted::Unmarked(text) => {
-            hand_out(status, text.as_slice(), notes, written)
-        }
-        Noted::OutOfMemory => {
-            let line = refusal_line(PrintFault::Mark(MarkFault::Memory));
-            hand_out(status, line.as_slice(), notes, written)
-        }
-    }
-}
-
-/// The copy of a field file with codes put in, and its notes; or the text of the refusal.
-fn with_notes(alloc: Global, gsi: &[u8], beginnings: Beginnings, stated: Stated) -> Noted
-    ensures { IsNoted beginnings (said_in stated) gsi.now result }
-{
-    match try_notes(alloc, gsi, beginnings, stated) {
-        Ok(noted) => noted,
-        Err(_) => Noted::OutOfMemory,
-    }
-}
-
-/// The same, or that there was no memory.
-fn try_notes(
-    alloc: Global,
-    gsi: &[u8],
-    beginnings: Beginnings,
-    stated: Stated,
-) -> Result<Noted, AllocError>
-    ensures { IfOk result (IsNoted beginnings (said_in stated) gsi.now) }
-{
-    match mark_file(alloc, gsi, false, beginnings, stated) {
-        Ok(marked) => {
-            let copy = marked_copy(alloc, gsi, &marked.marks)?;
-            let notes = notes_text(alloc, &marked.stations)?;
-            Ok(Noted::Marked(copy, notes))
-        }
-        Err(refused) => {
-            let text = refusal_text(alloc, &refused)?;
-            Ok(Noted::Unmarked(text))
-        }
-    }
+    hand_out_marking(
+        alloc,
+        ToldAs::Rows,
+        gsi,
+        name,
+        code,
+        sets,
+        targets,
+        same_set_up,
+        again,
+        others,
+        out,
+        written,
+        rows,
+        rows_written,
+    )
 }

@@ -5,9 +5,8 @@ ghost use Rattle.station_page.specs.Answers.{IsPlaceOf};
 ghost use Rattle.station_page.specs.HandedOut.{Shows};
 ghost use Rattle.station_page.specs.Placed.{IsPlaceText};
 
-use crate::hand_out::hand_out;
+use crate::hand_out::hand_out_made;
 use refusal_places::{place_in, place_text};
-use station_check::{ACCEPTED, Fault, REFUSED, refusal_line};
 use std::alloc::{AllocError, Global};
 
 /// Hands out what the line of a refusal names, and where that stands in a whole field file or in the
@@ -29,17 +28,7 @@ pub extern "C" fn station_page_place(
 ) -> u8
     ensures { Shows (IsPlaceOf line.now gsi.now other.now) out.old out.new written.new result }
 {
-    match text_of(alloc, line, gsi, other) {
-        Ok(text) => hand_out(ACCEPTED, text.as_slice(), out, written),
-        Err(_) => {
-            hand_out(
-                REFUSED,
-                refusal_line(Fault::Memory).as_slice(),
-                out,
-                written,
-            )
-        }
-    }
+    hand_out_made(&text_of(alloc, line, gsi, other), out, written)
 }
 
 /// What the line of a refusal names, and where that stands, as a row.

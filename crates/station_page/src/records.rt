@@ -10,9 +10,8 @@ ghost use Rattle.station_page.specs.HandedOut.{ShowsInRange};
 ghost use Rattle.station_page.specs.TextRecords.{AreTheRecords, IsSeparator};
 ghost use Rattle.station_page.specs.TextRecords.{lengths_text, record_text};
 
-use crate::hand_out::{OUT_OF_RANGE, hand_out};
+use crate::hand_out::{OUT_OF_RANGE, hand_out_made};
 use csv::{ByteRecord, ReaderBuilder};
-use station_check::{ACCEPTED, Fault, REFUSED, refusal_line};
 use station_report::push_count;
 use std::alloc::{AllocError, Global};
 
@@ -38,17 +37,7 @@ pub extern "C" fn station_page_records(
     let Some(separator) = separator_of(separator) else {
         return OUT_OF_RANGE;
     };
-    match records_text(alloc, text, separator) {
-        Ok(records) => hand_out(ACCEPTED, records.as_slice(), out, written),
-        Err(_) => {
-            hand_out(
-                REFUSED,
-                refusal_line(Fault::Memory).as_slice(),
-                out,
-                written,
-            )
-        }
-    }
+    hand_out_made(&records_text(alloc, text, separator), out, written)
 }
 
 /// The separator of a number, which is that of its byte.

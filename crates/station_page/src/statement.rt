@@ -5,10 +5,11 @@ ghost use Rattle.job_statements.specs.declared.stated.Stated.{Stated};
 ghost use Rattle.station_page.specs.Statements.{StatesBeginnings, StatesCode, StatesFile};
 ghost use Rattle.station_page.specs.Statements.{StatesName, StatesNoBeginnings, StatesNoCode};
 ghost use Rattle.station_page.specs.Statements.{StatesNoName, StatesNoNumbers, StatesNumbers};
+ghost use Rattle.station_page.specs.declared.statement.Untaken.TheVariants.{Memory};
 
 use adjust_kernel::{MOST_SETS, MOST_TARGETS, Name};
 use job_statements::{Beginnings, Stated, StatedNumber, Unstated, numbers_of, station_code};
-use std::alloc::Global;
+use std::alloc::{AllocError, Global};
 
 /// Why numbers are not taken from what is stated.
 #[derive(Clone, Copy, Drop)]
@@ -17,6 +18,14 @@ pub(crate) enum Untaken {
     Memory,
     /// None are stated that can be.
     Wrong,
+}
+
+impl From<AllocError> for Untaken {
+    ghost from_gives = { λ _ why. why ≡ Memory };
+
+    fn from(_: AllocError) -> Untaken {
+        Untaken::Memory
+    }
 }
 
 /// How the stations of a file begin, unless a name or a code is stated that can't be one.
@@ -89,9 +98,7 @@ fn numbers_in(alloc: Global, text: &[u8], largest: u32) -> Result<StatedNumber, 
     let Ok(text) = str::from_utf8(text) else {
         return Err(Untaken::Wrong);
     };
-    let Ok(lines) = text.lines().collect::<Vec<&str>>(alloc) else {
-        return Err(Untaken::Memory);
-    };
+    let lines = text.lines().collect::<Vec<&str>>(alloc)?;
     match numbers_of(alloc, &lines, largest) {
         Ok(stated) => Ok(stated),
         Err(Unstated::Memory) => Err(Untaken::Memory),

@@ -75,7 +75,7 @@ pub extern "C" fn station_page_table(
     let Some(form) = form_of(unit, names, directions) else {
         return OUT_OF_RANGE;
     };
-    let Ok(within) = stated_within(is_stated, within) else {
+    let Some(within) = stated_within(is_stated, within) else {
         return OUT_OF_RANGE;
     };
     let head = Head { path, notes: None };

@@ -7,21 +7,21 @@ use Rattle.table_answers.specs.Refusing.{HasNoAnswer, RefusesComparison}
 use Rattle.station_page.proofs.Comparisons.{compares}
 use Rattle.station_page.proofs.compare.station_page_compare.Goals as goal
 
-pub returns-in-Ok-answer_beside-clause-line : goal.returns-in-Ok-answer_beside-clause-line
-returns-in-Ok-answer_beside-clause-line c =
+pub returns-in-Ok-clause-line : goal.returns-in-Ok-clause-line
+returns-in-Ok-clause-line c =
     let told = rw c.in-Some-form_of.ensures.form at
-    (rw c.in-Ok.ensures.ok at c.in-Ok-answer_beside.ensures) in record {
+    (rw c.in-Some-stated_within.ensures.limit at c.in-Ok.ensures) in record {
       shows = λ range. record {
         limits = c.in-Some.limits;
         states = record { states_two_c = search rules; states_two_i = search rules };
         answer = Ok (
-          c.in-Ok-answer_beside.noted.answer,
-          c.in-Ok-answer_beside.noted.note.items,
+          c.in-Ok.noted.answer,
+          c.in-Ok.noted.note.items,
         );
         tells = told;
         compares = compares _ _ _ _ _ _ (Ok (
-          c.in-Ok-answer_beside.noted.answer,
-          c.in-Ok-answer_beside.noted.note.items,
+          c.in-Ok.noted.answer,
+          c.in-Ok.noted.note.items,
         )) told;
         status = c.hand_out_comparison-status.result;
         hands_line_out = search rules;

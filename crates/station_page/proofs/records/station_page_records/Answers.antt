@@ -1,22 +1,13 @@
-use Rattle.std.proofs.Common.{Ok, Err, refl, rules}
-use Rattle.station_check.specs.declared.fault.Fault.TheVariants.{Memory}
+use Rattle.std.proofs.Common.{rules}
+use Rattle.station_page.specs.TextRecords.{AreTheRecords}
+use Rattle.station_page.proofs.Made.{made}
 use Rattle.station_page.proofs.records.station_page_records.Goals as goal
 
-pub returns-in-Ok : goal.returns-in-Ok
-returns-in-Ok c = record {
-  shows = λ range. record {
-    answer = Ok c.in-Ok.records.items;
-    tells = rw (rw c.in-Some.is at c.separator_of.ensures.byte) at
-        (rw c.in-Ok.is at c.records_text.ensures);
-    hands_out = search rules;
-  };
-  beyond = search rules;
-  leaves = search rules;
-}
-
-pub returns-in-Err : goal.returns-in-Err
-returns-in-Err c = record {
-  shows = λ range. record { answer = Err Memory; tells = refl; hands_out = search rules };
+pub returns : goal.returns
+returns c = record {
+  shows = λ range. rw (← c.in-Some.ensures.byte) (made
+      (AreTheRecords c.in-Some.separator c.args.text.now) c.records_text.result _ _ _
+      c.records_text.ensures c.hand_out_made.ensures.shows);
   beyond = search rules;
   leaves = search rules;
 }

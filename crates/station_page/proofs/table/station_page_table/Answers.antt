@@ -7,17 +7,17 @@ use Rattle.table_answers.specs.Refusing.{HasNoAnswer, RefusesComparison}
 use Rattle.table_answers.specs.Wholes.{whole_value}
 use Rattle.station_page.proofs.table.station_page_table.Goals as goal
 
-pub returns-in-Ok-answer_beside-clause-parts : goal.returns-in-Ok-answer_beside-clause-parts
-returns-in-Ok-answer_beside-clause-parts c = record {
+pub returns-in-Ok-clause-parts : goal.returns-in-Ok-clause-parts
+returns-in-Ok-clause-parts c = record {
   shows = λ range. record {
     limits = c.in-Some.limits;
     states = record { states_two_c = search rules; states_two_i = search rules };
     answer = Ok (
-      whole_value c.in-Ok-answer_beside.noted.answer,
-      c.in-Ok-answer_beside.noted.note.items,
+      whole_value c.in-Ok.noted.answer,
+      c.in-Ok.noted.note.items,
     );
     tells = rw (c.in-Some-form_of.ensures.form) at
-        (rw c.in-Ok.ensures.ok at c.in-Ok-answer_beside.ensures);
+        (rw c.in-Some-stated_within.ensures.limit at c.in-Ok.ensures);
     status = c.hand_out_whole-status.result;
     hands_text_out = search rules;
     hands_note_out = search rules;
@@ -44,8 +44,8 @@ returns-in-Err-clause-parts c = record {
   leaves = search rules;
 }
 
-pub returns-in-Ok-answer_beside-clause-note : goal.returns-in-Ok-answer_beside-clause-note
-returns-in-Ok-answer_beside-clause-note c = record {
+pub returns-in-Ok-clause-note : goal.returns-in-Ok-clause-note
+returns-in-Ok-clause-note c = record {
   beyond = search rules;
   leaves = c.hand_out.ensures.leaves;
 }

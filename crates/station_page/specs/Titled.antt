@@ -1,0 +1,27 @@
+-- What is told of the columns of a table with their titles (profile).
+use Rattle.std.specs.Prelude.{◌≡◌, ◌⊎◌, ◌+◌, ◌++◌, ℕ, List, Result, Ok, Err, codes, decimal}
+use Rattle.direction_table.specs.declared.form.ColumnPair.{ColumnPair}
+use Rattle.table_titles.specs.FaultTexts.{titles_line}
+use Rattle.table_titles.specs.Titles.{columns_by_titles}
+use Rattle.table_titles.specs.declared.fault.TitlesFault.{TitlesFault}
+use Rattle.table_titles.specs.declared.fault.TitlesFault.TheVariants.{Memory}
+
+-- Two columns, counted from 1, that of targets first.
+abbrev pub pair_text : ColumnPair → List ℕ
+pair_text pair = decimal (pair.names + 1) ++ codes "," ++ decimal (pair.directions + 1)
+
+-- The same where there are two.
+abbrev pub pair_or_fault : Result ColumnPair TitlesFault → Result (List ℕ) TitlesFault
+pair_or_fault (Ok pair) = Ok (pair_text pair)
+pair_or_fault (Err fault) = Err fault
+
+-- What is told are the columns of a table with these titles of targets and of directions, or why it
+-- has none; or memory ran out.
+abbrev pub TellsColumns : List ℕ → List ℕ → List ℕ → Result (List ℕ) TitlesFault → Type 0
+TellsColumns targets directions table answer =
+    (answer ≡ pair_or_fault (columns_by_titles targets directions table)) ⊎ (answer ≡ Err Memory)
+
+-- the columns; or the line of the refusal in their place
+abbrev pub columns_or_line : Result (List ℕ) TitlesFault → List ℕ
+columns_or_line (Ok text) = text
+columns_or_line (Err fault) = titles_line fault
