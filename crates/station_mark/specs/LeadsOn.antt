@@ -6,7 +6,8 @@ use Rattle.set_marks.specs.declared.fault.MarkKind.TheVariants as kind
 -- What its user does next. The faults of a whole file are no station's, and come last.
 abbrev pub leads_on : MarkKind → List ℕ
 leads_on kind.ReadTwice = codes "leave out the reading that does not count"
-leads_on kind.FaceMissing = codes "leave the target out of this set, or give it its right name"
+leads_on kind.FaceMissing =
+    codes "leave out a set that was broken off, or the target in it, or rename the target"
 leads_on kind.OneTarget = codes "leave it out, or give the target its right name"
 leads_on kind.Order = codes "leave this set out, or put codes in by the field book"
 leads_on kind.EndsElsewhere =

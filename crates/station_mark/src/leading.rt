@@ -11,7 +11,8 @@ pub(crate) fn leads_on(kind: MarkKind) -> &'static str
 {
     match kind {
         MarkKind::ReadTwice => "leave out the reading that does not count",
-        MarkKind::FaceMissing => "leave the target out of this set, or give it its right name",
+        MarkKind::FaceMissing =>
+            "leave out a set that was broken off, or the target in it, or rename the target",
         MarkKind::OneTarget => "leave it out, or give the target its right name",
         MarkKind::Order => "leave this set out, or put codes in by the field book",
         MarkKind::EndsElsewhere => {

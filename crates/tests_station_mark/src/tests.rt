@@ -160,7 +160,7 @@ fn each_station_is_told_before_the_line_of_a_refusal(rt: HostRuntime) -> Result<
         b"note: station P1: 1 set, 2 targets, from A to B; 0 readings before them and 0 after stay \
 outside\n\
 note: station P2: not recognized, block 9: FaceMissing; 3 readings stay outside: \
-leave the target out of this set, or give it its right name\n\
+leave out a set that was broken off, or the target in it, or rename the target\n\
 refused: block 9: mark: FaceMissing\n";
     expect_run(&rt, alloc, TWO_STATIONS, false, None, (1, b"", told))
 }
@@ -188,7 +188,7 @@ fn a_station_with_a_fault_stays_outside_where_it_is_stated(rt: HostRuntime) -> R
         b"note: station P1: 1 set, 2 targets, from A to B; 0 readings before them and 0 after stay \
 outside\n\
 note: station P2: not recognized, block 9: FaceMissing; 3 readings stay outside: \
-leave the target out of this set, or give it its right name\n\
+leave out a set that was broken off, or the target in it, or rename the target\n\
 note: compare this with the field book\n";
     expect_run_as_stated(
         &rt,
