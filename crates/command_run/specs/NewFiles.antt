@@ -1,4 +1,4 @@
--- A file that is made at its first write, or where it is flushed.
+-- A file that is made at its first byte, or where it is flushed.
 use Rattle.std.specs.Prelude.{ℕ, Bool, List, Option}
 use Rattle.command_run.specs.declared.new_file.NewFile.{NewFile}
 

@@ -7,7 +7,7 @@
 //! | `host` | what gives the words and the files of paths, and the runtime as such a host |
 //! | `station_name` | the name of a station, as it is stated or found |
 //! | `hindrance` | why no run is made of a request |
-//! | `new_file` | a file that is made at its first write, or where it is flushed |
+//! | `new_file` | a file that is made at its first byte, or where it is flushed |
 //! | `answering` | a request with its files open, and the call that answers it |
 //! | `explaining` | the run that explains a fault |
 //! | `unopened` | the line that names a file which can't be opened |

@@ -1,4 +1,4 @@
-//! A file that is made at its first write, or where it is flushed.
+//! A file that is made at its first byte, or where it is flushed.
 
 ghost use Rattle.std.specs.Prelude.{◌≡◌, None, false};
 ghost use Rattle.std.specs.Option.{unwrap_or};

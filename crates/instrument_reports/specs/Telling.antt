@@ -12,7 +12,8 @@ IsWith put (Some bytes) own whole = (blocks : List GsiBlock)
     → AreBlocksOf (file_answers (record { bytes = bytes; fails = false })) blocks
     → whole ≡ put (instrument_of blocks) own
 
--- An answer with that, or why there is none: its own refusal, or that memory ran out.
+-- An answer with that, or why there is none: its own refusal, or that memory ran out, which
+-- `IsMemory` says of a refusal.
 abbrev pub IsAnswerWith : {T F : Type 0} → Putting → (T → List ℕ) → (F → Type 0)
     → Option (List ℕ) → Result T F → Result T F → Type 0
 IsAnswerWith put items IsMemory kept (Ok own) (Ok whole) =

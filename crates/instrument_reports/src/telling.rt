@@ -66,6 +66,7 @@ impl<'a, 'n> Telling for Report<'a, 'n> {
 
     ghost print = { λ report. spec.as_printed (head_of report.head).notes };
 
+    #[tactic(auto, using(instrument_words::proofs::Coming::all_blocks))]
     fn told(
         &self,
         alloc: Global,

@@ -74,7 +74,7 @@ pub record AreBlocksOf (file : FileAnswers) (blocks : List GsiBlock) : Type 0 wh
 abbrev pub AreOver : FileAnswers → Type 0
 AreOver left = (left ≡ only None) ⊎ ((kind : FileKind) × FaultIsNext left kind)
 
--- The blocks of a field file, in order, up to its end or to its first fault.
+-- These are the blocks of a field file, in order, up to its end or to the first fault of its lines.
 pub record AreBlocksUpTo (file : FileAnswers) (blocks : List GsiBlock) : Type 0 where
   pub lines : List (List ℕ)
   pub left : FileAnswers

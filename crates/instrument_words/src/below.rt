@@ -5,7 +5,7 @@ ghost use Rattle.std.specs.Prelude.{if◌then◌else◌};
 ghost use Rattle.gsi_file.specs.FileAnswers.{file_answers};
 ghost use Rattle.gsi_word.specs.Blocks.{GsiBlock};
 ghost use Rattle.instrument_words.specs.Below as spec;
-ghost use Rattle.instrument_words.specs.Instrument.{AreBlocksOf, instrument_of};
+ghost use Rattle.instrument_words.specs.Instrument.{AreBlocksUpTo, instrument_of};
 
 use crate::instrument::instrument_in;
 use crate::lines::push_instrument;
@@ -62,7 +62,6 @@ fn push_pages(whole: &mut Vec<u8>, text: &[u8], lines: &[u8]) -> Result<(), Allo
 /// instrument and time on each page, below the line that names it.
 ///
 /// The only error is that memory was refused.
-#[tactic(auto, using(crate::proofs::Coming::all_blocks))]
 pub fn with_instrument(
     alloc: Global,
     language: Language,
@@ -70,7 +69,7 @@ pub fn with_instrument(
     bytes: &[u8],
 ) -> Result<Vec<u8>, AllocError>
     ensures { IfOk result (λ whole. (blocks : List GsiBlock)
-        → AreBlocksOf (file_answers (record { bytes = bytes.now; fails = false })) blocks
+        → AreBlocksUpTo (file_answers (record { bytes = bytes.now; fails = false })) blocks
         → whole.items ≡ spec.on_pages language (instrument_of blocks) text.now) }
 {
     let mut lines = Vec::new(alloc);

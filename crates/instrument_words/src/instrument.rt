@@ -68,8 +68,8 @@ fn with_words<'a>(told: Instrument<'a>, block: &Block<'a>) -> Instrument<'a>
     }
 }
 
-/// What a field file of these bytes recorded, up to its first fault: of each index the contents of
-/// its words, in the order of the file.
+/// What a field file of these bytes recorded, up to its end or to the first fault of its lines: of
+/// each index the contents of its words, in the order of the file.
 pub fn instrument_in(bytes: &[u8]) -> Instrument<'_>
     ensures { (blocks : List GsiBlock)
         → AreBlocksUpTo (file_answers (record { bytes = bytes.now; fails = false })) blocks

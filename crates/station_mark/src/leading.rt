@@ -13,31 +13,39 @@ pub(crate) fn leads_on(kind: MarkKind) -> &'static str
         MarkKind::ReadTwice => "leave out the reading that does not count",
         MarkKind::FaceMissing =>
             "leave out a set that was broken off, or the target in it, or rename the target",
-        MarkKind::OneTarget => "leave it out, or give the target its right name",
+        MarkKind::OneTarget => "leave this set out, or give its target the right name",
         MarkKind::Order => "leave this set out, or put codes in by the field book",
         MarkKind::EndsElsewhere => {
             "leave this set out if it was broken off, or put codes in by the field book"
         }
-        MarkKind::TooManySets
-        | MarkKind::TooManyTargets
-        | MarkKind::TooManyStations
-        | MarkKind::OtherTargets => { "mark copies that have a part each" }
-        MarkKind::OneSet => "leave out the readings before it",
-        MarkKind::FirstFace => "leave out the readings before it, or the checks after the last set",
+        MarkKind::TooManySets | MarkKind::TooManyTargets | MarkKind::TooManyStations =>
+            "mark copies that have a part each",
+        MarkKind::OtherTargets => "mark the readings before and after in copies of their own",
+        MarkKind::OneSet => "leave out the readings before the set",
+        MarkKind::FirstFace =>
+            "leave out the readings before the first set, or the checks after the last",
         MarkKind::MayBeShifted => "put codes in by the field book",
         MarkKind::PairAfter => "leave this pair out, or put codes in by the field book",
         MarkKind::SightsItself => {
             "put codes in by the field book, or give the target its right name"
         }
-        MarkKind::StationTwice => "state --same-set-up or --again",
+        MarkKind::StationTwice =>
+            "state that it is the same set-up (--same-set-up) or another (--again)",
         MarkKind::NameTooLong => "give the station a shorter name",
-        MarkKind::ByTargets => "state --sets, and of one set --targets too",
+        MarkKind::ByTargets =>
+            "state how many sets were read to the end (--sets), and of one its targets (--targets)",
         MarkKind::SetCount => {
             "leave out a set that was broken off or read again, or state another number"
         }
         MarkKind::TargetCount => {
-            "give a target of two names the right one, or state another number"
+            "give a target that has two names the right one, or state another number"
         }
-        _ => "see what the fault means by station_check explain",
+        MarkKind::TwoLines
+        | MarkKind::HasCodes
+        | MarkKind::HasSetUp
+        | MarkKind::NoSetUp
+        | MarkKind::Empty
+        | MarkKind::NoSets
+        | MarkKind::NoSuchStation => "see what the fault means by station_check explain",
     }
 }

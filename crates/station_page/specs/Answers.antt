@@ -49,7 +49,9 @@ use Rattle.table_answers.specs.Saying.{SaysDifferences}
 use Rattle.table_answers.specs.Wholes.{IsWhole, WholeValue, verdict_parts}
 use Rattle.table_answers.specs.declared.compared.Compared.{Compared}
 use Rattle.table_report.specs.Stating.{ReportAsked}
+use Rattle.direction_table.specs.declared.reading.TheConstants.{LONGEST_TABLE}
 use Rattle.table_titles.specs.declared.fault.TitlesFault.{TitlesFault}
+use Rattle.table_titles.specs.declared.fault.TitlesFault.TheVariants.{TooLong}
 use Rattle.changed_lines.specs.Answers.{IsChanged, IsFault}
 use Rattle.changed_lines.specs.Sayings.{SayChanges}
 use Rattle.changed_lines.specs.declared.change.Change.{Change}
@@ -277,7 +279,8 @@ pub record IsMarkOf (form : ToldAs) (AreBeginnings : Beginnings → Type 0)
   pub hands_copy_out : HandsOut (status_of copy) (copy_text form copy) room status shown
   pub hands_text_out : HandsOut status text told_room answered told
 
--- Memory ran out: what is in the place of the copy is handed out, and what is told then.
+-- Memory ran out beside the marking: what is in the place of the copy is handed out, and what is told
+-- then.
 pub record RanOut (form : ToldAs) (told_room : ℕ) (told : List ℕ) (room answered : ℕ)
     (shown : List ℕ) : Type 0 where
   pub status : ℕ
@@ -322,11 +325,12 @@ pub record IsExplanationOf (form : ExplainedAs) (line : List ℕ) (room answered
   pub explains : IsExplanationFrom form table line room answered shown
 
 -- The status and the text are those of the columns of this table with these titles; or memory ran
--- out.
+-- out, but not for one that is too long.
 pub record IsColumnsOf (targets directions table : List ℕ) (room answered : ℕ) (shown : List ℕ)
     : Type 0 where
   pub answer : Result (List ℕ) TitlesFault
   pub tells : TellsColumns targets directions table answer
+  pub too_long : LONGEST_TABLE < length table → answer ≡ Err TooLong
   pub hands_out : HandsOut (status_of answer) (columns_or_line answer) room answered shown
 
 -- The text is that of where the line of a refusal stands in these bytes of a field file and of
@@ -334,11 +338,12 @@ pub record IsColumnsOf (targets directions table : List ℕ) (room answered : �
 abbrev pub IsPlaceOf : List ℕ → List ℕ → List ℕ → ℕ → ℕ → List ℕ → Type 0
 IsPlaceOf line gsi other = HandsOutMade (IsPlaceText line gsi other)
 
--- It is what these bytes recorded of instrument and time, in a language.
+-- The text is that of what these bytes recorded of instrument and time, in a language; or memory ran
+-- out.
 abbrev pub IsInstrumentOf : Language → List ℕ → ℕ → ℕ → List ℕ → Type 0
 IsInstrumentOf language gsi = HandsOutMade (IsRecorded language gsi)
 
--- It has the records of this text, whose fields this byte separates.
+-- The text is that of the records of this text, whose fields this byte separates; or memory ran out.
 abbrev pub IsRecordsOf : ℕ → List ℕ → ℕ → ℕ → List ℕ → Type 0
 IsRecordsOf separator text = HandsOutMade (AreTheRecords separator text)
 

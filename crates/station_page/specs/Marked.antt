@@ -35,7 +35,8 @@ told_text Notes (Err refused) = refusal_text (unmarked refused)
 told_text Rows (Ok m) = told_rows m.stations.items
 told_text Rows (Err refused) = told_rows (told_in refused)
 
--- what is told where memory ran out: the line that says so in the place of notes, and no rows
+-- what is told where memory ran out beside the marking: the line that says so in the place of notes,
+-- and neither rows nor their titles
 abbrev pub untold_text : ToldAs → List ℕ
 untold_text Notes = refusal_line (Mark Memory)
 untold_text Rows = []

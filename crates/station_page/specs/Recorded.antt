@@ -6,8 +6,8 @@ use Rattle.instrument_words.specs.Instrument.{AreBlocksUpTo, instrument_of}
 use Rattle.instrument_words.specs.Texts.{instrument_text}
 use Rattle.report_phrases.specs.declared.language.Language.{Language}
 
--- Of a file with these blocks, up to its end or its first fault, the text has the lines of what they
--- recorded, in a language.
+-- Of a file with these blocks, up to its end or to the first fault of its lines, the text has the
+-- lines of what they recorded, in a language.
 abbrev pub IsRecorded : Language → List ℕ → List ℕ → Type 0
 IsRecorded language gsi text =
     (blocks : List GsiBlock)

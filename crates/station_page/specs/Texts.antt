@@ -22,7 +22,7 @@ abbrev pub bytes_in : {F : Type 0} → Result (Vec ℕ Global) F → Result (Lis
 bytes_in (Ok text) = Ok text.items
 bytes_in (Err fault) = Err fault
 
--- a text in memory, or the line that there was none for it
+-- a text in memory, or the line that memory ran out for it
 abbrev pub made_text : {F : Type 0} → Result (Vec ℕ Global) F → List ℕ
 made_text (Ok text) = text.items
 made_text (Err none) = refusal_line Memory

@@ -1,10 +1,12 @@
 //! The two columns of a table by their titles, for a page.
 
-ghost use Rattle.std.specs.Prelude.{◌≡◌, IfOk, MatchResult, Ok, Err};
+ghost use Rattle.std.specs.Prelude.{◌≡◌, ◌<◌, IfOk, MatchResult, Ok, Err, length};
+ghost use Rattle.direction_table.specs.declared.reading.TheConstants.{LONGEST_TABLE};
 ghost use Rattle.station_page.specs.Answers.{IsColumnsOf};
 ghost use Rattle.station_page.specs.HandedOut.{Shows};
 ghost use Rattle.station_page.specs.Titled as spec;
 ghost use Rattle.station_page.specs.Titled.{TellsColumns};
+ghost use Rattle.table_titles.specs.declared.fault.TitlesFault.TheVariants.{TooLong};
 
 use crate::hand_out::hand_out;
 use direction_table::ColumnPair;
@@ -16,8 +18,9 @@ use table_titles::{Titles, TitlesFault, columns_by_titles, titles_line};
 /// Hands out by which columns a whole table with these titles of targets and of directions is to be
 /// read: their numbers, counted from 1, with a comma between; or the line of the refusal.
 ///
-/// Titles are compared as they stand, capitals too. Answers 0 for the columns, 1 for a refusal, and
-/// 3 where `out` has too little room.
+/// Titles are compared as they stand, capitals too. A number above 999,999, which no other call
+/// takes, is handed out too. Answers 0 for the columns, 1 for a refusal, and 3 where `out` has too
+/// little room.
 #[unsafe(no_mangle)]
 pub extern "C" fn station_page_columns(
     alloc: Global,
@@ -42,11 +45,12 @@ pub extern "C" fn station_page_columns(
 
 /// The columns of a table with these titles, as a text.
 fn columns_text(alloc: Global, table: &[u8], titles: Titles<'_>) -> Result<Vec<u8>, TitlesFault>
-    ensures { MatchResult result
+    ensures tells { MatchResult result
         (λ text. TellsColumns titles.entry.targets.now titles.entry.directions.now table.now
         (Ok text.items))
         (λ fault. TellsColumns titles.entry.targets.now titles.entry.directions.now table.now
         (Err fault)) }
+    ensures too_long { LONGEST_TABLE < length table.now → result ≡ Err TooLong }
 {
     let pair = columns_by_titles(alloc, titles, table)?;
     Ok(pair_text(alloc, pair)?)

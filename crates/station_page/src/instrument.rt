@@ -13,8 +13,8 @@ use report_phrases::Language;
 use std::alloc::{AllocError, Global};
 
 /// Hands out the lines that a report has of what a whole field file recorded of instrument and time:
-/// one for each of the words 12, 13, 17, 18 and 19 that it has, as they stand; of a file that has a
-/// fault, of the blocks before that.
+/// one for each of the words 12, 13, 17, 18 and 19 that it has, as they stand; of a file with a fault
+/// of its lines, of the blocks before that.
 ///
 /// The language is 0 for English, 1 for German and 2 for French. Answers 0 for the lines, 1 where
 /// there was no memory, 2 for another language, and 3 where `out` has too little room.

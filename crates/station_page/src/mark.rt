@@ -61,9 +61,9 @@ pub extern "C" fn station_page_mark(
     )
 }
 
-/// Hands out what `station_page_mark` does, but in `rows` what is told of each station as rows: the
-/// copy of a whole field file with codes put in, or the line of the refusal; and below titles what
-/// was recognized of the stations, at a refusal too, where they were judged.
+/// Hands out a copy of a whole field file with codes put in, or the line of the refusal; and in
+/// `rows`, below titles, what was recognized of the stations, at a refusal too, where they were
+/// judged.
 ///
 /// What is stated is that of `station_page_mark`. Answers 0 for the copy, 1 for a refusal, 2 where
 /// `name` or `code` can't be one, or a line of `sets` or `targets` can't stand where it does, and 3

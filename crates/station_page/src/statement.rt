@@ -14,7 +14,7 @@ use std::alloc::{AllocError, Global};
 /// Why numbers are not taken from what is stated.
 #[derive(Clone, Copy, Drop)]
 pub(crate) enum Untaken {
-    /// Memory ran out for them.
+    /// Memory ran out, for them or for what is made by them.
     Memory,
     /// None are stated that can be.
     Wrong,

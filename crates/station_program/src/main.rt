@@ -9,6 +9,7 @@
 #![tactic(auto)]
 
 ghost use Rattle.std.specs.Prelude.{◌≡◌, OnOk, OnErr};
+ghost use Rattle.clap.specs.Words.{kind_of};
 ghost use Rattle.station_program.specs.Statuses.{IsStatusOfKind};
 
 use byte_ends::{OfRead, OfWrite};
@@ -29,7 +30,7 @@ fn main(rt: HostRuntime) -> ExitCode {
         Ok(status) => ExitCode::from(status),
         Err(error) => {
             let printed = print(&rt, &error);
-            ExitCode::from(status_in_place(&rt, error.kind(), printed))
+            ExitCode::from(status_in_place(&rt, &error, printed))
         }
     }
 }
@@ -44,10 +45,10 @@ fn print(rt: &HostRuntime, error: &Error) -> io::Result<()> {
 }
 
 /// The exit status of what is printed in place of a run, by its kind, and by whether it was printed.
-fn status_in_place(rt: &HostRuntime, kind: ErrorKind, printed: io::Result<()>) -> u8
-    ensures { IsStatusOfKind kind printed result }
+fn status_in_place(rt: &HostRuntime, error: &Error, printed: io::Result<()>) -> u8
+    ensures { IsStatusOfKind (kind_of error.now) printed result }
 {
-    match kind {
+    match error.kind() {
         ErrorKind::OutOfMemory => refused(rt, Fault::Memory),
         ErrorKind::DisplayHelp | ErrorKind::DisplayVersion => status_of_print(rt, printed),
         _ => USAGE,

@@ -576,7 +576,7 @@ mark copies that have a part each\n",
     let want: &[u8] = b"note: station P1: no sets; 2 readings stay outside\n\
 note: station P1: set up again\n\
 note: station P1: not recognized, block 5: StationTwice; 3 readings stay outside: \
-state --same-set-up or --again\n\
+state that it is the same set-up (--same-set-up) or another (--again)\n\
 note: station P1: set up again\n\
 note: station P1: no sets; 4 readings stay outside\n";
     expect_told(&rt, alloc, &stations, want)
