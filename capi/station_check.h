@@ -300,7 +300,8 @@ uint8_t station_check_explanation(const char *line, size_t line_length,
 
 /* By which columns a table with these titles, of targets and of directions, is to be read: their
  * numbers, counted from 1, with a comma between, as "2,3"; or the line of the refusal. Titles are
- * compared as they stand in one row, without the blanks around them, capitals too. 64 bytes are
+ * looked for by commas, else semicolons, else tabs, never by blanks, in the first row that has that of
+ * targets. Blanks around a cell don't count, those of a stated title do; capitals count. 64 bytes are
  * always enough. */
 uint8_t station_check_columns(const void *table, size_t table_length,
                               const char *targets, size_t targets_length,

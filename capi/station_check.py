@@ -21,8 +21,9 @@ the others it is 10 mgon.
 A table of directions states gon, or by its `unit` "degrees", or "dmmss", which is two digits of
 minutes after the point and then the seconds. `columns` are those of names and of directions,
 counted from 1, as (2, 6), or by their titles, as ("Target", "Hz"); where none are stated the table
-has two, or the one pair of its columns that fits is found. The `note` of the answer, or of a refusal, tells which columns were read, and how much was
-passed over, where there are more than two; and another unit in which a table that is apart agrees.
+has two, or the one pair of its columns that fits is found. The `note` of the answer, or of a
+refusal, tells which columns were read, and how much was passed over, where there are more than two;
+and another unit in which a table that is apart agrees.
 
 The library is the one that STATION_CHECK_LIBRARY names, else that of the installation which this
 file belongs to, else the one that the system finds.
@@ -82,6 +83,9 @@ _RANGES = {
 
 # What a name may be.
 _NAME = "1 to 16 letters, digits and signs of ASCII"
+
+# What two columns are.
+_COLUMNS = 'columns are two: of names and of directions, as (2, 6) or ("Target", "Hz")'
 
 # What can still be wrong of what a call is given, where all numbers and names are in their range.
 _OF_JOBS = "state a code that is none of 10, 20 and 30, and one number of each station"
@@ -720,12 +724,14 @@ def _form(
 
 def _pair(columns: Sequence[int | str], table: File) -> Sequence[int]:
     """Two columns that are stated, by their numbers: those of a table with two titles too."""
+    if isinstance(columns, (str, set)) or "" in columns:
+        raise ValueError(_COLUMNS)
     titles = [_text(one) for one in columns if isinstance(one, str)]
     numbers = [_whole("columns", one) for one in columns if not isinstance(one, str)]
     if len(titles) == 2 and not numbers:
         return [int(number) for number in _answer("columns", [table, *titles], []).split(b",")]
     if titles or len(set(numbers)) != 2 or len(numbers) != 2:
-        raise ValueError("columns are two: that of the names and that of the directions, as (2, 6)")
+        raise ValueError(_COLUMNS)
     return numbers
 
 

@@ -300,9 +300,13 @@ async function readRows(/** @type {Input} */ file) {
     const { told = [] } = await ask('records', part, separator.charCodeAt(0));
     return separator === ' ' ? told.map(fields => fields.filter(field => field !== '')) : told;
   });
-  const all = await Promise.all(read), firsts = all.map(([first = []]) => first);
+  const all = await Promise.all(read);
+  // (no call looks for titles by blanks: then the numbers of the columns are proposed)
+  const by = (/** @type {string} */ one) =>
+    all[separators.indexOf(one)]?.find(row => row.length > 1) ?? [];
   file.rows = all.flat();
-  file.titles = firsts.reduce((most, one) => one.length > most.length ? one : most, []);
+  file.titles = [by(';'), by('\t'), by(','), by(' ').map((_, nth) => `${nth + 1}`)]
+    .find(one => one.length > 0) ?? [];
 }
 
 /** The number of a column, from 1, as the calls take it. */
@@ -318,8 +322,12 @@ export async function stateColumns(table, stated) {
   const areNumbers = stated.every(one => COLUMN.test(one)), given = originalOf(table);
   const { status, text: said } = areNumbers ? { status: ACCEPTED, text: stated.join() }
     : await ask('columns', table.bytes, ...stated);
-  if (status === ACCEPTED) given.columns = said.split(',').map(Number);
-  return status === ACCEPTED ? '' : toldOf(await explanationOf(said.trimEnd())).what;
+  if (status !== ACCEPTED) {
+    const { what, todo } = toldOf(await explanationOf(said.trimEnd()));
+    return `${what} ${todo}`;
+  }
+  given.columns = said.split(',').map(Number);
+  return '';
 }
 
 /**

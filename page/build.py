@@ -51,11 +51,12 @@ CAREFUL = (
 FOR_SIZE = "-Os"
 FREE_STANDING = ["-O2", "-ffreestanding", "-nostdinc", "-fno-builtin"]
 
-# How the module with 64-bit memory becomes one with 32-bit memory, and what such modules use.
+# How the module with 64-bit memory becomes one with 32-bit memory, and what such modules use; those
+# functions stand first that are called most, and no tool is named, so that it packs better.
 LOWERING = (
     "--enable-memory64 --enable-bulk-memory --enable-sign-ext --enable-mutable-globals "
     "--enable-nontrapping-float-to-int --enable-multivalue --enable-simd --enable-reference-types "
-    "--memory64-lowering"
+    "--memory64-lowering --reorder-functions --strip-producers --strip-target-features"
 ).split()
 NOT_LOWERED = (
     "page: wasm-opt (binaryen) is missing: this page has 64-bit memory, and runs in Chrome, Edge and "

@@ -128,7 +128,8 @@ function askColumns(table, { status, verdict }, desk, parent) {
   typed.set('columns', typing);
   const inputs = ASKED_COLUMNS.map(([name, called], nth) => {
     const label = element('label', `${text(called)} `, form);
-    const about = { type: 'text', required: true, value: typing[name] ?? String(columns[nth] ?? '') };
+    const value = typing[name] ?? String(columns[nth] ?? '');
+    const about = { type: 'text', required: true, pattern: '.*\\S.*', value };
     const input = /** @type {HTMLInputElement} */ (element('input', '', label, about));
     input.oninput = () => { typing[name] = input.value; };
     propose(input, `${given.shown} ${name}`, () => titles.map(one => one.trim()).filter(Boolean));

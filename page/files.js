@@ -22,8 +22,8 @@ import { each } from './rows.js';
  * `unfolded` has those whose readings the user unfolded. `recorded` has by the language the lines of
  * what it recorded of instrument and time, and is there with the digest once the file was judged.
  * `rows` has the fields of the first rows of a sheet, and of the rows of a table by each separator
- * that it may have: the core reads them before the file is judged. `titles` may be a table's, in
- * its first row.
+ * that it may have: the core reads them before the file is judged. `titles` may be a table's: of
+ * its first row with several fields.
  * @typedef {{ name: string, path: string, handle?: any, shown: string, bytes: Uint8Array,
  *   kind: Kind, digest: string, choice?: { field: Input, name: string }, unit?: Unit,
  *   columns?: number[], station?: string, typed?: string, original?: Input, taken?: Input,

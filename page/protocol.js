@@ -154,7 +154,7 @@ const HAS_NO_FEET = !('CSSMarginRule' in window);
 /**
  * Has each page of a protocol say what it is of, at its foot. Browsers that write nothing there
  * have a line that stands on all pages that are printed: so it is that of what comes first. Of others
- * it is the foot of a table, which they repeat on each page.
+ * it is the foot of a table, which Firefox repeats on each page, and WebKit has once, at the end.
  * @param {HTMLElement} part
  * @param {string} said
  * @param {string} page its name, where others are printed too

@@ -34,14 +34,14 @@ const BESIDE = ['digest', 'instrument'], LARGE = 1_000_000;
 const gone = new FinalizationRegistry(({ worker, file }) => worker.postMessage({ forget: file }));
 /** The script of the workers, once it is unpacked. */
 let script = '';
-/** @type {Map<number, { resolve: Function, reject: Function }>} */
+/** @type {Map<number, { worker: Worker, resolve: Function, reject: Function }>} */
 const waiting = new Map();
 let count = 0;
 
 /** Hands a message to a worker; answers what comes back. */
 function sent(/** @type {Worker} */ worker, /** @type {object} */ message) {
   return new Promise((resolve, reject) => {
-    waiting.set(++count, { resolve, reject });
+    waiting.set(++count, { worker, resolve, reject });
     worker.postMessage({ id: count, ...message });
   });
 }
@@ -59,8 +59,13 @@ function hired() {
     if (error !== undefined) reject?.(new Error(error));
     else resolve?.(answer);
   };
-  worker.onerror = event => {
-    for (const { reject } of waiting.values()) reject(new Error(event.message));
+  worker.onerror = ({ message }) => {
+    for (const [id, asked] of waiting) {
+      if (asked.worker !== worker) continue;
+      waiting.delete(id);
+      asked.reject(new Error(message));
+    }
+    if (second?.worker === worker) second = undefined;
   };
   const ready = sent(worker, { module: bytesOfText(part('module')) });
   return { worker, handed: new WeakMap(), ready };
@@ -111,13 +116,13 @@ function asHanded(bytes, { worker, handed }) {
 }
 
 /**
- * Asks a proved call, with files as bytes, names as texts, numbers in their units, and flags.
+ * What a worker answers to a call.
+ * @param {Hand} hand
  * @param {string} name
  * @param {(Uint8Array | string | number | boolean | null)[]} inputs
  * @returns {Promise<Reply>}
  */
-export async function ask(name, ...inputs) {
-  const hand = handFor(name, inputs);
+async function replyOf(hand, name, inputs) {
   const given = inputs.map(input => {
     if (typeof input === 'string') return bytesOf(input);
     return input instanceof Uint8Array ? asHanded(input, hand) : input;
@@ -126,6 +131,21 @@ export async function ask(name, ...inputs) {
   const [bytes = new Uint8Array(), more = new Uint8Array()] = shown;
   const [text, beside] = [bytes, more].map(one => new TextDecoder().decode(one));
   return { status, bytes, text, beside: beside.trimEnd(), told };
+}
+
+/**
+ * Asks a proved call, with files as bytes, names as texts, numbers in their units, and flags. What the
+ * second worker has no room for the first is asked.
+ * @param {string} name
+ * @param {(Uint8Array | string | number | boolean | null)[]} inputs
+ * @returns {Promise<Reply>}
+ */
+export function ask(name, ...inputs) {
+  const hand = handFor(name, inputs), reply = replyOf(hand, name, inputs);
+  return hand === first ? reply : reply.catch(error => {
+    if (error instanceof Stopped) throw error;
+    return replyOf(/** @type {Hand} */ (first), name, inputs);
+  });
 }
 
 /**

@@ -1243,16 +1243,16 @@ class PageInBrowserTest(TimedTest):
 
     def test_columns_are_stated_by_their_titles(self):
         """As the program takes them; the titles are proposed, and one that no column has is told of."""
-        table = b"Ziel;Soll;Hz\nA;1;0\nB;2;50.00003\n"
+        table = b"Ziel Nr;Soll;Hz\nA;1;0\nB;2;50.00003\n"
         page = self.page(FIELD, self.file("titled.csv", table))
         asked, submit = "[...document.querySelectorAll('.answer form input')]", "document.querySelector('.answer form').requestSubmit()"
-        state = f"(([names, directions]) => {{ names.value = 'Ziel'; directions.value = '%s'; directions.oninput(); names.oninput() }})({asked}); {submit}"
+        state = f"(([names, directions]) => {{ names.value = 'Ziel Nr'; directions.value = '%s'; directions.oninput(); names.oninput() }})({asked}); {submit}"
         page.js(state % "hz")
         page.wait("document.querySelector('.answer form [role=status]').textContent !== ''")
-        self.assertEqual("No column of the table has the stated title.", page.text(".answer form [role=status]"))
-        self.assertEqual(["Ziel", "hz"], page.js(f"{asked}.map(one => one.value)"))
+        self.assertEqual("No column of the table has the stated title. State the two columns by their numbers.", page.text(".answer form [role=status]"))
+        self.assertEqual(["Ziel Nr", "hz"], page.js(f"{asked}.map(one => one.value)"))
         page.js(f"{asked}[1].onfocus()")
-        self.assertEqual(["Ziel", "Soll", "Hz"], page.js(f"[...{asked}[1].list.options].map(one => one.value)"))
+        self.assertEqual(["Ziel Nr", "Soll", "Hz"], page.js(f"[...{asked}[1].list.options].map(one => one.value)"))
         with page.answered():
             page.js(state % "Hz")
         _, said, told = model.compared(FIELD.read_bytes(), b"S1", table, form=model.TableForm(columns=(b"1", b"3")))
