@@ -828,9 +828,10 @@ class PageCallsTest(TimedTest):
         self.assertEqual({0, 1}, found)
 
     def test_all_of_a_table_has_the_texts_that_are_handed_out_alone(self):
-        """Of each case of a comparison; the row of the verdict has what its line says, and that of the
-        columns what the note says."""
+        """Of each case of a comparison, but where its titles are refused; the row of the verdict has
+        what its line says, and that of the columns what the note says."""
         cases = [case for case in cases_of_page() if case.args[:1] == ["compare"]]
+        cases = [case for case in cases if b"Title" not in case.expected[2]]
         found, rows = set(), set()
         for case in cases:
             command, *words = case.args
