@@ -23,7 +23,7 @@ pub mod TableNotes
 pub mod Texts
 pub mod Beginnings
 pub mod TableTexts
--- The inside: what each byte does while rows are read, and what is known of the rows so far.
+-- The inside: which rows are left, and what is known of those so far.
 pub mod ByteSteps
 pub mod FaultsOfRows
 pub mod NamingRows

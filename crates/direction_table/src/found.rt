@@ -135,12 +135,10 @@ fn way_by_names(
 fn first_after(names: u32, fitting: &[u16]) -> Option<u16>
     ensures { result ≡ find (nat_lt names) fitting.now }
 {
-    for column in fitting {
-        if *column as u32 > names {
-            return Some(*column);
-        }
-    }
-    None
+    fitting
+        .iter()
+        .copied()
+        .find(|column| *column as u32 > names)
 }
 
 /// The same, where this is the first column after the names that fits.
@@ -173,12 +171,10 @@ fn way_with_first(
 fn other_fit(first: u16, taken: u16, fitting: &[u16]) -> Option<u16>
     ensures { result ≡ find (spec.is_outside first taken) fitting.now }
 {
-    for other in fitting {
-        if is_outside(first, taken, *other) {
-            return Some(*other);
-        }
-    }
-    None
+    fitting
+        .iter()
+        .copied()
+        .find(|other| is_outside(first, taken, *other))
 }
 
 /// Whether a column is none of a direction's, which takes so many from the first on.

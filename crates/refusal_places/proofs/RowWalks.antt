@@ -9,8 +9,9 @@ use Rattle.csv.specs.Reading.{is_bom, strip_bom}
 use Rattle.csv.specs.declared.parser.Action.{Action}
 use Rattle.csv.specs.declared.parser.State.{State}
 use Rattle.csv.specs.declared.parser.State.TheVariants as st
-use Rattle.refusal_places.specs.Rows.{begin_in, config_with, mark_size, spans_from}
+use Rattle.refusal_places.specs.Rows.{begin_in, mark_size, spans_from}
 use Rattle.refusal_places.specs.declared.span.Span.{Span}
+use Rattle.row_forms.specs.ByteSteps.{config_with}
 
 -- What a byte does with the row that is read, by what the machine says of it.
 abbrev pub after_byte : ℕ → State × Action → ℕ → ℕ → List ℕ → List Span
@@ -37,6 +38,14 @@ module _ (d : ℕ) (from : State) (first : ℕ) (text : List ℕ) (at : ℕ) whe
 
 -- By these a finder of rows is proved.
 pub ruleset byte_by_byte = (byte_more, text_end)
+
+-- A byte order mark at the start of a text is some of its bytes.
+pub mark_short : (text : List ℕ) → length (strip_bom text) ≤ length text
+unfolding strip_bom
+mark_short [] = omega arith
+mark_short (a ∷ []) = omega arith
+mark_short (a ∷ b ∷ []) = omega arith
+mark_short (a ∷ b ∷ c ∷ rest) = grind arith
 
 -- What stands after a byte order mark.
 pub after_mark : (text : List ℕ) → drop (mark_size text) text ≡ strip_bom text

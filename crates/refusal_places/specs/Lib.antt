@@ -8,6 +8,5 @@ pub mod Meant
 pub mod MeantParts
 pub mod Places
 pub mod PlaceTexts
--- The inside: what each byte does while rows are found, and which are left.
-pub mod ByteSteps
+-- The inside: which rows are left to be found.
 pub mod RowsLeft

@@ -2,15 +2,12 @@
 use Rattle.std.specs.Prelude.{◌≡◌, ℕ, ◌+◌, ◌-◌, ◌==◌, List, [], ◌∷◌, Option, Some, None, length}
 use Rattle.std.specs.Prelude.{if◌then◌else◌, slice_get}
 use Rattle.csv.specs.Machine.{ends_at_end, is_end, step}
-use Rattle.csv.specs.Reading.{default_config, strip_bom}
+use Rattle.csv.specs.Reading.{strip_bom}
 use Rattle.csv.specs.declared.parser.Config.{Config}
 use Rattle.csv.specs.declared.parser.State.{State}
 use Rattle.csv.specs.declared.parser.State.TheVariants as st
 use Rattle.refusal_places.specs.declared.span.Span.{Span}
-
--- How `csv` reads rows whose fields this byte separates: as it does by default, but for it.
-abbrev pub config_with : ℕ → Config
-config_with separator = record default_config { delimiter = separator }
+use Rattle.row_forms.specs.ByteSteps.{config_with}
 
 -- Where the row begins that is read in this state: the bytes that end lines before it are not its
 -- own.

@@ -1,9 +1,10 @@
 -- The rows of a text that are left to be found.
 use Rattle.std.specs.Prelude.{◌≡◌, List, [], ◌∷◌, Option, Some, None, drop}
 use Rattle.csv.specs.declared.parser.State.TheVariants as st
-use Rattle.refusal_places.specs.Rows.{config_with, spans_from}
+use Rattle.refusal_places.specs.Rows.{spans_from}
 use Rattle.refusal_places.specs.declared.rows.Rows.{Rows}
 use Rattle.refusal_places.specs.declared.span.Span.{Span}
+use Rattle.row_forms.specs.ByteSteps.{config_with}
 
 -- Where the rows stand that are left.
 abbrev pub spans_left : Rows → List Span

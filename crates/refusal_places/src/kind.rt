@@ -6,7 +6,7 @@ ghost use Rattle.refusal_places.specs.Kinds as spec;
 use crate::row::COMMA;
 use crate::rows::Rows;
 use crate::span::Span;
-use crate::steps::{Place, Step, step_at};
+use row_forms::{Place, Step, step_at};
 
 /// A row that is counted among those of its kind.
 #[derive(Clone, Copy, Debug, PartialEq, Eq)]
@@ -18,25 +18,26 @@ pub struct KindRow {
 }
 
 /// Whether this is the first field of a row whose fields commas separate.
+#[tactic(auto, using(crate::proofs::FirstFields::byte_by_byte))]
 fn is_first_field(field: &[u8], row: &[u8]) -> bool
     ensures { result ≡ spec.is_first_field field.now row.now }
 {
-    let mut taken = 0;
-    let mut place = Place::Between;
+    let mut left = field;
+    let mut place = Place::RowStart;
     for at in 0..row.len() {
         match step_at(place, COMMA, row[at]) {
             Step::Skip(next) => place = next,
-            Step::Keep(next) => {
-                if taken == field.len() || field[taken] != row[at] {
-                    return false;
+            Step::Keep(next) => match left {
+                [first, rest @ ..] if row[at] == *first => {
+                    left = rest;
+                    place = next;
                 }
-                taken += 1;
-                place = next;
-            }
-            Step::EndField | Step::EndRow => return taken == field.len(),
+                _ => return false,
+            },
+            Step::EndField | Step::EndRow => return left.is_empty(),
         }
     }
-    taken == field.len()
+    left.is_empty()
 }
 
 /// Of the rows of a sheet that begin with this field the one of this number, the first of which has

@@ -18,7 +18,6 @@ mod place;
 mod row;
 mod rows;
 mod span;
-mod steps;
 mod text;
 
 pub use kind::{KindRow, row_of_kind};

@@ -1,35 +1,18 @@
-//! The rows of a sheet or a table, one by one: where each stands.
-//!
-//! `csv` hands out the fields of a row, and not where it stands. Here the same machine looks at each
-//! byte, and keeps none.
+//! The rows of a sheet or a table, one by one: where each stands. No byte of them is kept.
 
 ghost use Rattle.std.specs.Prelude.{◌≡◌, ◌≤◌, length};
-ghost use Rattle.csv.specs.Reading.{is_bom};
 ghost use Rattle.refusal_places.specs.Rows.{mark_size};
 
 use crate::span::Span;
-use crate::steps::{Place, Step, is_in_row, step_at};
-
-/// The bytes of a byte order mark.
-const MARK_SIZE: usize = 3;
-
-/// Whether three bytes are a byte order mark.
-fn is_mark(first: u8, second: u8, third: u8) -> bool
-    ensures { result ≡ is_bom first second third }
-{
-    first == 0xEF && second == 0xBB && third == 0xBF
-}
+use row_forms::{Place, Step, is_in_row, step_at, without_mark};
 
 /// How many bytes of a text are a byte order mark at its start.
-#[tactic(auto, unfolding(csv::specs::Reading::strip_bom))]
+#[tactic(auto, using(crate::proofs::RowWalks::mark_short))]
 fn mark_size(text: &[u8]) -> usize
     ensures value { result ≡ mark_size text.now }
     ensures within { result ≤ length text.now }
 {
-    match text {
-        [first, second, third, ..] if is_mark(*first, *second, *third) => MARK_SIZE,
-        _ => 0,
-    }
+    text.len() - without_mark(text).len()
 }
 
 /// The rows of a text that are left to be found.
@@ -70,7 +53,7 @@ impl<'a> Rows<'a> {
         ensures shorter { IfSome result (λ _. self.old.at < self.new.at) }
     {
         let mut first = self.at;
-        let mut place = Place::Between;
+        let mut place = Place::RowStart;
         for at in self.at..self.bytes.len() {
             match step_at(place, self.separator, self.bytes[at]) {
                 Step::Skip(next) | Step::Keep(next) => {

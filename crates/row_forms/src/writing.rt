@@ -1,7 +1,7 @@
 //! Rows of a form, written into memory.
 //!
 //! The rows go through `csv`'s writer, which puts quotes where a name asks for them.
-ghost use Rattle.std.specs.Prelude.{◌≡◌, [], map, OnOk, Some};
+ghost use Rattle.std.specs.Prelude.{◌≡◌, ℕ, List, [], map, IfOk, OnOk, Some};
 ghost use Rattle.csv.specs.Writing.{row_text};
 ghost use Rattle.row_forms.specs.Forms.{writer_of};
 ghost use Rattle.row_forms.specs.Writing as spec;
@@ -20,6 +20,20 @@ pub fn rows_in<W: Write + Drop>(form: RowForm, out: W) -> Writer<W>
     builder.delimiter(form.separator()).from_writer(out)
 }
 
+/// A writer of rows of a form into memory, below a row of titles, which it has written.
+pub fn rows_below(
+    alloc: Global,
+    titles: &[&[u8]],
+    form: RowForm,
+) -> Result<Writer<Vec<u8>>, AllocError>
+    ensures { IfOk result (λ writer. spec.HasWritten form ⟦<Vec<u8> as Write>⟧.contents writer
+        (row_text (writer_of form) (map (λ title. title.now) titles.now))) }
+{
+    let mut writer = rows_in(form, Vec::new(alloc));
+    write_row(&mut writer, titles)?;
+    Ok(writer)
+}
+
 /// Writes one row after those that were written. An error of `csv` is out of memory: the text is
 /// made there.
 pub fn write_row<W: Write + Drop>(
@@ -30,4 +44,21 @@ pub fn write_row<W: Write + Drop>(
         (row_text (writer_of form) (map (λ f. f.now) fields.now))) }
 {
     writer.write_fields(fields).map_err(|_| AllocError)
+}
+
+/// What was written into memory between two rows.
+pub fn written_text(writer: Writer<Vec<u8>>) -> Result<Vec<u8>, AllocError>
+    ensures { (form : Form) (written : List ℕ)
+        → spec.HasWritten form ⟦<Vec<u8> as Write>⟧.contents writer written
+        → IfOk result (λ text. text.items ≡ written) }
+{
+    writer.into_inner().map_err(|_| AllocError)
+}
+
+/// The text of a row of a form.
+pub fn text_of_row(alloc: Global, fields: &[&[u8]], form: RowForm) -> Result<Vec<u8>, AllocError>
+    ensures { IfOk result (λ text.
+        text.items ≡ row_text (writer_of form) (map (λ f. f.now) fields.now)) }
+{
+    written_text(rows_below(alloc, fields, form)?)
 }

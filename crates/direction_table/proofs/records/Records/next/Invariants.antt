@@ -2,7 +2,7 @@ use Rattle.std.proofs.Common.{◌≡◌, [], drop}
 use Rattle.csv.specs.Machine.{next_record}
 use Rattle.csv.specs.Records.{fields_of, partial_of}
 use Rattle.csv.specs.declared.parser.State.TheVariants as st
-use Rattle.direction_table.specs.ByteSteps.{config_with, state_of}
+use Rattle.row_forms.specs.ByteSteps.{config_with, state_of}
 use Rattle.direction_table.proofs.records.Records.next.Given as goal
 
 abbrev pub invariant-loop-at : goal.invariant-loop-at

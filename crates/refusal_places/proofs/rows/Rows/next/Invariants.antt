@@ -1,8 +1,8 @@
 use Rattle.std.proofs.Common.{◌≡◌, ◌<◌, ◌≤◌, drop, true}
 use Rattle.csv.specs.Machine.{ends_at_end}
-use Rattle.refusal_places.specs.ByteSteps.{state_of}
 use Rattle.refusal_places.specs.RowsLeft.{spans_left}
-use Rattle.refusal_places.specs.Rows.{config_with, spans_from}
+use Rattle.refusal_places.specs.Rows.{spans_from}
+use Rattle.row_forms.specs.ByteSteps.{config_with, state_of}
 use Rattle.refusal_places.proofs.rows.Rows.next.Given as goal
 
 abbrev pub invariant-loop-at : goal.invariant-loop-at
