@@ -13,7 +13,8 @@
 //! | `check_kept` | the same by readers that keep their bytes: an acceptance is of exactly these |
 //! | `stations_of_file` | the stations of a field file, for other libraries, and its reader |
 //! | `noted_stations_of_file` | the same, and how many readings stand in no set |
-//! | `note_unchecked` | notes how many these are |
+//! | `note_unchecked` | notes how many these are; `unchecked_line`: the line of it |
+//! | `observation_at`, `differences_at` | what a station has at a place, for other texts |
 //! | `run_check`, `run_means`, `run_list`, `run_words` | the commands: text and exit status |
 //!
 //! Each reads its bytes from a `Source` and writes to a `Sink`, which may be a file, a slice, or
@@ -59,7 +60,8 @@ pub use accepted::accepted_line;
 pub use check::{check_bytes, check_slices, check_sources, source_of};
 pub use fault::Fault;
 pub use kept::check_kept;
-pub use list::{noted_stations_of_file, write_list};
+pub use list::{differences_at, noted_stations_of_file, observation_at, write_list};
+pub use list_note::unchecked_line;
 pub use means::write_means;
 pub use page::Page;
 pub use refused::{

@@ -6,7 +6,7 @@ ghost use Rattle.station_check.specs.ListNotes as spec;
 use crate::verdict_line::{VerdictLine, add, add_numbered};
 
 /// The line that tells how many readings went unchecked.
-pub(crate) fn unchecked_line(count: u32) -> VerdictLine
+pub fn unchecked_line(count: u32) -> VerdictLine
     ensures { result.items ≡ spec.unchecked_line count }
 {
     let mut line = VerdictLine::new();

@@ -2,14 +2,13 @@
 
 ghost use Rattle.std.specs.Prelude.{◌≡◌, ◌≤◌, ◌+◌, ◌++◌, [], length, slice_get};
 ghost use Rattle.arrayvec.specs.ArrayVec.{array_vec_len};
-ghost use Rattle.station_check.specs.ListNotes.{standing, unchecked_line};
 ghost use Rattle.station_compare.specs.HintTexts as spec;
 ghost use Rattle.station_compare.specs.NameLists.{name_after, separator};
 
 use crate::hint::Hint;
 use itoa::Buffer;
 use station_book::Stations;
-use station_check::{LONGEST_U64, LONGEST_VERDICT_LINE, VerdictLine, add, add_numbered};
+use station_check::{LONGEST_U64, LONGEST_VERDICT_LINE, VerdictLine, add, unchecked_line};
 
 /// How many stations are named at most, so that a line of them stays short.
 pub(crate) const MOST_NAMED: usize = 8;
@@ -47,32 +46,6 @@ fn unchecked_hint(unchecked: u32) -> Hint
         return Hint::none();
     }
     Hint::of_line(unchecked_line(unchecked))
-}
-
-/// The line that tells how many readings went unchecked.
-fn unchecked_line(count: u32) -> VerdictLine
-    ensures { result.items ≡ unchecked_line count }
-{
-    let mut line = VerdictLine::new();
-    add_numbered(&mut line, b"note: nothing was checked: ", count);
-    add(&mut line, standing(count));
-    add(
-        &mut line,
-        b" in no set; station_check mark puts codes into a copy\n",
-    );
-    line
-}
-
-/// That so many readings stand: one stands.
-fn standing(count: u32) -> &'static [u8]
-    ensures text { result.now ≡ standing count }
-    ensures short { length result.now ≤ 15 }
-{
-    if count == 1 {
-        b" reading stands"
-    } else {
-        b" readings stand"
-    }
 }
 
 /// Adds the names of the first stations.
