@@ -39,3 +39,9 @@ some_of P obs h = let inside = h.2 in omega (arith, inside)
 -- A station has an observation.
 pub some_observation : (station : StationValue) → IsStation station → 1 ≤ length station.obs
 some_observation station s = some_of _ station.obs (s.obs.each_target 0 s.targets.some)
+
+-- So there is a row.
+pub some_row : (station : StationValue) (rows : List AdjustedObs) → IsStation station
+    → map key_of rows ≡ observed station → 1 ≤ length rows
+some_row station rows s h =
+    omega (arith, as_many_rows station rows h, some_observation station s)

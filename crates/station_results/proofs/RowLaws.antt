@@ -1,20 +1,9 @@
 -- Rows of observations, one after the other.
-use Rattle.std.proofs.Common.{◌≡◌, ℕ, ◌+◌, ◌<◌, List, [], ◌∷◌, ◌++◌, map, length, take}
-use Rattle.std.proofs.Common.{get_or, All, ℤ, ap, refl, sym, subst}
-use Rattle.std.proofs.lemmas.List.{take_more}
+use Rattle.std.proofs.Common.{◌≡◌, List, [], ◌∷◌, map, All, ℤ, ap, refl}
 use Rattle.std.proofs.lemmas.List.Elements.{All-cons, All-head, All-nil, All-tail}
-use Rattle.std.proofs.lemmas.Slice.Zip.{all_zipped_more}
 use Rattle.std.specs.List.{AllZip}
 use Rattle.adjust_kernel.specs.TurnedObservations.{TurnedObservation}
 use Rattle.adjust_kernel.specs.Turns.{with_turns}
-
--- One pair more, which stands at the next place.
-pub zip_more : {A B : Type 0} (R : A → B → Type 0) (xs : List A) (ys : List B) (i : ℕ) (d : A)
-    (y : B) → i < length xs → AllZip R (take i xs) ys → R (get_or xs i d) y
-    → AllZip R (take (i + 1) xs) (ys ++ (y ∷ []))
-zip_more R xs ys i d y inside h r =
-    subst (λ zs. AllZip R zs (ys ++ (y ∷ []))) (sym (take_more xs i d inside))
-    (all_zipped_more R (take i xs) ys (get_or xs i d) y h r)
 
 -- What every pair has, every second of a pair has.
 pub all_seconds : {A B : Type 0} (R : A → B → Type 0) (P : B → Type 0) (xs : List A) (ys : List B)

@@ -1,6 +1,7 @@
 use Rattle.std.proofs.Common.{◌≡◌, ◌∙◌, ◌+◌, ◌<◌, ◌++◌, ◌∷◌, [], List, length, map, take}
 use Rattle.std.proofs.Common.{ap, arith, get_or, sym, subst}
 use Rattle.std.proofs.lemmas.List.{map-append, take_all, take_more}
+use Rattle.std.proofs.lemmas.Slice.Zip.{all_zipped_more}
 use Rattle.std.specs.List.{AllZip}
 use Rattle.adjust_kernel.specs.Matching.{key_of_obs}
 use Rattle.exact_adjustment.proofs.SideLaws.{length-turned}
@@ -11,7 +12,6 @@ use Rattle.station_results.specs.Residuals.{key_of}
 use Rattle.station_results.specs.declared.adjusted.AdjustedObs.{AdjustedObs}
 use Rattle.station_results.proofs.ReadLaws.{any_obs, any_turned, limited_there, there}
 use Rattle.station_results.proofs.ReadLaws.{turn_kept, turned_there}
-use Rattle.station_results.proofs.RowLaws.{zip_more}
 use Rattle.station_results.proofs.adjusted.adjusted_by.Goals as goal
 
 pub adjusted_obs-requires-clause-limited : goal.adjusted_obs-requires-clause-limited
@@ -53,8 +53,9 @@ loop-place-preserved c =
           ∙ (λ i. l.invariant.keys i ++ (key i ∷ [])) ∙ sym more;
       each = subst (λ (rows : List AdjustedObs). AllZip (IsRowOf (choice_by a))
           (take (l.place + 1) (observed_by station a)) rows) (sym items)
-          (zip_more (IsRowOf (choice_by a)) (observed_by station a) made l.place any_turned row
-          (there station a exact l.place inside) l.invariant.each here);
+          (rw (take_more (observed_by station a) l.place any_turned
+          (there station a exact l.place inside)) (all_zipped_more (IsRowOf (choice_by a))
+          (take l.place (observed_by station a)) made _ row l.invariant.each here));
     }
 
 pub returns-clause-each : goal.returns-clause-each
