@@ -118,14 +118,19 @@ unnamed text none no_line c says = by c.edit says where
       ap (λ (bs : List ℕ). get_or bs (length says.0) 0) says.1 ∙ at_seam says.0 name in
       let g : true ≡ false = sym (ap is_equals f) ∙ e in absurd (cc)
 
+-- One with a `=` takes out no line.
+no_out : (text : List ℕ) (at line : ℕ) → position (λ b. b == 61) text ≡ Some at
+    → SaysEdit text line Out → ⊥
+no_out text at line found says =
+    let place = position-Some (λ b. b == 61) text at 0 found in
+    no_other text at (are_digits text line says) place.0 place.1
+
 -- One whose first `=` stands after no number says nothing.
 pub unnumbered : (text : List ℕ) (at : ℕ) → position (λ b. b == 61) text ≡ Some at
     → ((line : ℕ) → ¬ SaysLine (take at text) line) → (c : Change) → ¬ SaysChange text c
 unnumbered text at found no_line c says = by c.edit says where
   by : (e : Edit) → SaysEdit text c.line e → ⊥
-  by Out says =
-      let place = position-Some (λ b. b == 61) text at 0 found in
-      no_other text at (are_digits text c.line says) place.0 place.1
+  by Out says = no_out text at c.line found says
   by (Rename name) says =
       let p = parts text says.0 name at says.1 (are_digits says.0 c.line says.2) found in
       no_line c.line (subst (λ (bs : List ℕ). SaysLine bs c.line) (sym p.of_digits) says.2)
@@ -135,9 +140,7 @@ pub nameless : (text : List ℕ) (at : ℕ) → position (λ b. b == 61) text �
     → ¬ IsName (drop (at + 1) text) → (c : Change) → ¬ SaysChange text c
 nameless text at found no_name c says = by c.edit says where
   by : (e : Edit) → SaysEdit text c.line e → ⊥
-  by Out says =
-      let place = position-Some (λ b. b == 61) text at 0 found in
-      no_other text at (are_digits text c.line says) place.0 place.1
+  by Out says = no_out text at c.line found says
   by (Rename name) says =
       let p = parts text says.0 name at says.1 (are_digits says.0 c.line says.2) found in
       no_name (subst IsName (sym p.of_name) says.3)

@@ -20,6 +20,7 @@ use Rattle.set_marks.proofs.BeginsAndEnds.{last_known, opening_read}
 use Rattle.set_marks.proofs.BeginsAndEnds.{several_above}
 use Rattle.set_marks.proofs.RowsOfSets.{joined, right_among}
 use Rattle.set_marks.proofs.SameSets.{all_so, has_sets, starts_within}
+use Rattle.set_marks.proofs.Spans.{several_by}
 use Rattle.mark_editions.proofs.Rows.{end_in, flaw_in}
 
 -- the readings of the sets before the last
@@ -90,13 +91,6 @@ opens_none (r ∷ rs) s many e = elim (cases_Bool (is_of r.target s)) [
       absurd (false≢true (sym e ∙ known))
   | inr h ↦ h
 ]
-
--- Where the last of several sets ends, by the readings that stand before it.
-several_by : (rs : List Sight) (starts : List ℕ) → 2 ≤ length starts
-    → cut_end starts rs ≡ end_of (take (last_place starts) rs) rs
-several_by rs [] many = absurd (omega (arith, many))
-several_by rs (from ∷ []) many = absurd (omega (arith, many))
-several_by rs (from ∷ to ∷ later) many = refl
 
 none_after : (others rs : List Sight) → All (λ r. is_known others r ≡ false) rs
     → is_some_known others rs ≡ false

@@ -33,8 +33,9 @@ use Rattle.set_marks.specs.Divisions.{count_of}
 use Rattle.set_marks.specs.SetsInWords.{ReadsEachOnce}
 use Rattle.set_marks.specs.declared.bounds.TheConstants.{MOST_READINGS}
 use Rattle.set_marks.proofs.AmongDetails.{is_known, known_after, few_known, strange_too}
-use Rattle.set_marks.proofs.EachTargetOnce.{no_flaw, none_found}
+use Rattle.set_marks.proofs.EachTargetOnce.{no_flaw, none_found, none_is}
 use Rattle.set_marks.proofs.SameSets.{has_sets, cut_within, none_among, detail_among}
+use Rattle.set_marks.proofs.Spans.{stays_some}
 use Rattle.set_marks.proofs.Tries.{least_at}
 use Rattle.mark_editions.specs.FirstEdition.{flaw_behind, flaw_after_leading, divides}
 use Rattle.mark_editions.specs.FirstEdition.{fewest_leading, latest_of_all, doubt_behind}
@@ -44,10 +45,6 @@ use Rattle.mark_editions.proofs.Rows.{end_in, flaw_in, rows, sets_known, none_un
 use Rattle.mark_editions.proofs.Carried.{before_last, ends_at, carried}
 use Rattle.mark_editions.proofs.Leading.{place_within, place_is, kept_up_to, IsLeast, is_least}
 use Rattle.mark_editions.proofs.Counts.{read_often, one_set, only_set}
-
-none_is : {X : Type 0} (o : Option X) → is_none o ≡ true → o ≡ None
-none_is None e = refl
-none_is (Some x) e = cc
 
 -- With these readings after so many nothing is wrong by the first edition: there are some, nothing
 -- is wrong with their sets, and there are several if any lead.
@@ -435,14 +432,6 @@ same_leading rs leading first least =
     least_at (is_division Nothing rs) (most_leading rs) count
     (omega (arith, three, few, some, same, more, long, one)) (fewer_wrong rs leading first least)
     (ap (λ (o : Option Flaw). is_none o) (right_too rs leading first three))
-
-stays_some : (a b : Option Flaw) → is_none a ≡ false → is_none (later a b) ≡ false
-stays_some None b e = cc
-stays_some (Some a) None e = refl
-stays_some (Some a) (Some b) e = elim (cases_Bool (nat_lt a.block b.block)) [
-  | inl h ↦ rw h refl
-  | inr h ↦ rw h refl
-]
 
 -- What is known where the first edition marks sets.
 pub record FirstFound (rs : List Sight) (here : Span) : Type 0 where

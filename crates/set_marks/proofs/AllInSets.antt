@@ -26,6 +26,7 @@ use Rattle.set_marks.specs.Searching.{starts_from, NoneOpen}
 use Rattle.set_marks.specs.SetsInWords.{one_after_another, ReadsEachOnce}
 use Rattle.set_marks.proofs.AmongDetails.{is_known, all_kept, first_place}
 use Rattle.set_marks.proofs.BeginsAndEnds.{first_start}
+use Rattle.set_marks.proofs.EachTargetOnce.{none_is}
 use Rattle.set_marks.proofs.FewStarts.{few_are_all}
 use Rattle.set_marks.proofs.RowsOfSets.{joined}
 use Rattle.set_marks.proofs.SameSets.{all_so, some_second, whole, detail_among}
@@ -161,10 +162,6 @@ divided_whole stated (r ∷ rs) some none ends closed =
 some_last : (rs rest : List Sight) (r : Sight) → rs ≡ rest ++ r ∷ [] → 1 ≤ length rs
 some_last rs rest r is =
     let long = ap length is ∙ length-append rest (r ∷ []) in omega (arith, long)
-
-none_is : (o : Option Flaw) → is_none o ≡ true → o ≡ None
-none_is None e = refl
-none_is (Some f) e = cc
 
 -- The first places where sets begin are all, where nothing is wrong with the sets.
 pub whole_starts : (starts : List ℕ) (rs : List Sight)

@@ -1,17 +1,15 @@
 -- What is marked is what is stated.
-use Rattle.std.proofs.Common.{◌≡◌, ℕ, zero, suc, ◌+◌, ◌-◌, ◌/◌, ◌≤◌, Bool, true, false, ◌&&◌, ◌||◌}
+use Rattle.std.proofs.Common.{◌≡◌, ℕ, zero, suc, ◌+◌, ◌-◌, ◌≤◌, Bool, true, false, ◌&&◌, ◌||◌}
 use Rattle.std.proofs.Common.{not, List, [], ◌∷◌, length, take, Option, Some, None}
 use Rattle.std.proofs.Common.{refl, sym, ap, subst, ◌∙◌, arith, All}
-use Rattle.std.specs.Prelude.{◌==◌, nat_lt, nat_le, slice_get, IfSome, is_some}
-use Rattle.std.specs.Str.{bytes_eq}
+use Rattle.std.specs.Prelude.{◌==◌, IfSome, is_some}
 use Rattle.std.proofs.lemmas.Bool.{not-false, eqb-true, eq-eqb}
 use Rattle.std.proofs.lemmas.List.{length-take}
 use Rattle.std.proofs.lemmas.List.Elements.{All-nil, All-cons, All-head, All-tail}
 use Rattle.gsi_file.specs.FileAnswers.{FileAnswers}
-use Rattle.adjust_kernel.specs.declared.bounds.TheConstants.{MOST_SETS, MOST_TARGETS}
+use Rattle.adjust_kernel.specs.declared.bounds.TheConstants.{MOST_TARGETS}
 use Rattle.station_book.specs.Faults.{first_of}
 use Rattle.job_statements.specs.declared.beginnings.Beginnings.{Beginnings}
-use Rattle.set_marks.specs.declared.fault.MarkKind.TheVariants as kinds
 use Rattle.set_marks.specs.declared.division.Divided.{Divided}
 use Rattle.set_marks.specs.declared.division.Divided.TheVariants.{NoSets, Sets, Flawed}
 use Rattle.set_marks.specs.declared.recognized.Recognized.{Recognized}
@@ -22,9 +20,9 @@ use Rattle.job_statements.specs.Numbers.{Said, is_asked, is_another, number_of, 
 use Rattle.set_marks.specs.Stations.{Occupation, stations_of}
 use Rattle.set_marks.specs.WrittenAgain.{written_again_of}
 use Rattle.set_marks.specs.Divisions.{sets_of, starts_of, in_span, first_set, parts_at, targets_of}
-use Rattle.set_marks.specs.Divisions.{part, next_of, set_flaw, readings_flaw, order_flaw, sets_flaw}
-use Rattle.set_marks.specs.Divisions.{flaw_when, are_read_alike, is_by_faces, is_by_targets}
-use Rattle.set_marks.specs.Divisions.{last_target, are_by_targets, begins_with_pair, first_part}
+use Rattle.set_marks.specs.Divisions.{part, next_of}
+use Rattle.set_marks.specs.Divisions.{is_by_faces, is_by_targets}
+use Rattle.set_marks.specs.Divisions.{are_by_targets, begins_with_pair, first_part}
 use Rattle.set_marks.specs.Searching.{starts_from}
 use Rattle.set_marks.specs.SetsInWords.{ReadsEachOnce}
 use Rattle.set_marks.specs.Judging.{Before, called, judged, judged_called, judged_from, judged_of}
@@ -34,7 +32,7 @@ use Rattle.set_marks.specs.Marking.{no_sets_fault, unfound_fault}
 use Rattle.set_marks.specs.Markings.{IsMarking}
 use Rattle.set_marks.specs.Stated.{IsAsStated, AreAsStated, IsByFaces}
 use Rattle.set_marks.proofs.BeginsAndEnds.{first_start}
-use Rattle.set_marks.proofs.EachTargetOnce.{no_flaw}
+use Rattle.set_marks.proofs.EachTargetOnce.{IsOrdered, all_ordered}
 use Rattle.set_marks.proofs.Few.{none_of_two, none_of_three}
 use Rattle.set_marks.proofs.FewTargets.{all_few}
 use Rattle.set_marks.proofs.Judged.{has_no_fault}
@@ -124,31 +122,6 @@ all_as_stated stated before (n ∷ counts) (s ∷ ss) =
     one_more_as_stated stated before s n (recognized_from counts (judged_from stated after ss))
     (all_as_stated stated after counts ss)
 
--- In a set without a flaw targets are read as in the first.
-read_alike : (first set : List Sight) → set_flaw first set ≡ None
-    → are_read_alike first set ≡ true
-read_alike first set e =
-    let both = none_of_two (readings_flaw set) (order_flaw first set) e in
-    let order = none_of_three (flaw_when (nat_lt (length set) 4) kinds.OneTarget (slice_get set 0))
-    (flaw_when (not (are_read_alike first set)) kinds.Order (slice_get set (length set / 2)))
-    (flaw_when (not (bytes_eq (last_target first) (last_target set))) kinds.EndsElsewhere
-    (slice_get set (length set - 1))) both.1 in
-    not-false (are_read_alike first set)
-    (no_flaw (not (are_read_alike first set)) kinds.Order (slice_get set (length set / 2)) order.1)
-
--- So in all sets.
-all_alike : (first : List Sight) (count end : ℕ) (starts : List ℕ) (rs : List Sight)
-    → sets_flaw first count end starts rs ≡ None
-    → All (λ set. are_read_alike first set ≡ true) (parts_at end starts rs)
-all_alike first count end [] rs e = All-nil (λ (set : List Sight). are_read_alike first set ≡ true)
-all_alike first count end (from ∷ starts) rs e =
-    let set = part from (next_of end starts) rs in
-    let none = none_of_three
-    (flaw_when (nat_le MOST_SETS count) kinds.TooManySets (slice_get rs from))
-    (set_flaw first set) (sets_flaw first (suc count) end starts rs) e in
-    All-cons (λ (set : List Sight). are_read_alike first set ≡ true) set (parts_at end starts rs)
-    (read_alike first set none.1) (all_alike first (suc count) end starts rs none.2)
-
 -- Readings that begin with no pair aren't read by targets.
 no_pair : (n : ℕ) (rs : List Sight) → begins_with_pair rs ≡ false → 2 ≤ length (take n rs)
     → is_by_targets (take n rs) ≡ false
@@ -184,14 +157,13 @@ by_faces false b true d e is = cc
 by_faces false b false d e is = cc
 
 all_by_faces : (first : List Sight) (sets : List (List Sight)) → is_by_targets first ≡ false
-    → All (λ set. are_read_alike first set ≡ true) sets → All (λ set. is_by_faces set ≡ true) sets
-all_by_faces first [] is alike = All-nil (λ (set : List Sight). is_by_faces set ≡ true)
-all_by_faces first (set ∷ sets) is alike =
+    → All (IsOrdered first) sets → All (λ set. is_by_faces set ≡ true) sets
+all_by_faces first [] is all = All-nil (λ (set : List Sight). is_by_faces set ≡ true)
+all_by_faces first (set ∷ sets) is all =
     All-cons (λ (s : List Sight). is_by_faces s ≡ true) set sets
     (by_faces (is_by_faces first) (is_by_faces set) (is_by_targets first) (is_by_targets set)
-    (All-head (λ (s : List Sight). are_read_alike first s ≡ true) set sets alike) is)
-    (all_by_faces first sets is
-    (All-tail (λ (s : List Sight). are_read_alike first s ≡ true) set sets alike))
+    (All-head (IsOrdered first) set sets all).alike is)
+    (all_by_faces first sets is (All-tail (IsOrdered first) set sets all))
 
 -- A station with sets of which no number is stated is read by faces.
 station_by_faces : (stated : Said) (before : Before) (line : List ℕ) (s : Occupation)
@@ -204,7 +176,7 @@ station_by_faces stated before line s none span is =
     let taken = are_taken numbers s.sights span divides in
     all_by_faces (first_set inner) (sets_of inner)
     (first_by_faces inner (not_by_targets stated before line s span is none) are.some are.each)
-    (all_alike (first_set inner) 0 (length inner) (starts_of inner) inner taken.wrong)
+    (all_ordered (first_set inner) 0 (length inner) (starts_of inner) inner taken.wrong)
 
 -- So are all stations.
 stations_by_faces : (stated : Said) (before : Before) (ss : List Occupation)

@@ -1,12 +1,12 @@
 -- What stands before the sets of a station and after them, and how they are read, in words.
 use Rattle.std.proofs.Common.{◌≡◌, ◌⊎◌, ℕ, zero, suc, ◌/◌, ◌-◌, ◌≤◌, Bool, true, false}
 use Rattle.std.proofs.Common.{◌&&◌, ◌||◌, not, List, [], ◌∷◌, ◌++◌, length, take, drop, All}
-use Rattle.std.proofs.Common.{None, Some, Option, inl, inr, refl, sym, ap, subst, ◌∙◌, arith}
+use Rattle.std.proofs.Common.{None, inl, inr, refl, sym, ap, subst, ◌∙◌, arith}
 use Rattle.std.specs.Prelude.{◌≢◌, nat_lt, nat_le, slice_get, slice_index_or, is_none, Any}
 use Rattle.std.specs.List.{list_all, list_any}
 use Rattle.std.specs.Str.{bytes_eq}
 use Rattle.std.proofs.lemmas.Bool.{cases_Bool, false≢true, and_parts, or_cases, or_parts, not-true}
-use Rattle.std.proofs.lemmas.Bool.{leb-true, ltb-true, ltb-false, lt-leb, lt-ltb, le-leb, and_from}
+use Rattle.std.proofs.lemmas.Bool.{leb-true, ltb-true, lt-leb, lt-ltb, le-leb, and_from}
 use Rattle.std.proofs.lemmas.Bool.{or_left, or_right}
 use Rattle.std.proofs.Math.Seq.{take-length}
 use Rattle.std.proofs.lemmas.List.{take_all, take-take, take-append-le, length-take, drop-drop}
@@ -15,7 +15,6 @@ use Rattle.std.proofs.lemmas.List.Folds.{Any-from_list_any, list_any-from_Any}
 use Rattle.std.proofs.lemmas.List.Sums.{AllPass-from_list_all}
 use Rattle.std.proofs.lemmas.Slice.Eq.{bytes_eq-Decides}
 use Rattle.station_book.proofs.readings.CleanBlocks.{all_none}
-use Rattle.adjust_kernel.specs.declared.bounds.TheConstants.{MOST_SETS}
 use Rattle.set_marks.specs.declared.fault.MarkKind.TheVariants as kinds
 use Rattle.set_marks.specs.declared.division.Divided.TheVariants.{Sets}
 use Rattle.set_marks.specs.declared.sight.Sight.{Sight}
@@ -23,13 +22,13 @@ use Rattle.set_marks.specs.declared.span.Span.{Span}
 use Rattle.job_statements.specs.declared.stated.Numbers.{Numbers}
 use Rattle.set_marks.specs.Divisions.{is_of, is_same_face, is_pair, again_in, are_in_face}
 use Rattle.set_marks.specs.Divisions.{is_by_faces, is_by_targets, are_read_alike, first_target}
-use Rattle.set_marks.specs.Divisions.{last_target, readings_flaw, order_flaw, set_flaw, sets_flaw}
+use Rattle.set_marks.specs.Divisions.{last_target}
 use Rattle.set_marks.specs.Divisions.{starts_of, parts_at, next_of, part}
 use Rattle.set_marks.specs.Searching.{starts_from}
 use Rattle.set_marks.specs.Divisions.{first_part, sets_of}
 use Rattle.set_marks.specs.Divisions.{first_set, first_cut, cut_end, in_span, is_read_in_two}
 use Rattle.set_marks.specs.Divisions.{seconds_of, rest_of, place_of, known_in, begins_in_two}
-use Rattle.set_marks.specs.Divisions.{begins_with_pair, are_by_targets, flaw_when}
+use Rattle.set_marks.specs.Divisions.{begins_with_pair, are_by_targets}
 use Rattle.set_marks.specs.Outside.{are_among, are_sights_to, are_plain, sighted_before, may_lead}
 use Rattle.set_marks.specs.Outside.{in_ending}
 use Rattle.set_marks.specs.Doubts.{has_lone_second, may_be_shifted, leads_to_end, leads_within}
@@ -42,14 +41,15 @@ use Rattle.set_marks.specs.BeforeAndAfter.{ArePairs, AreByFaces, AreSightsTo, Le
 use Rattle.set_marks.specs.BeforeAndAfter.{StandsBetween}
 use Rattle.set_marks.proofs.AmongDetails.{is_known, few_known}
 use Rattle.set_marks.proofs.BeginsAndEnds.{first_start, in_two, known_two, none_pass}
-use Rattle.set_marks.proofs.EachTargetOnce.{at_most_one, no_flaw}
+use Rattle.set_marks.proofs.EachTargetOnce.{at_most_one, no_flaw, none_is, IsOrdered}
+use Rattle.set_marks.proofs.EachTargetOnce.{all_ordered}
 use Rattle.set_marks.proofs.OnlyWay.{these_lead, so_many_lead, is_taken}
 use Rattle.set_marks.proofs.Parted.{parted}
 use Rattle.set_marks.proofs.RowsOfSets.{as_many}
 use Rattle.set_marks.proofs.SameSets.{whole}
 use Rattle.set_marks.proofs.SetsInWords.{sets_in_words}
 use Rattle.set_marks.proofs.Spans.{found_in, are_right, cut_sets, doubts, are_taken, single_by}
-use Rattle.set_marks.proofs.Spans.{known_before, not_false, first_two}
+use Rattle.set_marks.proofs.Spans.{known_before, first_two}
 
 same_face : (a b : Bool) → is_same_face a b ≡ true → b ≡ a
 same_face true true e = refl
@@ -104,43 +104,6 @@ some_of name rs e =
 of_targets : (others rs : List Sight) → are_among others rs ≡ true → AreOfTargetsOf others rs
 of_targets others rs e = λ k d lt. some_of (slice_index_or rs k d).target others
     (AllPass-from_list_all (λ r. list_any (is_of r.target) others) rs e k d lt)
-
--- What is known of a set, of which this is the first, beside its readings.
-record IsOrdered (first set : List Sight) : Type 0 where
-  pub many : 4 ≤ length set
-  pub alike : are_read_alike first set ≡ true
-  pub ends : last_target set ≡ last_target first
-
-ordered : (first rs : List Sight) → set_flaw first rs ≡ None → IsOrdered first rs
-ordered first rs e =
-    let both = all_none (readings_flaw rs ∷ order_flaw first rs ∷ []) e in
-    let order = all_none (
-    flaw_when (nat_lt (length rs) 4) kinds.OneTarget (slice_get rs 0)
-    ∷ flaw_when (not (are_read_alike first rs)) kinds.Order (slice_get rs (length rs / 2))
-    ∷ flaw_when (not (bytes_eq (last_target first) (last_target rs))) kinds.EndsElsewhere
-    (slice_get rs (length rs - 1))
-    ∷ []) both.1.0 in
-    record {
-      many = ltb-false (length rs) 4
-          (no_flaw (nat_lt (length rs) 4) kinds.OneTarget (slice_get rs 0) order.0);
-      alike = not_false (are_read_alike first rs)
-          (no_flaw (not (are_read_alike first rs)) kinds.Order (slice_get rs (length rs / 2))
-          order.1.0);
-      ends = sym ((bytes_eq-Decides (last_target first) (last_target rs)).0
-          (not_false (bytes_eq (last_target first) (last_target rs))
-          (no_flaw (not (bytes_eq (last_target first) (last_target rs))) kinds.EndsElsewhere
-          (slice_get rs (length rs - 1)) order.1.1.0)));
-    }
-
-all_ordered : (first : List Sight) (count end : ℕ) (starts : List ℕ) (rs : List Sight)
-    → sets_flaw first count end starts rs ≡ None → All (IsOrdered first) (parts_at end starts rs)
-all_ordered first count end [] rs e = All-nil (IsOrdered first)
-all_ordered first count end (from ∷ starts) rs e =
-    let set = part from (next_of end starts) rs in
-    let none = all_none (flaw_when (nat_le MOST_SETS count) kinds.TooManySets (slice_get rs from)
-    ∷ set_flaw first set ∷ sets_flaw first (suc count) end starts rs ∷ []) e in
-    All-cons (IsOrdered first) set (parts_at end starts rs) (ordered first set none.1.0)
-    (all_ordered first (suc count) end starts rs none.1.1.0)
 
 -- The first of them is ordered too.
 first_ordered : (first : List Sight) (end : ℕ) (starts : List ℕ) (rs : List Sight)
@@ -212,12 +175,6 @@ no_pair set is e = elim (cases_Bool (is_by_targets set)) [
   | inr isnt ↦ in_halves set (read_by_faces set set isnt is.alike)
 ]
 
-none_is : (rs : List Sight) → is_none (again_in rs) ≡ true → again_in rs ≡ None
-none_is rs e = by (again_in rs) e where
-  by : (o : Option Sight) → is_none o ≡ true → o ≡ None
-  by None f = refl
-  by (Some r) f = cc
-
 sights_to : (set rs : List Sight) → IsOrdered set set → are_sights_to set rs ≡ true
     → AreSightsTo set rs
 sights_to set rs is e =
@@ -233,7 +190,7 @@ sights_to set rs is e =
       by_faces = no_pair set is four.1;
       many = ltb-true 4 (length set) three.1;
       pairs = in_pairs rs two.0;
-      once = λ name second. at_most_one name second [] rs (none_is rs two.1) (omega arith);
+      once = λ name second. at_most_one name second [] rs (none_is (again_in rs) two.1) (omega arith);
       own = of_targets set rs five.1;
     }
 

@@ -195,6 +195,32 @@ later n k le ne = elim (cases_lt n k) [
   | inr ge ↦ absurd (ne (omega arith))
 ]
 
+-- From a place of a file a line stands, with the byte that ends it, and then the rest.
+pub record IsNext (bytes : List ℕ) (at : ℕ) (p : List ℕ) (end : ℕ) (rest : List ℕ) : Type 0 where
+  pub split : drop at bytes ≡ (p ++ end ∷ []) ++ rest
+  pub count : length (p ++ end ∷ []) ≡ length p + 1
+  pub inside : at + length p + 1 ≤ length bytes
+  pub beyond : drop (at + length p + 1) bytes ≡ rest
+
+pub next_line : (bytes : List ℕ) (at : ℕ) (p : List ℕ) (end : ℕ) (rest : List ℕ)
+    → at ≤ length bytes → drop at bytes ≡ p ++ end ∷ rest → IsNext bytes at p end rest
+next_line bytes at p end rest le is =
+    let line = p ++ end ∷ [] in
+    let split : drop at bytes ≡ line ++ rest = is ∙ sym (append_assoc p (end ∷ []) rest) in
+    let count : length line ≡ length p + 1 = length-append p (end ∷ []) in
+    let long : length (drop at bytes) ≡ length p + suc (length rest) =
+    ap (λ (bs : List ℕ). length bs) is ∙ length-append p (end ∷ rest) in
+    record {
+      split = split;
+      count = count;
+      inside = omega (arith, long, length-drop at bytes, le);
+      beyond = ap (λ (k : ℕ). drop k bytes)
+          (let q : at + length p + 1 ≡ at + (length p + 1) = omega arith in q)
+          ∙ sym (drop-drop (length p + 1) at bytes)
+          ∙ ap (λ (bs : List ℕ). drop (length p + 1) bs) split
+          ∙ drop_at line rest (length p + 1) count;
+    }
+
 -- The lines from a place on.
 pub from_place : (bytes : List ℕ) (at number : ℕ) (ms : List BlockMark) (ps : List (List ℕ))
     → at ≤ length bytes → parts (drop at bytes) ≡ ps → AreRoomy ms
@@ -206,31 +232,21 @@ from_place bytes at number ms (p ∷ ps) le e roomy = elim (first_cut (drop at b
       (placed_from bytes at number ms (p ∷ qs))) ≡ lines_with number ms (filter is_line (p ∷ qs)))
       (sym a.beyond) (at_last bytes at number ms p a.is a.none roomy)
   | inr c ↦
-      let next = at + length p + 1 in
-      let long : length (drop at bytes) ≡ length p + suc (length c.rest) =
-      ap (λ (bs : List ℕ). length bs) c.is ∙ length-append p (c.end ∷ c.rest) in
-      let inside : next ≤ length bytes = omega (arith, long, length-drop at bytes, le) in
       let line = p ++ c.end ∷ [] in
-      let split : drop at bytes ≡ line ++ c.rest = c.is
-      ∙ sym (append_assoc p (c.end ∷ []) c.rest) in
-      let count : length line ≡ length p + 1 = length-append p (c.end ∷ []) in
-      let beyond : drop next bytes ≡ c.rest =
-      ap (λ (k : ℕ). drop k bytes) (let q : next ≡ at + (length p + 1) = omega arith in q)
-      ∙ sym (drop-drop (length p + 1) at bytes)
-      ∙ ap (λ (bs : List ℕ). drop (length p + 1) bs) split
-      ∙ drop_at line c.rest (length p + 1) count in
+      let next = at + length p + 1 in
+      let n = next_line bytes at p c.end c.rest le c.is in
       let piece : take (next - at) (drop at bytes) ≡ line =
       ap (λ (k : ℕ). take k (drop at bytes)) (let q : next - at ≡ length p + 1 = omega arith in q)
-      ∙ ap (λ (bs : List ℕ). take (length p + 1) bs) split
-      ∙ take_at line c.rest (length p + 1) count in
-      let parted = ap (λ (bs : List ℕ). parts bs) beyond ∙ c.beyond in
+      ∙ ap (λ (bs : List ℕ). take (length p + 1) bs) n.split
+      ∙ take_at line c.rest (length p + 1) n.count in
+      let parted = ap (λ (bs : List ℕ). parts bs) n.beyond ∙ c.beyond in
       let last : LastEnds line = last_beyond p (c.end ∷ [])
       (record { byte = c.end; rest = []; are = refl; last = c.ends }) in
       let one : numbered_lines line ≡ filter is_line (p ∷ [] ∷ []) =
       ap (λ (ps : List (List ℕ)). filter is_line ps)
       (slice_split_at is_line_end p c.end [] c.none c.ends) in
       with_line bytes at number ms p ps line roomy one
-      (λ n ls r. from_place bytes next n ls ps inside parted r)
+      (λ number ls r. from_place bytes next number ls ps n.inside parted r)
       (λ later far. woven_on at next bytes later (omega arith) far
       ∙ ap (λ (bs : List ℕ). bs ++ woven next bytes later) piece)
       (λ more. numbered_append line more last)

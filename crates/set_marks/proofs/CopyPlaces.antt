@@ -1,11 +1,11 @@
 -- The code lines of a file stand where lines with a byte begin, in order.
 use Rattle.std.proofs.Common.{◌≡◌, ℕ, suc, ◌+◌, ◌-◌, ◌<◌, ◌≤◌, true, false, List, [], ◌∷◌, ◌++◌}
 use Rattle.std.proofs.Common.{length, map, drop, get_or, refl, sym, ap, subst, ◌∙◌, inl, inr, arith}
-use Rattle.std.proofs.Common.{append_assoc, All}
+use Rattle.std.proofs.Common.{All}
 use Rattle.std.specs.Prelude.{slice_index}
 use Rattle.std.specs.List.{AllByRecursion}
 use Rattle.std.proofs.lemmas.Bool.{cases_Bool}
-use Rattle.std.proofs.lemmas.List.{append-nil, drop-drop, drop_at, length-append, length-drop}
+use Rattle.std.proofs.lemmas.List.{append-nil, length-drop}
 use Rattle.std.proofs.lemmas.List.{get_or-drop}
 use Rattle.std.proofs.lemmas.List.Elements.{All-head, All-from_recursion, recursion_from_All}
 use Rattle.gsi_file.specs.Parts.{parts, is_line, is_line_end, HasNoEnd}
@@ -15,7 +15,7 @@ use Rattle.set_marks.specs.Placing.{marks_of_block, marks_after, placed_at, plac
 use Rattle.set_marks.specs.Marks.{IsRoomy}
 use Rattle.set_marks.specs.Copies.{AreOrdered, BeginsAt, BeginsLine}
 use Rattle.set_marks.specs.Unmarked.{BeginsSomeLine}
-use Rattle.set_marks.proofs.CopyLines.{AreRoomy, roomy_first, roomy_after}
+use Rattle.set_marks.proofs.CopyLines.{AreRoomy, roomy_first, roomy_after, next_line}
 use Rattle.gsi_file.proofs.NumberedLines.{some_part, first_cut}
 
 -- The code lines stand in order, from a place on, each where a line with a byte begins.
@@ -93,30 +93,19 @@ well_from bytes at number ms (p ∷ ps) le e begins roomy = elim (first_cut (dro
       (λ n ls r. record { ordered = le; each = tt }))
   | inr c ↦
       let next = at + length p + 1 in
-      let long : length (drop at bytes) ≡ length p + suc (length c.rest) =
-      ap (λ (bs : List ℕ). length bs) c.is ∙ length-append p (c.end ∷ c.rest) in
-      let inside : next ≤ length bytes = omega (arith, long, length-drop at bytes, le) in
-      let line = p ++ c.end ∷ [] in
-      let split : drop at bytes ≡ line ++ c.rest = c.is
-      ∙ sym (append_assoc p (c.end ∷ []) c.rest) in
-      let count : length line ≡ length p + 1 = length-append p (c.end ∷ []) in
-      let beyond : drop next bytes ≡ c.rest =
-      ap (λ (k : ℕ). drop k bytes) (let q : next ≡ at + (length p + 1) = omega arith in q)
-      ∙ sym (drop-drop (length p + 1) at bytes)
-      ∙ ap (λ (bs : List ℕ). drop (length p + 1) bs) split
-      ∙ drop_at line c.rest (length p + 1) count in
+      let n = next_line bytes at p c.end c.rest le c.is in
       let before : slice_index bytes (next - 1) ≡ c.end =
       ap (λ (k : ℕ). get_or bytes k 0) (let q : next - 1 ≡ at + length p = omega arith in q)
       ∙ sym (get_or-drop at bytes (length p) 0)
       ∙ ap (λ (bs : List ℕ). get_or bs (length p) 0) c.is ∙ at_seam p c.end c.rest in
-      let parted = ap (λ (bs : List ℕ). parts bs) beyond ∙ c.beyond in
+      let parted = ap (λ (bs : List ℕ). parts bs) n.beyond ∙ c.beyond in
       let positive : 0 < next = omega arith in
       let again : BeginsAt bytes next =
       inr (positive, ap (λ (k : ℕ). is_line_end k) before ∙ c.ends) in
       well_line bytes at number ms p ps roomy begins
       (has_first bytes at p (c.end ∷ c.rest) c.is c.none)
-      (λ n ls r. well_earlier bytes at next (placed_from bytes next n ls ps) (omega arith)
-      (well_from bytes next n ls ps inside parted again r))
+      (λ number ls r. well_earlier bytes at next (placed_from bytes next number ls ps)
+      (omega arith) (well_from bytes next number ls ps n.inside parted again r))
 ]
 
 -- The code lines of a file stand where lines with a byte begin, in order.

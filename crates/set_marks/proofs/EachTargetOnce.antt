@@ -2,25 +2,27 @@
 use Rattle.std.proofs.Common.{◌≡◌, ℕ, suc, ◌-◌, ◌/◌, ◌<◌, ◌≤◌, Bool, true, false, ◌&&◌, not, List}
 use Rattle.std.proofs.Common.{[], ◌∷◌, ◌++◌, length, filter, take, refl, sym, ap, subst, ◌∙◌, inl}
 use Rattle.std.proofs.Common.{inr, ◌⊎◌, arith, Option, Some, None, append_assoc}
-use Rattle.std.specs.Prelude.{Contains, nat_lt, slice_get}
+use Rattle.std.specs.Prelude.{All, Contains, nat_le, nat_lt, slice_get, is_none}
 use Rattle.std.specs.List.{list_all, list_any}
 use Rattle.std.specs.Str.{bytes_eq}
 use Rattle.std.proofs.Math.Seq.{take-append_seam}
 use Rattle.std.proofs.lemmas.Bool.{cases_Bool, and_parts, and_from, or_cases, or_parts, or_left}
-use Rattle.std.proofs.lemmas.Bool.{or_right, not-true, ltb-false}
+use Rattle.std.proofs.lemmas.Bool.{or_right, not-true, not-false, ltb-false}
 use Rattle.std.proofs.lemmas.List.{append-nil, length-append, take_all}
 use Rattle.std.proofs.lemmas.List.Folds.{list_any_at}
 use Rattle.std.proofs.lemmas.List.Sums.{AllPass-from_list_all}
-use Rattle.std.proofs.lemmas.List.Elements.{filter-append, All-contains}
+use Rattle.std.proofs.lemmas.List.Elements.{filter-append, All-contains, All-nil, All-cons}
 use Rattle.std.proofs.lemmas.Slice.Eq.{bytes_eq-Decides}
 use Rattle.station_book.proofs.readings.CleanBlocks.{all_none}
+use Rattle.adjust_kernel.specs.declared.bounds.TheConstants.{MOST_SETS}
 use Rattle.set_marks.specs.declared.bounds.TheConstants.{MOST_READINGS}
 use Rattle.set_marks.specs.declared.fault.MarkKind.{MarkKind}
 use Rattle.set_marks.specs.declared.fault.MarkKind.TheVariants as kinds
 use Rattle.set_marks.specs.declared.sight.Sight.{Sight}
 use Rattle.set_marks.specs.Divisions.{is_of, is_same_face, is_again, is_pair, again_from, again_in}
 use Rattle.set_marks.specs.Divisions.{alone_among, alone_in, flaw_when, flaw_found, are_read_alike}
-use Rattle.set_marks.specs.Divisions.{last_target, readings_flaw, order_flaw, set_flaw}
+use Rattle.set_marks.specs.Divisions.{last_target, readings_flaw, order_flaw, set_flaw, sets_flaw}
+use Rattle.set_marks.specs.Divisions.{parts_at, next_of, part}
 use Rattle.set_marks.specs.SetsInWords.{readings_in, ReadsEachOnce}
 
 abbrev reads : List ℕ → Bool → Sight → Bool
@@ -158,6 +160,10 @@ each_once rs once both s second inside =
           (All-contains (λ (r : Sight). list_any (is_pair r) rs ≡ true) rs s
           (AllPass-from_list_all (λ r. list_any (is_pair r) rs) rs (all_paired rs rs both)) inside)
 
+pub none_is : {X : Type 0} (o : Option X) → is_none o ≡ true → o ≡ None
+none_is None e = refl
+none_is (Some x) e = cc
+
 -- Where a flaw comes of a test and none is there, the test fails.
 pub no_flaw : (t : Bool) (kind : MarkKind) (r : Option Sight) → flaw_when t kind r ≡ None
     → t ≡ false
@@ -169,21 +175,19 @@ pub none_found : (kind : MarkKind) (r : Option Sight) → flaw_found kind r ≡ 
 none_found kind None e = refl
 none_found kind (Some r) e = cc
 
--- In a set without a flaw each target is read once in each face.
-pub set_once : (first rs : List Sight) → set_flaw first rs ≡ None → ReadsEachOnce rs
-set_once first rs e =
-    let both = all_none (readings_flaw rs ∷ order_flaw first rs ∷ []) e in
+-- What is known of readings of which nothing is wrong by themselves.
+pub record AreClean (rs : List Sight) : Type 0 where
+  pub once : again_in rs ≡ None
+  pub few : length rs ≤ MOST_READINGS
+  pub paired : alone_in rs ≡ None
+
+pub clean_readings : (rs : List Sight) → readings_flaw rs ≡ None → AreClean rs
+clean_readings rs e =
     let own = all_none (
     flaw_found kinds.ReadTwice (again_in (take (suc MOST_READINGS) rs))
     ∷ flaw_when (nat_lt MOST_READINGS (length rs)) kinds.TooManyTargets (slice_get rs MOST_READINGS)
     ∷ flaw_found kinds.FaceMissing (alone_in rs)
-    ∷ []) both.0 in
-    let order = all_none (
-    flaw_when (nat_lt (length rs) 4) kinds.OneTarget (slice_get rs 0)
-    ∷ flaw_when (not (are_read_alike first rs)) kinds.Order (slice_get rs (length rs / 2))
-    ∷ flaw_when (not (bytes_eq (last_target first) (last_target rs))) kinds.EndsElsewhere
-    (slice_get rs (length rs - 1))
-    ∷ []) both.1.0 in
+    ∷ []) e in
     let again = none_found kinds.ReadTwice (again_in (take (suc MOST_READINGS) rs)) own.0 in
     let few = ltb-false MOST_READINGS (length rs)
     (no_flaw (nat_lt MOST_READINGS (length rs)) kinds.TooManyTargets (slice_get rs MOST_READINGS)
@@ -191,8 +195,51 @@ set_once first rs e =
     let whole : take (suc MOST_READINGS) rs
     ≡ rs = take_all (suc MOST_READINGS) rs (omega (arith, few)) in
     record {
+      once = ap (λ (xs : List Sight). again_in xs) (sym whole) ∙ again;
+      few = few;
+      paired = none_found kinds.FaceMissing (alone_in rs) own.1.1.0;
+    }
+
+-- What is known of a set, of which this is the first, beside its readings.
+pub record IsOrdered (first set : List Sight) : Type 0 where
+  pub many : 4 ≤ length set
+  pub alike : are_read_alike first set ≡ true
+  pub ends : last_target set ≡ last_target first
+
+ordered : (first rs : List Sight) → set_flaw first rs ≡ None → IsOrdered first rs
+ordered first rs e =
+    let both = all_none (readings_flaw rs ∷ order_flaw first rs ∷ []) e in
+    let order = all_none (
+    flaw_when (nat_lt (length rs) 4) kinds.OneTarget (slice_get rs 0)
+    ∷ flaw_when (not (are_read_alike first rs)) kinds.Order (slice_get rs (length rs / 2))
+    ∷ flaw_when (not (bytes_eq (last_target first) (last_target rs))) kinds.EndsElsewhere
+    (slice_get rs (length rs - 1))
+    ∷ []) both.1.0 in
+    record {
       many = ltb-false (length rs) 4
           (no_flaw (nat_lt (length rs) 4) kinds.OneTarget (slice_get rs 0) order.0);
-      once = each_once rs (ap (λ (xs : List Sight). again_in xs) (sym whole) ∙ again)
-          (none_found kinds.FaceMissing (alone_in rs) own.1.1.0);
+      alike = not-false (are_read_alike first rs)
+          (no_flaw (not (are_read_alike first rs)) kinds.Order (slice_get rs (length rs / 2))
+          order.1.0);
+      ends = sym ((bytes_eq-Decides (last_target first) (last_target rs)).0
+          (not-false (bytes_eq (last_target first) (last_target rs))
+          (no_flaw (not (bytes_eq (last_target first) (last_target rs))) kinds.EndsElsewhere
+          (slice_get rs (length rs - 1)) order.1.1.0)));
     }
+
+pub all_ordered : (first : List Sight) (count end : ℕ) (starts : List ℕ) (rs : List Sight)
+    → sets_flaw first count end starts rs ≡ None → All (IsOrdered first) (parts_at end starts rs)
+all_ordered first count end [] rs e = All-nil (IsOrdered first)
+all_ordered first count end (from ∷ starts) rs e =
+    let set = part from (next_of end starts) rs in
+    let none = all_none (flaw_when (nat_le MOST_SETS count) kinds.TooManySets (slice_get rs from)
+    ∷ set_flaw first set ∷ sets_flaw first (suc count) end starts rs ∷ []) e in
+    All-cons (IsOrdered first) set (parts_at end starts rs) (ordered first set none.1.0)
+    (all_ordered first (suc count) end starts rs none.1.1.0)
+
+-- In a set without a flaw each target is read once in each face.
+pub set_once : (first rs : List Sight) → set_flaw first rs ≡ None → ReadsEachOnce rs
+set_once first rs e =
+    let both = all_none (readings_flaw rs ∷ order_flaw first rs ∷ []) e in
+    let own = clean_readings rs both.0 in
+    record { many = (ordered first rs e).many; once = each_once rs own.once own.paired }

@@ -2,7 +2,7 @@
 use Rattle.std.proofs.Common.{◌≡◌, ℕ, suc, ◌+◌, ◌-◌, ◌/◌, ◌<◌, ◌≤◌, Bool, true, false, List, []}
 use Rattle.std.proofs.Common.{◌∷◌, length, Option, Some, None, refl, sym, ap, ◌∙◌, arith, inl}
 use Rattle.std.proofs.Common.{inr}
-use Rattle.std.specs.Prelude.{slice_get, is_none, nat_le, nat_lt, not}
+use Rattle.std.specs.Prelude.{◌==◌, slice_get, nat_le, nat_lt, not}
 use Rattle.std.specs.Str.{bytes_eq}
 use Rattle.std.proofs.lemmas.Bool.{cases_lt, le-leb, lt-leb}
 use Rattle.adjust_kernel.specs.Names.{IsName}
@@ -16,7 +16,7 @@ use Rattle.set_marks.specs.declared.span.Span.{Span}
 use Rattle.set_marks.specs.Divisions.{order_flaw, are_read_alike, last_target, set_flaw, part}
 use Rattle.set_marks.specs.Divisions.{next_of, sets_flaw, starts_of, in_span, first_set}
 use Rattle.set_marks.specs.Ways.{divided}
-use Rattle.set_marks.specs.Divisions.{flaw_at, flaw_when}
+use Rattle.set_marks.specs.Divisions.{flaw_at, flaw_when, first_cut, cut_end}
 use Rattle.job_statements.specs.declared.stated.Numbers.{Numbers}
 use Rattle.set_marks.proofs.Spans.{are_taken}
 
@@ -57,10 +57,6 @@ few first count end (from ∷ starts) rs le e =
     few first (suc count) end starts rs below each.2 in
     omega (arith, more)
 
-pub no_flaw : (o : Option Flaw) → is_none o ≡ true → o ≡ None
-no_flaw None e = refl
-no_flaw (Some f) e = cc
-
 -- A station's readings that are sets are at most 40.
 pub few_sets : (stated : Numbers) (rs : List Sight) (span : Span) → divided stated rs ≡ Sets span
     → length (starts_of (in_span span rs)) ≤ MOST_SETS
@@ -78,6 +74,16 @@ is_not_empty (b ∷ name) is = (refl, refl)
 only_one : {X : Type 0} (a : Option X) → first_of (a ∷ []) ≡ a
 only_one None = refl
 only_one (Some x) = refl
+
+-- What is wrong with the first set is found first.
+pub own_flaw : (starts : List ℕ) (rs : List Sight) (f : Flaw)
+    → (length starts == 0) ≡ false → Some f ≡ set_flaw (first_cut starts rs) (first_cut starts rs)
+    → Some f ≡ sets_flaw (first_cut starts rs) 0 (cut_end starts rs) starts rs
+own_flaw [] rs f some e = cc
+own_flaw (from ∷ starts) rs f some e =
+    let first = first_cut (from ∷ starts) rs in
+    ap (λ (o : Option Flaw). first_of (o
+    ∷ sets_flaw first 1 (cut_end (from ∷ starts) rs) starts rs ∷ [])) e
 
 -- After a set without flaw.
 pub next_flaw : (first : List Sight) (count end from : ℕ) (starts : List ℕ) (rs : List Sight)

@@ -1,6 +1,6 @@
 -- Where the range of a target stands among ranges, each of another target.
 use Rattle.std.proofs.Common.{◌≡◌, ℕ, zero, suc, true, false, ◌||◌, List, [], ◌∷◌, ◌++◌}
-use Rattle.std.proofs.Common.{refl, sym, ap, ◌∙◌, inl, inr, arith, ◌+◌}
+use Rattle.std.proofs.Common.{refl, sym, ap, subst, ◌∙◌, inl, inr, arith, ◌+◌}
 use Rattle.std.specs.Prelude.{slice_get, slice_set, Some, None, if◌then◌else◌, length}
 use Rattle.std.specs.List.{position_or_len}
 use Rattle.std.specs.Str.{bytes_eq}
@@ -97,6 +97,19 @@ stay_unique (z ∷ zs) r unique = elim (cases_Bool (bytes_eq z.target r.target))
     stay_unique zs r unique.1,
   )
 ]
+
+-- With the next reading.
+pub with_next : (zs added whole : List ZenithRange) (r : Sight) (left rs : List Sight)
+    → left ≡ r ∷ rs → added ≡ with_reading zs r → ranges_with zs left ≡ whole
+    → ranges_with added rs ≡ whole
+with_next zs added whole r left rs split is e =
+    ap (λ (l : List ZenithRange). ranges_with l rs) is
+    ∙ ap (λ (l : List Sight). ranges_with zs l) (sym split) ∙ e
+
+pub next_unique : (zs added : List ZenithRange) (r : Sight) → added ≡ with_reading zs r
+    → IsUnique zs → IsUnique added
+next_unique zs added r is unique =
+    subst (λ (l : List ZenithRange). IsUnique l) (sym is) (stay_unique zs r unique)
 
 -- The place of a name among others is that of the first with its bytes.
 by_bytes : (names : List (List ℕ)) (name : List ℕ)

@@ -19,7 +19,7 @@ use Rattle.set_marks.specs.Divisions.{is_by_faces, is_by_targets, are_read_alike
 use Rattle.set_marks.specs.Divisions.{readings_flaw, order_flaw, set_flaw, known_in}
 use Rattle.set_marks.specs.Divisions.{is_mostly_known}
 use Rattle.set_marks.specs.Searching.{repeats}
-use Rattle.set_marks.proofs.Few.{none_of_two, none_of_three, no_flaw}
+use Rattle.set_marks.proofs.Few.{none_of_two, none_of_three}
 
 -- Both are of one target, in one face.
 pub record IsLike (a b : Sight) : Type 0 where
@@ -235,11 +235,10 @@ order_clean first xs ys l e =
 
 -- Where the first set has no flaw by itself, a set that repeats it has none.
 pub repeated_clean : (first set : List Sight) → repeats first set ≡ true
-    → is_none (set_flaw first first) ≡ true → set_flaw first set ≡ None
+    → set_flaw first first ≡ None → set_flaw first set ≡ None
 repeated_clean first set e clean =
     let l = all_like first set e in
-    let each = none_of_two (readings_flaw first) (order_flaw first first)
-    (no_flaw (set_flaw first first) clean) in
+    let each = none_of_two (readings_flaw first) (order_flaw first first) clean in
     two_none (readings_flaw set) (order_flaw first set) (readings_clean first set l each.0)
     (order_clean first first set l each.1)
 

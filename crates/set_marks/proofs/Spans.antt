@@ -5,7 +5,8 @@ use Rattle.std.proofs.Common.{refl, sym, ap, subst, ◌∙◌, inl, inr, arith, 
 use Rattle.std.specs.Prelude.{◌==◌, nat_lt, nat_le, slice_get, slice_index_or, is_some, Any}
 use Rattle.std.specs.List.{list_any}
 use Rattle.std.proofs.Math.Seq.{take-append_seam, take-append-add}
-use Rattle.std.proofs.lemmas.Bool.{cases_Bool, false≢true, leb-false, or_left, not-true, le-ltb}
+use Rattle.std.proofs.lemmas.Bool.{cases_Bool, false≢true, leb-false, or_left, not-true, not-false}
+use Rattle.std.proofs.lemmas.Bool.{le-ltb}
 use Rattle.std.proofs.lemmas.List.{length-drop, length-append, drop-drop, drop_all, drop_at}
 use Rattle.std.proofs.lemmas.List.{take-take, length-take, take-append-le, take-append-drop}
 use Rattle.std.proofs.lemmas.List.Elements.{All-nil, All-cons, All-head, All-tail, All-take}
@@ -38,7 +39,7 @@ use Rattle.set_marks.specs.Ways.{doubt_by, span_by, divided_by, divided}
 use Rattle.job_statements.specs.Numbers.{is_asked, is_another}
 use Rattle.set_marks.specs.BeginsAndEnds.{are_checks, was_read, without_details, AreEven}
 use Rattle.set_marks.specs.BeginsAndEnds.{EndsLastSet}
-use Rattle.set_marks.proofs.EachTargetOnce.{none_found, no_flaw}
+use Rattle.set_marks.proofs.EachTargetOnce.{none_found, no_flaw, none_is}
 use Rattle.set_marks.proofs.AmongDetails.{is_known, first_place, known_after, none_kept}
 use Rattle.set_marks.proofs.AmongDetails.{strange_too, all_kept, next_known, none_unknown}
 use Rattle.set_marks.proofs.BeginsAndEnds.{last_known, opening_read, several_above}
@@ -63,11 +64,7 @@ pub record AreTaken (stated : Numbers) (span : Span) (rs inner : List Sight) : T
   pub single : is_asked (are_by_targets inner && (length (starts_of inner) == 1)) stated.targets
       ≡ false
 
-none_is : {X : Type 0} (o : Option X) → is_none o ≡ true → o ≡ None
-none_is None e = refl
-none_is (Some x) e = cc
-
-stays_some : (a b : Option Flaw) → is_none a ≡ false → is_none (later a b) ≡ false
+pub stays_some : (a b : Option Flaw) → is_none a ≡ false → is_none (later a b) ≡ false
 stays_some None b e = cc
 stays_some (Some a) None e = refl
 stays_some (Some a) (Some b) e = elim (cases_Bool (nat_lt a.block b.block)) [
@@ -179,10 +176,6 @@ pub record AreRight (rs : List Sight) (way : Way) : Type 0 where
   pub follows : may_follow way.ending (first_cut (starts_of (sets_by rs way)) (sets_by rs way))
       (is_some (detail_between rs (place_of (seconds_of rs) way.leading rs)
       (place_of (seconds_of rs) way.leading rs + suc (length (sets_by rs way))))) ≡ true
-
-pub not_false : (b : Bool) → not b ≡ false → b ≡ true
-not_false true e = refl
-not_false false e = cc
 
 both_then : (a b : Bool) → not (a && b) ≡ false → (a ≡ true) × (b ≡ true)
 both_then true true e = (refl, refl)
@@ -315,7 +308,7 @@ cut_sets rs way e =
           ∙ checks_first sets (take end sets) ending
           (first_one end sets (omega (arith, many))) read
           (checks way.ending sets after right.ended right.ends);
-      precede = not_false (may_precede (starts_of sets) sets (take way.leading (rest_of rs)) at)
+      precede = not-false (may_precede (starts_of sets) sets (take way.leading (rest_of rs)) at)
           (no_flaw (not (may_precede (starts_of sets) sets (take way.leading (rest_of rs)) at))
           kinds.OneSet (slice_get sets 0) none.1.1.0);
       has = has;
@@ -441,7 +434,7 @@ apart_after rs way e parts some two =
           let front = parts.front in
           let known_front : All (λ r. is_known twos r ≡ true) front = λ k d lt.
           in_two (slice_index_or front k d).target rs
-          ∙ not_false (is_read_in_two rs (slice_index_or front k d).target)
+          ∙ not-false (is_read_in_two rs (slice_index_or front k d).target)
           (none_pass (λ r. not (is_read_in_two rs r.target)) front h k d lt) in
           let before = take end (drop at rs) ++ front in
           let kept = all_kept twos front known_front in
@@ -545,7 +538,7 @@ last_of_known others (r ∷ s ∷ rs) all some = last_of_known others (s ∷ rs)
     (All-tail (λ (s : Sight). is_known others s ≡ true) r (s ∷ rs) all) (omega arith)
 
 -- Where the last of several sets ends, by the readings that stand before it.
-several_by : (rs : List Sight) (starts : List ℕ) → 2 ≤ length starts
+pub several_by : (rs : List Sight) (starts : List ℕ) → 2 ≤ length starts
     → cut_end starts rs ≡ end_of (take (last_place starts) rs) rs
 several_by rs [] many = absurd (omega (arith, many))
 several_by rs (from ∷ []) many = absurd (omega (arith, many))

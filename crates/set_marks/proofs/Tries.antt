@@ -18,10 +18,12 @@ use Rattle.set_marks.specs.Divisions.{flaw_at, flaw_when, seconds_of, rest_of, p
 use Rattle.set_marks.specs.Divisions.{is_by_targets, are_in_face, first_cut, cut_end}
 use Rattle.set_marks.specs.Divisions.{sets_flaw, flaw_found, begins_with_pair}
 use Rattle.set_marks.specs.Outside.{is_ended, may_end, before_ending, in_ending, last_of}
-use Rattle.set_marks.specs.Searching.{ends_in_one, seems_ended, may_be_plain, may_divide, IsClosed}
+use Rattle.set_marks.specs.Searching.{ends_in_one, seems_ended, may_be_plain, may_open}
+use Rattle.set_marks.specs.Searching.{may_divide, IsClosed}
 use Rattle.set_marks.specs.Ways.{flaw_after, is_division, leading_of, most_leading}
 use Rattle.set_marks.specs.Ways.{cut_flaw, is_no_end, detail_between}
 use Rattle.set_marks.proofs.Endings.{last_stays, no_checks}
+use Rattle.set_marks.proofs.Opening.{not_opened}
 
 -- The least number that passes, where none before it does.
 pub least_at : (p : ℕ → Bool) (last n : ℕ) → n ≤ last → ((k : ℕ) → k < n → p k ≡ false)
@@ -139,6 +141,18 @@ not_led ending all leading place rs e = elim (cases_Bool (is_ended ending rs)) [
       e))
 ]
 
+not_open : (ending : Ending) (all leading : List Sight) (place : ℕ) (rs : List Sight)
+    → 0 < length rs → may_open rs ≡ false
+    → is_none (flaw_after ending all leading place rs) ≡ false
+not_open ending all leading place rs some e = elim (cases_Bool (is_ended ending rs)) [
+  | inr h ↦ not_ended ending all leading place rs h
+  | inl h ↦ rw h (some_first
+      (cut_flaw all leading place (starts_of (before_ending ending rs)) (before_ending ending rs))
+      (flaw_when (is_no_end all place ending (before_ending ending rs) (in_ending ending rs))
+      kinds.OneTarget (slice_get (in_ending ending rs) 0))
+      (not_opened ending all leading place rs some h e))
+]
+
 not_alike : (ending : Ending) (all leading : List Sight) (place : ℕ) (rs : List Sight)
     → may_end ending (before_ending ending rs) (in_ending ending rs) ≡ false
     → is_none (flaw_after ending all leading place rs) ≡ false
@@ -151,21 +165,31 @@ not_alike ending all leading place rs k = elim (cases_Bool (is_ended ending rs))
 
 -- Where there may be no sets, there are none.
 closed_after : (ending : Ending) (all leading : List Sight) (place : ℕ) (rs : List Sight)
-    → may_divide ending leading rs ≡ false → is_none (flaw_after ending all leading place rs) ≡ false
-closed_after Nothing all leading place rs e = not_led Nothing all leading place rs e
-closed_after CheckSights all leading place rs e = elim (cases_Bool (ends_in_one rs)) [
+    → 0 < length rs → may_divide ending leading rs ≡ false
+    → is_none (flaw_after ending all leading place rs) ≡ false
+closed_after Nothing all leading place rs some e = elim (cases_Bool (may_be_plain leading)) [
+  | inr k ↦ not_led Nothing all leading place rs k
+  | inl k ↦ not_open Nothing all leading place rs some (rw k at e)
+]
+closed_after CheckSights all leading place rs some e = elim (cases_Bool (ends_in_one rs)) [
   | inr h ↦ not_ended CheckSights all leading place rs (sym (no_checks rs h))
   | inl h ↦ elim (cases_Bool (may_be_plain leading)) [
     | inr k ↦ not_led CheckSights all leading place rs k
-    | inl k ↦ not_ended CheckSights all leading place rs (rw (h, k) at e)
+    | inl k ↦ elim (cases_Bool (may_open rs)) [
+      | inr o ↦ not_open CheckSights all leading place rs some o
+      | inl o ↦ not_ended CheckSights all leading place rs (rw (h, k, o) at e)
+    ]
   ]
 ]
-closed_after CheckPair all leading place rs e = elim (cases_Bool (is_ended CheckPair rs)) [
+closed_after CheckPair all leading place rs some e = elim (cases_Bool (is_ended CheckPair rs)) [
   | inr h ↦ not_ended CheckPair all leading place rs h
   | inl h ↦ elim (cases_Bool (may_end CheckPair (before_ending CheckPair rs)
       (in_ending CheckPair rs))) [
         | inr k ↦ not_alike CheckPair all leading place rs k
-        | inl k ↦ not_led CheckPair all leading place rs (rw (h, k) at e)
+        | inl k ↦ elim (cases_Bool (may_be_plain leading)) [
+          | inr p ↦ not_led CheckPair all leading place rs p
+          | inl p ↦ not_open CheckPair all leading place rs some (rw (h, k, p) at e)
+        ]
       ]
 ]
 
@@ -187,8 +211,11 @@ divides_after ending rs rest n is lt =
 pub closed_at : (ending : Ending) (rs rest : List Sight) (n : ℕ) → rest ≡ rest_of rs
     → n < length rest → may_divide ending (take n rest) (drop n rest) ≡ false
     → false ≡ is_division ending rs n
-closed_at ending rs rest n is lt closed = sym (divides_after ending rs rest n is lt
-    ∙ closed_after ending rs (take n rest) (place_of (seconds_of rs) n rs) (drop n rest) closed)
+closed_at ending rs rest n is lt closed =
+    let long = length-drop n rest in
+    sym (divides_after ending rs rest n is lt
+    ∙ closed_after ending rs (take n rest) (place_of (seconds_of rs) n rs) (drop n rest)
+    (omega (arith, long, lt)) closed)
 
 pub open_at : (ending : Ending) (rs rest : List Sight) (n : ℕ) (o : Option Flaw) → rest ≡ rest_of rs
     → n < length rest

@@ -8,7 +8,7 @@
 -- target, and most targets of each are targets of the first set.
 use Rattle.std.specs.Prelude.{ℕ, zero, suc, ◌+◌, ◌-◌, ◌*◌, ◌/◌, Bool, true, false, ◌&&◌, ◌||◌, not}
 use Rattle.std.specs.Prelude.{nat_lt, nat_le, List, [], ◌∷◌, length, filter, take, drop}
-use Rattle.std.specs.Prelude.{if◌then◌else◌, Option, Some, None, is_none, slice_get}
+use Rattle.std.specs.Prelude.{if◌then◌else◌, Option, Some, None, slice_get}
 use Rattle.std.specs.List.{list_all, list_any}
 use Rattle.std.specs.Str.{bytes_eq}
 use Rattle.station_book.specs.Faults.{first_of}
@@ -129,10 +129,6 @@ order_flaw first rs = first_of (
 -- What is wrong with these readings as a set, where `first` is the station's first set.
 abbrev pub set_flaw : List Sight → List Sight → Option Flaw
 set_flaw first rs = first_of (readings_flaw rs ∷ order_flaw first rs ∷ [])
-
--- These readings are a set, where `first` is the station's first set.
-abbrev pub is_set : List Sight → List Sight → Bool
-is_set first rs = is_none (set_flaw first rs)
 
 -- how many of these readings are of this target
 abbrev pub count_of : List ℕ → List Sight → ℕ

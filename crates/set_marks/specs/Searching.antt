@@ -12,7 +12,7 @@ use Rattle.set_marks.specs.declared.outside.Ending.{Ending}
 use Rattle.set_marks.specs.declared.outside.Ending.TheVariants.{Nothing, CheckSights, CheckPair}
 use Rattle.set_marks.specs.declared.sight.Sight.{Sight}
 use Rattle.set_marks.specs.declared.ways.Found.{Found}
-use Rattle.set_marks.specs.Divisions.{is_of, is_again, are_in_face, is_by_targets}
+use Rattle.set_marks.specs.Divisions.{is_of, is_again, is_pair, are_in_face, is_by_targets}
 use Rattle.set_marks.specs.Divisions.{begins_with_pair}
 use Rattle.set_marks.specs.Outside.{is_ended, may_end, before_ending, in_ending, last_of}
 use Rattle.set_marks.specs.Ways.{leading_of}
@@ -68,15 +68,31 @@ abbrev pub may_be_plain : List Sight → Bool
 may_be_plain leading =
     nat_le (length leading) 3 || are_in_face false leading || is_by_targets leading
 
+-- the next of these readings of the same target as this one is in the other face
+abbrev pub turns_next : Sight → List Sight → Bool
+turns_next r [] = false
+turns_next r (s ∷ rs) = if is_of r.target s then is_pair r s else turns_next r rs
+
+-- the target of the first reading is read next in the other face
+abbrev pub opens : List Sight → Bool
+opens [] = false
+opens (r ∷ rs) = turns_next r rs
+
+-- A set may open with the first of these readings: its target is read next in the other face, among
+-- no more readings than a set may have. Else the set would read it twice in one face, or never in
+-- the other.
+abbrev pub may_open : List Sight → Bool
+may_open rs = opens (take MOST_READINGS rs)
+
 -- There may be sets after these leading readings, with this ending of those after them. What is
 -- seen in the fewest steps is asked first.
 abbrev pub may_divide : Ending → List Sight → List Sight → Bool
-may_divide Nothing leading rs = may_be_plain leading
+may_divide Nothing leading rs = may_be_plain leading && may_open rs
 may_divide CheckSights leading rs =
-    ends_in_one rs && may_be_plain leading && is_ended CheckSights rs
+    ends_in_one rs && may_be_plain leading && may_open rs && is_ended CheckSights rs
 may_divide CheckPair leading rs =
     is_ended CheckPair rs && may_end CheckPair (before_ending CheckPair rs) (in_ending CheckPair rs)
-    && may_be_plain leading
+    && may_be_plain leading && may_open rs
 
 -- There may be none with this ending, whatever number of these readings leads.
 abbrev pub IsClosed : Ending → List Sight → Type 0

@@ -26,8 +26,8 @@ use crate::flaw::{Flaw, flaw_at, flaw_found};
 use crate::known::{Known, count_targets};
 use crate::outside::Ending;
 use crate::set::{
-    begins_with_pair, first_target, front, has_pair, has_second, is_by_targets, is_clean, is_of,
-    last_target, later_flaw, reads_target, repeats, sight_at,
+    begins_with_pair, first_target, front, has_pair, has_second, is_by_targets, is_of, last_target,
+    later_flaw, reads_target, repeats, set_flaw, sight_at,
 };
 use crate::sight::Sight;
 use crate::span::Span;
@@ -172,8 +172,13 @@ pub(crate) fn sets_flaw(
     ensures { IfOk result (λ o. o ≡ sets_flaw (first_cut starts.now sights.now) 0
         (cut_end starts.now sights.now) starts.now sights.now) }
 {
+    if starts.is_empty() {
+        return Ok(None);
+    }
     let first = first_cut(starts, sights);
-    let clean = is_clean(alloc, first)?;
+    if let Some(flaw) = set_flaw(alloc, first, first)? {
+        return Ok(Some(flaw));
+    }
     let mut count = 0;
     let mut left = starts;
     'sets: while let Some((from, rest)) = left.split_first() {
@@ -182,7 +187,7 @@ pub(crate) fn sets_flaw(
             return Ok(Some(flaw_at(MarkKind::TooManySets, opening)));
         }
         let to = end_of_set(alloc, rest, starts, sights)?;
-        if let Some(flaw) = later_flaw(alloc, first, clean, part(*from, to, sights))? {
+        if let Some(flaw) = later_flaw(alloc, first, part(*from, to, sights))? {
             return Ok(Some(flaw));
         }
         count += 1;

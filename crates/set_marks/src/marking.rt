@@ -189,23 +189,6 @@ impl Marking {
         Ok(())
     }
 
-    /// Takes a station that has no sets.
-    #[tactic(auto, using(crate::proofs::Taken::stays_outside))]
-    fn take_without_sets(
-        &mut self,
-        line: &Name,
-        name: &Name,
-        sights: &[Sight],
-        written_again: usize,
-    ) -> Result<(), AllocError>
-        requires room { All IsRoomy self.old.marks.items }
-        ensures room { All IsRoomy self.new.marks.items }
-        ensures takes { OnOk result (TakesStation line.now written_again
-            (record { name = name.now; sights = sights.now }) NoSets self.old self.new) }
-    {
-        self.leave_outside(name, sights, written_again, None)
-    }
-
     /// Takes a station that has this fault.
     #[tactic(auto, using(crate::proofs::Taken::stays_outside))]
     fn take_faulty(
@@ -296,7 +279,7 @@ impl Marking {
     }
 
     /// Takes a station that is called so: it is judged by itself, and marked where it has sets.
-    #[tactic(auto, using(crate::proofs::Taken::is_judged))]
+    #[tactic(auto, using(crate::proofs::Taken::is_judged, crate::proofs::Taken::stays_outside))]
     fn take_called(
         &mut self,
         alloc: Global,
@@ -313,7 +296,7 @@ impl Marking {
             (record { name = name.now; sights = sights.now })) self.old self.new) }
     {
         match divide(alloc, self.stated.of(name), sights)? {
-            Divided::NoSets => self.take_without_sets(line, name, sights, written_again),
+            Divided::NoSets => self.leave_outside(name, sights, written_again, None),
             Divided::Flawed(flaw) => match self.names.twice_fault(name, sights) {
                 Some(twice) => self.take_faulty(line, name, sights, written_again, twice),
                 None => self.take_faulty(line, name, sights, written_again, flaw),

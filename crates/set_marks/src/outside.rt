@@ -15,7 +15,7 @@ ghost use Rattle.set_marks.specs.Searching.{ends_in_one, seems_ended};
 use crate::bounds::{FEW_LEADING, READINGS_OF_TWO};
 use crate::division::{are_by_targets, first_cut, rest_after};
 use crate::set::{
-    again_in, are_in_face, are_of, begins_with_pair, first_target, front, is_by_targets,
+    again_in, are_alike, are_in_face, are_of, begins_with_pair, first_target, front, is_by_targets,
     reads_target,
 };
 use crate::sight::Sight;
@@ -204,24 +204,10 @@ pub(crate) fn seems_ended(ending: Ending, sights: &[Sight]) -> bool
 }
 
 /// Whether both begin with one target.
-#[tactic(auto, using(crate::proofs::Few::is_not_empty))]
 fn begin_alike(a: &[Sight], b: &[Sight]) -> bool
     ensures { result ≡ bytes_eq (first_target a.now) (first_target b.now) }
 {
-    match (first_target(a), first_target(b)) {
-        (Some(a), Some(b)) => a.is_same(&b),
-        (None, None) => true,
-        (Some(a), None) => {
-            // For the proof alone: a name has a byte, so that no name is none.
-            a.recall();
-            false
-        }
-        (None, Some(b)) => {
-            // The same of the other name.
-            b.recall();
-            false
-        }
-    }
+    are_alike(first_target(a), first_target(b))
 }
 
 /// Whether this ending may stand after such sets.

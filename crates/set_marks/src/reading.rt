@@ -234,6 +234,7 @@ impl Readings {
 
     /// Takes the block of this number, of which it may be known what it says.
     #[inline(always)]
+    #[tactic(auto, unfolding(station_book::specs::Blocks::role_of))]
     fn take(
         &mut self,
         alloc: Global,
@@ -253,32 +254,9 @@ impl Readings {
         ensures fault { IfErr result (IsMemoryOr
             (block_fault beginnings.now (begun_in self.old.station) number (block_of block.now))) }
     {
-        match known {
-            Some(said) => self.take_measurement(alloc, number, block, said, beginnings),
-            None => self.take_any(alloc, number, block, beginnings),
+        if let Some(said) = known {
+            return self.take_measurement(alloc, number, block, said, beginnings);
         }
-    }
-
-    /// Takes the block of this number, whatever it is.
-    #[inline(always)]
-    #[tactic(auto, unfolding(station_book::specs::Blocks::role_of))]
-    fn take_any(
-        &mut self,
-        alloc: Global,
-        number: u32,
-        block: &Block<'_>,
-        beginnings: &Beginnings,
-    ) -> Result<(), MarkFault>
-        requires bound { number ≤ LONGEST_FILE }
-        requires room { All IsRoomy self.old.marking.marks.items }
-        ensures room { All IsRoomy self.new.marking.marks.items }
-        ensures clean { OnOk result (block_fault beginnings.now
-            (begun_in self.old.station) number (block_of block.now) ≡ None) }
-        ensures adds { OnOk result
-            (Adds beginnings.now (block_of block.now) number self.old self.new) }
-        ensures fault { IfErr result (IsMemoryOr
-            (block_fault beginnings.now (begun_in self.old.station) number (block_of block.now))) }
-    {
         if is_two_lines(block) {
             return Err(MarkFault::At(number, MarkKind::TwoLines));
         }

@@ -1,13 +1,14 @@
 //! Whether some readings are a set, and what is wrong with them if they are not.
 
 ghost use Rattle.std.specs.Prelude.{◌≡◌, IfSome, IfNone, IfOk, [], take, option_map, slice_get};
+ghost use Rattle.std.specs.Prelude.{None, unwrap_or};
 ghost use Rattle.std.specs.List.{list_all, list_any};
 ghost use Rattle.std.specs.Str.{bytes_eq};
 ghost use Rattle.set_marks.specs.Divisions.{is_of, is_again, is_pair, is_same_face, again_in};
 ghost use Rattle.set_marks.specs.Divisions.{alone_in, are_in_face};
 ghost use Rattle.set_marks.specs.Divisions.{is_by_faces, is_by_targets, are_read_alike};
 ghost use Rattle.set_marks.specs.Divisions.{first_target, last_target};
-ghost use Rattle.set_marks.specs.Divisions.{readings_flaw, order_flaw, set_flaw, is_set};
+ghost use Rattle.set_marks.specs.Divisions.{readings_flaw, order_flaw, set_flaw};
 ghost use Rattle.set_marks.specs.Divisions.{begins_with_pair};
 ghost use Rattle.set_marks.specs.Searching.{repeats, KeepsFaces};
 
@@ -171,6 +172,7 @@ pub(crate) fn is_by_targets(set: &[Sight]) -> bool
 /// The target of the first reading.
 pub(crate) fn first_target(set: &[Sight]) -> Option<Name>
     ensures value { IfSome result (λ name. name ≡ first_target set.now) }
+    ensures name { unwrap_or result [] ≡ first_target set.now }
     ensures some { IfNone result (set.now ≡ []) }
 {
     match set.first() {
@@ -183,6 +185,7 @@ pub(crate) fn first_target(set: &[Sight]) -> Option<Name>
 #[tactic(auto, using(crate::proofs::Asking::last_is))]
 pub(crate) fn last_target(set: &[Sight]) -> Option<Name>
     ensures value { IfSome result (λ name. name ≡ last_target set.now) }
+    ensures name { unwrap_or result [] ≡ last_target set.now }
     ensures some { IfNone result (set.now ≡ []) }
 {
     match set.split_last() {
@@ -191,25 +194,27 @@ pub(crate) fn last_target(set: &[Sight]) -> Option<Name>
     }
 }
 
-/// Whether both end with one target.
+/// Whether both are one target, or there is neither.
 #[tactic(auto, using(crate::proofs::Few::is_not_empty))]
-fn ends_alike(first: &[Sight], set: &[Sight]) -> bool
-    ensures { result ≡ bytes_eq (last_target first.now) (last_target set.now) }
+pub(crate) fn are_alike(a: Option<Name>, b: Option<Name>) -> bool
+    ensures { result ≡ bytes_eq (unwrap_or a []) (unwrap_or b []) }
 {
-    match (last_target(first), last_target(set)) {
+    match (a, b) {
         (Some(a), Some(b)) => a.is_same(&b),
         (None, None) => true,
-        (Some(a), None) => {
+        (Some(one), None) | (None, Some(one)) => {
             // For the proof alone: a name has a byte, so that no name is none.
-            a.recall();
-            false
-        }
-        (None, Some(b)) => {
-            // The same of the other name.
-            b.recall();
+            one.recall();
             false
         }
     }
+}
+
+/// Whether both end with one target.
+fn ends_alike(first: &[Sight], set: &[Sight]) -> bool
+    ensures { result ≡ bytes_eq (last_target first.now) (last_target set.now) }
+{
+    are_alike(last_target(first), last_target(set))
 }
 
 /// Whether both are read by faces, or both by targets.
@@ -324,25 +329,16 @@ pub(crate) fn set_flaw(
     }
 }
 
-/// Whether the first set of a station has no flaw.
-pub(crate) fn is_clean(alloc: Global, first: &[Sight]) -> Result<bool, AllocError>
-    ensures { IfOk result (λ b. b ≡ is_set first.now first.now) }
-{
-    Ok(set_flaw(alloc, first, first)?.is_none())
-}
-
-/// What `set_flaw` answers, where it is known whether the first set has no flaw. Then no other has
-/// one that repeats it.
+/// What `set_flaw` answers, where the first set has no flaw. Then no other has one that repeats it.
 pub(crate) fn later_flaw(
     alloc: Global,
     first: &[Sight],
-    clean: bool,
     set: &[Sight],
 ) -> Result<Option<Flaw>, AllocError>
-    requires { clean ≡ is_set first.now first.now }
+    requires { set_flaw first.now first.now ≡ None }
     ensures { IfOk result (λ o. o ≡ set_flaw first.now set.now) }
 {
-    if clean && repeats(first, set) {
+    if repeats(first, set) {
         return Ok(None);
     }
     set_flaw(alloc, first, set)

@@ -8,7 +8,7 @@ ghost use Rattle.std.specs.Bool.{OnFalse};
 ghost use Rattle.set_marks.specs.declared.outside.Ending.TheVariants.{Nothing};
 ghost use Rattle.job_statements.specs.declared.stated.Numbers.{Numbers};
 ghost use Rattle.set_marks.specs.Searching.{KnowsTargetsOf, IsClosed, IsFound, may_divide};
-ghost use Rattle.set_marks.specs.Searching.{may_be_plain};
+ghost use Rattle.set_marks.specs.Searching.{may_be_plain, may_open, turns_next};
 ghost use Rattle.set_marks.specs.Divisions.{starts_of, seconds_of, rest_of, later, begins_in_two};
 ghost use Rattle.set_marks.specs.Ways.{detail_between, cut_flaw, is_no_end, flaw_after, flaw_of};
 ghost use Rattle.set_marks.specs.Ways.{is_division, latest_flaw, leading_of, is_given_up, kept};
@@ -26,7 +26,7 @@ use crate::outside::{
     Ending, before_ending, ends_in_one, in_ending, is_ended, may_end, may_follow, may_precede,
     seems_ended,
 };
-use crate::set::{are_in_face, front, is_by_targets, sight_at};
+use crate::set::{are_in_face, front, is_by_targets, is_of, is_pair, sight_at};
 use crate::sight::Sight;
 use crate::span::Span;
 use crate::starts::starts_of;
@@ -156,21 +156,50 @@ fn may_be_plain(leading: &[Sight]) -> bool
     leading.len() <= FEW_LEADING || are_in_face(false, leading) || is_by_targets(leading)
 }
 
+/// Whether the next reading of the same target is in the other face.
+fn turns_next(sight: &Sight, later: &[Sight]) -> bool
+    ensures { result ≡ turns_next sight.now later.now }
+{
+    let mut left = later;
+    'sights: while let Some((other, rest)) = left.split_first() {
+        if is_of(&sight.target, other) {
+            return is_pair(sight, other);
+        }
+        left = rest;
+    }
+    false
+}
+
+/// Whether a set may open with the first of these readings: so none is looked for where single
+/// sights lead to targets that are sighted again.
+fn may_open(after: &[Sight]) -> bool
+    ensures { result ≡ may_open after.now }
+{
+    match front(MOST_READINGS, after).split_first() {
+        Some((opening, later)) => turns_next(opening, later),
+        None => false,
+    }
+}
+
 /// Whether there may be sets after these leading readings, with this ending: they are looked for
 /// only then. What is seen in the fewest steps is asked first.
 fn may_divide(ending: Ending, leading: &[Sight], after: &[Sight]) -> bool
     ensures { result ≡ may_divide ending leading.now after.now }
 {
     match ending {
-        Ending::Nothing => may_be_plain(leading),
+        Ending::Nothing => may_be_plain(leading) && may_open(after),
         Ending::CheckSights => {
-            ends_in_one(after) && may_be_plain(leading) && is_ended(ending, after)
+            ends_in_one(after)
+                && may_be_plain(leading)
+                && may_open(after)
+                && is_ended(ending, after)
         }
         Ending::CheckPair => {
             let sets = before_ending(ending, after);
             is_ended(ending, after)
                 && may_end(ending, sets, in_ending(ending, after))
                 && may_be_plain(leading)
+                && may_open(after)
         }
     }
 }

@@ -1,15 +1,15 @@
 -- The text of a sheet is that of its rows, and of no other sheet.
-use Rattle.std.proofs.Common.{◌≡◌, ℕ, suc, ◌+◌, ◌-◌, ◌*◌, ◌/◌, ◌%◌, ◌^◌, ◌<◌, ◌≤◌, true}
+use Rattle.std.proofs.Common.{◌≡◌, ℕ, suc, ◌+◌, ◌-◌, ◌*◌, ◌^◌, ◌<◌, ◌≤◌, true}
 use Rattle.std.proofs.Common.{List, [], ◌∷◌, ◌++◌, map, Some, None, refl}
-use Rattle.std.proofs.Common.{sym, ap, ◌∙◌, subst, arith}
+use Rattle.std.proofs.Common.{sym, ap, ◌∙◌, subst, arith, rules}
 use Rattle.std.specs.Prelude.{codes, fold, ℤ, pos, negsuc, neg_ℤ, ◌≤ℤ◌, ⊤}
 use Rattle.std.specs.Char.{is_ascii_digit}
 use Rattle.std.specs.Fmt.{decimal, signed_decimal}
 use Rattle.std.specs.List.{All, AllZip, list_all}
-use Rattle.std.proofs.lemmas.Bool.{and_parts, and_from, false≢true}
-use Rattle.std.proofs.lemmas.Bool.Decides.{nat_tests}
+use Rattle.std.proofs.lemmas.Bool.{false≢true}
 use Rattle.std.proofs.lemmas.Slice.Eq.{bytes_eq-Decides}
-use Rattle.std.proofs.lemmas.Fmt.{decimal_by_steps_wide}
+use Rattle.std.proofs.lemmas.Fmt.{decimal_is_IsNumeral_wide}
+use Rattle.std.proofs.lemmas.Str.Parse.{IsNumeralModel, numerals_by_fold}
 use Rattle.std.proofs.lemmas.Int.{ints}
 use Rattle.std.proofs.lemmas.List.{append-nil}
 use Rattle.gsi_word.specs.Angles.{decimal_number, decimal_value}
@@ -23,51 +23,21 @@ use Rattle.sheet_format.specs.Rows.{IsSheetText, target_fields, set_fields, obs_
 use Rattle.sheet_format.specs.Versions.{version_text}
 use Rattle.sheet_promise.specs.SheetRows.{HasNumber, IsTargetRow, IsSetRow, IsObsRow, AreOfSheet}
 
--- The digits of a number have it.
-record HaveValue (n : ℕ) (ds : List ℕ) : Type 0 where
-  pub digits : list_all is_ascii_digit ds ≡ true
-  pub value : decimal_value ds ≡ n
-
-digits_and : (ds : List ℕ) (c : ℕ) → list_all is_ascii_digit ds ≡ true → is_ascii_digit c ≡ true
-    → list_all is_ascii_digit (ds ++ c ∷ []) ≡ true
-digits_and [] c all is = rw is refl
-digits_and (d ∷ ds) c all is =
-    let parts = and_parts (is_ascii_digit d)
-    (list_all is_ascii_digit ds) all in
-    and_from (is_ascii_digit d)
-    (list_all is_ascii_digit (ds ++ c ∷ [])) parts.0 (digits_and ds c parts.1 is)
-
-value_after : (ds : List ℕ) (c n : ℕ) → fold (λ m b. 10 * m + (b - 48)) n (ds ++ c ∷ [])
-    ≡ 10 * fold (λ m b. 10 * m + (b - 48)) n ds + (c - 48)
-value_after [] c n = refl
-value_after (d ∷ ds) c n = value_after ds c (10 * n + (d - 48))
-
-digit_is : (d : ℕ) → d < 10 → is_ascii_digit (48 + d) ≡ true
-digit_is d small = grind (arith, nat_tests)
-
-one_digit : (m : ℕ) → m < 10 → HaveValue m ((48 + m) ∷ [])
-one_digit m small = record {
-  digits = rw (digit_is m small) refl;
-  value = omega arith;
-}
-
-more_digits : (m : ℕ) (ds : List ℕ) → 10 ≤ m → HaveValue (m / 10) ds
-    → HaveValue m (ds ++ ((48 + m % 10) ∷ []))
-more_digits m ds large h = record {
-  digits = digits_and ds (48 + m % 10) h.digits (digit_is (m % 10) (omega arith));
-  value =
-      let v = h.value in
-      value_after ds (48 + m % 10) 0 ∙ ap (λ (k : ℕ). 10 * k + ((48 + m % 10) - 48)) v
-      ∙ (omega arith);
-}
-
-have_value : (n : ℕ) → n < 10 ^ 64 → HaveValue n (decimal n)
-have_value n small = decimal_by_steps_wide (λ m ds. HaveValue m ds) one_digit more_digits n small
+-- Bytes that are all digits have the number that they write.
+numerals : IsNumeralModel (λ ds. list_all is_ascii_digit ds ≡ true) decimal_value
+numerals = numerals_by_fold _ (search rules) (λ n ds. fold (λ m b. 10 * m + (b - 48)) n ds)
+    (record {
+      empty = λ n. refl;
+      more = λ n c cs in_range.
+          let e : 10 * n + (c - 48) ≡ n * 10 + (c - 48) = omega arith in
+          ap (λ (k : ℕ). fold (λ m b. 10 * m + (b - 48)) k cs) e;
+    })
 
 number_is : (n : ℕ) → n < 10 ^ 64 → decimal_number (decimal n) ≡ Some n
 number_is n small =
-    let h = have_value n small in
-    rw h.digits (ap (λ (k : ℕ). Some k) h.value)
+    let h = decimal_is_IsNumeral_wide n small in
+    rw (numerals.from (decimal n) h.0.1)
+    (ap (λ (k : ℕ). Some k) (numerals.same (decimal n) h.0.1 ∙ h.1))
 
 signed_is : (z most : ℤ) (m : ℕ) → most ≡ pos m → m < 10 ^ 64 → IsWithin most z
     → HasNumber (signed_decimal z) z

@@ -5,4 +5,4 @@ use Rattle.set_marks.proofs.set.later_flaw.Goals as goal
 pub returns-then-repeats : goal.returns-then-repeats
 returns-then-repeats c =
     sym (repeated_clean c.args.first.now c.args.set.now (sym c.repeats.ensures ∙ c.if-repeats.true)
-    (sym c.requires ∙ c.if-clean.true))
+    c.requires)

@@ -1,21 +1,15 @@
-use Rattle.std.proofs.Common.{◌≡◌, ◌∷◌, List, rules, subst, sym, ap, ◌∙◌}
-use Rattle.set_marks.specs.declared.sight.Sight.{Sight}
-use Rattle.set_marks.specs.declared.zeniths.ZenithRange.{ZenithRange}
-use Rattle.set_marks.specs.Ranging.{IsUnique}
-use Rattle.set_marks.specs.Zeniths.{ranges_with, with_reading}
-use Rattle.set_marks.proofs.RangePlaces.{stay_unique}
+use Rattle.std.proofs.Common.{◌≡◌, ◌∷◌, rules}
+use Rattle.set_marks.specs.Zeniths.{with_reading}
+use Rattle.set_marks.proofs.RangePlaces.{with_next, next_unique}
 use Rattle.set_marks.proofs.zeniths.ranges_of_few.Goals as goal
 
 pub sights-preserved : goal.sights-preserved
 sights-preserved c =
-    let ranges = c.sights.ranges.items in
     let sight = c.in-Some.sight.now in
-    let rest = c.in-Some.rest.now in
-    let split : c.sights.left.now ≡ sight ∷ rest = search rules in
-    let added : c.add_at.new.ranges.items ≡ with_reading ranges sight = search rules in
+    let split : c.sights.left.now ≡ sight ∷ c.in-Some.rest.now = search rules in
+    let added : c.add_at.new.ranges.items ≡ with_reading c.sights.ranges.items sight
+    = search rules in
     record {
-      found = ap (λ (l : List ZenithRange). ranges_with l rest) added
-          ∙ ap (λ (l : List Sight). ranges_with ranges l) (sym split) ∙ c.sights.invariant.found;
-      unique = subst (λ (l : List ZenithRange). IsUnique l) (sym added)
-          (stay_unique ranges sight c.sights.invariant.unique);
+      found = with_next _ _ _ sight _ _ split added c.sights.invariant.found;
+      unique = next_unique _ _ sight added c.sights.invariant.unique;
     }

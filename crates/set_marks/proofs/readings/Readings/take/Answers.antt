@@ -2,7 +2,7 @@ use Rattle.std.proofs.Common.{rules}
 use Rattle.gsi_word.specs.BlockViews.{block_of}
 use Rattle.set_marks.specs.Keeping.{begun_in}
 use Rattle.set_marks.proofs.Sighting.{other_clean, adds_other}
-use Rattle.set_marks.proofs.readings.Readings.take_any.Goals as goal
+use Rattle.set_marks.proofs.readings.Readings.take.Goals as goal
 
 pub returns-then-not-has_code-clause-clean : goal.returns-then-not-has_code-clause-clean
 returns-then-not-has_code-clause-clean c =
