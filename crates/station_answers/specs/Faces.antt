@@ -9,7 +9,7 @@ use Rattle.station_report.specs.Readings.{two_c_at, two_i_at}
 abbrev pub mgon_cell : ℤ → List ℕ
 mgon_cell units = codes "," ++ short_mgon_text units
 
--- A row: what the differences are, their mean, half of it, and how far they spread.
+-- A row: what the differences are, their mean, half of it, and the greatest less the least.
 abbrev pub face_row : List ℕ → ℤ → ℤ → ℤ → List ℕ
 face_row what mean half spread =
     what ++ (mgon_cell mean ++ (mgon_cell half ++ (mgon_cell spread ++ codes "\n")))

@@ -52,7 +52,8 @@ fn push_accuracy(text: &mut Vec<u8>, accuracy: Accuracy) -> Result<(), AllocErro
     text.push(b',')?;
     push_of_adjusted(text, accuracy.of_adjusted)?;
     text.push(b',')?;
-    // Squares of 0.001 mgon have six decimals in mgon^2, as directions have in gon.
+    // A square of 0.001 mgon is 0.000001 mgon^2. `push_gon` takes units of 0.000000001, UNIT of
+    // which make up one of these, and has six decimals.
     push_gon(text, UNIT * accuracy.squares)
 }
 

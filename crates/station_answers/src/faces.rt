@@ -7,8 +7,8 @@ use station_report::{FaceMean, means_of_faces, push_wide_mgon};
 use std::alloc::{AllocError, Global};
 
 /// The text of what all 2c and all 2i of a station say together: titles, and a row of each with its
-/// mean, half of that, which of 2c is the collimation error and of 2i the index error, and how far
-/// it spreads, in mgon.
+/// mean, half of that, which of 2c is the collimation error and of 2i the index error, and the
+/// greatest less the least, in mgon.
 ///
 /// The only error is that memory was refused.
 pub(crate) fn faces_by(alloc: Global, surveyed: &Surveyed) -> Result<Vec<u8>, AllocError>

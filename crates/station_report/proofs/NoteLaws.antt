@@ -1,5 +1,5 @@
 -- The lines of notes, one after the other.
-use Rattle.std.proofs.Common.{◌≡◌, ℕ, ◌+◌, ◌<◌, ◌∙◌, List, [], ◌∷◌, ◌++◌, ap, flat_map, get_or}
+use Rattle.std.proofs.Common.{◌≡◌, ℕ, ◌+◌, ◌<◌, ◌∙◌, List, ◌++◌, ap, flat_map, get_or}
 use Rattle.std.proofs.Common.{length, map, sym, take}
 use Rattle.std.proofs.lemmas.List.{flat_map_more, map_more}
 use Rattle.report_notes.specs.Notes.{NoteValue, note_value}

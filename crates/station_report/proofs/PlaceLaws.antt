@@ -1,5 +1,8 @@
 -- The texts of places, one after the other.
 use Rattle.std.proofs.Common.{◌≡◌, ℕ, suc, ◌+◌, List, ◌++◌, append_assoc, ap, arith, sym, ◌∙◌}
+use Rattle.std.proofs.Common.{FitsSigned, ℤ, to_z, of_z}
+use Rattle.std.specs.Int.{w32}
+use Rattle.std.proofs.lemmas.Int.{to_z-of_z}
 use Rattle.station_report.specs.Columns.{each_place}
 
 pub each_place-more : (n : ℕ) (text : ℕ → List ℕ)
@@ -29,3 +32,7 @@ pub three : (t0 t1 t2 t3 a b d : List ℕ) → t1 ≡ t0 ++ a → t2 ≡ t1 ++ b
     → t3 ≡ t0 ++ (a ++ (b ++ d))
 three t0 t1 t2 t3 a b d p q r =
     two t0 t1 t3 a (b ++ d) p (two t1 t2 t3 b d q r)
+
+-- A number of 32 bits that is passed on is the same number.
+pub kept : {z w : ℤ} → z ≡ w → FitsSigned w32 z → to_z w32 (of_z w32 z) ≡ w
+kept {z} same fits = to_z-of_z w32 z fits ∙ same

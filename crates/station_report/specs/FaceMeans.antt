@@ -1,6 +1,6 @@
 -- What the face differences of a station say of its instrument (textbook): half of 2c is the
 -- collimation error and half of 2i the index error, and of each the mean of all observations tells
--- most; how far they spread shows how steadily both faces were pointed.
+-- most; the greatest less the least shows how steadily both faces were pointed.
 use Rattle.std.specs.Prelude.{◌≡◌, ℕ, zero, suc, ◌*◌, ℤ, pos, ◌+ℤ◌, ◌-ℤ◌, ◌*ℤ◌}
 use Rattle.std.specs.Int.{int_div_euclid, int_max, int_min}
 use Rattle.station_report.specs.declared.face_means.FaceMean.{FaceMean}
@@ -36,8 +36,8 @@ mean_below n number = rounded_over (sum_below n number) n
 abbrev pub half_mean_below : ℕ → (ℕ → ℤ) → ℤ
 half_mean_below n number = rounded_over (sum_below n number) (2 * n)
 
--- This is what the numbers at the places below a count say together: their mean, half of it, and how
--- far they spread.
+-- This is what the numbers at the places below a count say together: their mean, half of it, and the
+-- greatest less the least.
 pub record IsFaceMean (count : ℕ) (number : ℕ → ℤ) (m : FaceMean) : Type 0 where
   pub mean : m.mean ≡ mean_below count number
   pub half : m.half ≡ half_mean_below count number

@@ -1,5 +1,5 @@
 -- What was read at each place of a station's observations.
-use Rattle.std.specs.Prelude.{ℕ, ◌+◌, ◌-◌, ◌/◌, ◌%◌, List, [], map, slice_index_or, Option}
+use Rattle.std.specs.Prelude.{ℕ, Bool, ◌+◌, ◌-◌, ◌/◌, List, [], map, slice_index_or, Option}
 use Rattle.std.specs.Prelude.{ℤ, pos, ◌+ℤ◌, ◌-ℤ◌, unsigned_abs, ◌==◌, ◌&&◌, position}
 use Rattle.std.specs.Int.{int_rem_euclid}
 use Rattle.std.specs.Option.{option_map_or}
@@ -66,18 +66,15 @@ zenith_two zenith two_i = unsigned_abs (int_rem_euclid (two_i -ℤ zenith) (pos 
 abbrev pub zenith_mean : ℤ → ℤ → ℕ
 zenith_mean zenith two_i = zenith_one zenith + (CIRCLE - zenith_two zenith two_i)
 
--- The place of the first observation of a set.
-abbrev pub first_of : StationValue → ℕ → Option ℕ
-first_of station set = position (λ (o : Obs). o.set == set) station.obs
+-- The two-face direction of the first observation of the set of an observation.
+abbrev pub first_value : StationValue → ℕ → ℕ
+first_value station place = option_map_or (value_at station)
+    (position (λ (o : Obs). o.set == set_at station place) station.obs) 0
 
--- The two-face direction of an observation, less that of the first of its set: in half units, from
--- 0 and below a full circle.
-abbrev pub reduced : StationValue → ℕ → ℕ
-reduced station place =
-    (value_at station place
-    + (TURN - option_map_or (value_at station) (first_of station (set_at station place)) 0)) % TURN
+-- whether an observation is of a set and a target
+abbrev pub is_of : ℕ → ℕ → Obs → Bool
+is_of set target o = (o.set == set) && (o.target == target)
 
 -- The place of the observation of a set and a target, if there is one.
 abbrev pub place_of : StationValue → ℕ → ℕ → Option ℕ
-place_of station set target =
-    position (λ (o : Obs). (o.set == set) && (o.target == target)) station.obs
+place_of station set target = position (is_of set target) station.obs

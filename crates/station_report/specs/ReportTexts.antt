@@ -1,7 +1,7 @@
 -- The text of a report (profile), in the order in which it is printed. Its fixed phrases are those
 -- of its language. Lines are at most 78 characters wide, which a page of A4 holds, but for those of
 -- paths, notes and missing directions.
-use Rattle.std.specs.Prelude.{ℕ, ◌+◌, ◌*◌, ◌/◌, ◌%◌, List, [], ◌++◌, length, codes, decimal, ℤ, pos}
+use Rattle.std.specs.Prelude.{ℕ, ◌+◌, ◌-◌, ◌*◌, ◌/◌, ◌%◌, List, [], ◌++◌, length, codes, decimal, ℤ, pos}
 use Rattle.std.specs.Prelude.{Option, Some, None, slice_index_or, if◌then◌else◌, ◌==◌}
 use Rattle.std.specs.Prelude.{◌&&◌, nat_le, nat_lt}
 use Rattle.std.specs.Option.{option_map_or}
@@ -9,6 +9,7 @@ use Rattle.adjust_kernel.specs.Stations.{StationValue}
 use Rattle.angle_texts.specs.MgonTexts.{mgon_text, short_mgon_text, thousandths_text}
 use Rattle.byte_digests.specs.NameTexts.{name_text}
 use Rattle.direction_table.specs.Texts.{direction_text}
+use Rattle.adjust_kernel.specs.declared.bounds.TheConstants.{TURN}
 use Rattle.adjust_kernel.specs.declared.units.TheConstants.{HALF_UNIT, UNIT}
 use Rattle.report_phrases.specs.Phrases.{said}
 use Rattle.report_phrases.specs.declared.language.Language.{Language}
@@ -22,11 +23,10 @@ use Rattle.station_report.specs.FaceMeans.{half_mean_below, mean_below, spread_b
 use Rattle.station_report.specs.GapTexts.{gaps_at, gaps_of}
 use Rattle.station_report.specs.NoteTexts.{ReportHead, notes_text, signature_text}
 use Rattle.station_report.specs.NoteTexts.{label_text as label_column}
-use Rattle.station_report.specs.Readings.{name_of, number_of, place_of, reading_one, reading_two}
-use Rattle.station_report.specs.Readings.{reduced, zenith_at, zenith_one, zenith_two}
+use Rattle.station_report.specs.Readings.{first_value, name_of, number_of, place_of, reading_one}
+use Rattle.station_report.specs.Readings.{reading_two, zenith_at, zenith_mean, zenith_one, zenith_two}
 use Rattle.station_report.specs.Readings.{set_at, target_at, two_c_at, two_i_at, value_at}
-use Rattle.station_report.specs.Zeniths.{mean_of_zeniths, zenith_deviation, zenith_mean_at}
-use Rattle.station_report.specs.Zeniths.{zeniths_of}
+use Rattle.station_report.specs.Zeniths.{mean_of_zeniths, zenith_deviation, zeniths_of}
 use Rattle.station_report.specs.declared.accuracy.Accuracy.{Accuracy}
 use Rattle.station_results.specs.Greatest.{residual_at}
 use Rattle.station_results.specs.declared.adjusted.AdjustedObs.{AdjustedObs}
@@ -101,32 +101,39 @@ label_text station place =
     right_text 5 (decimal (number_of station (set_at station place)))
     ++ (codes "  " ++ left_text 16 (name_of station (target_at station place)))
 
--- what was read in face I and in face II, and the mean
-abbrev pub angles_text : SurveyedStation → ℕ → List ℕ
-angles_text its place =
-    right_text 11 (read_text (reading_one (value_at its.station place) (two_c_at its place)))
-    ++ (right_text 11 (read_text (reading_two (value_at its.station place) (two_c_at its place)))
-    ++ right_text 13 (mean_text (reduced its.station place)))
+-- What was read in face I and in face II, by a two-face direction and its 2c; and the mean less the
+-- two-face direction of the first observation of the set: in half units, from 0 and below a full
+-- circle.
+abbrev pub angles_text : ℕ → ℤ → ℕ → List ℕ
+angles_text value two_c first =
+    right_text 11 (read_text (reading_one value two_c))
+    ++ (right_text 11 (read_text (reading_two value two_c))
+    ++ right_text 13 (mean_text ((value + (TURN - first)) % TURN)))
 
 -- 2c and 2i, and the end of the line
-abbrev pub differences_text : SurveyedStation → ℕ → List ℕ
-differences_text its place =
-    right_text 10 (short_mgon_text (two_c_at its place))
-    ++ (right_text 10 (short_mgon_text (two_i_at its place)) ++ codes "\n")
+abbrev pub differences_text : ℤ → ℤ → List ℕ
+differences_text two_c two_i =
+    right_text 10 (short_mgon_text two_c) ++ (right_text 10 (short_mgon_text two_i) ++ codes "\n")
 
 -- The line of an observation: the number of its set, the name of its target, what was read in face
 -- I and in face II, their mean less that of the first observation of the set, 2c and 2i.
 abbrev pub reading_line : SurveyedStation → ℕ → List ℕ
 reading_line its place =
-    label_text its.station place ++ (angles_text its place ++ differences_text its place)
+    label_text its.station place
+    ++ (angles_text (value_at its.station place) (two_c_at its place) (first_value its.station place)
+    ++ differences_text (two_c_at its place) (two_i_at its place))
 
--- the same, if the observation is of this set
-abbrev pub line_of : SurveyedStation → ℕ → ℕ → List ℕ
-line_of its set place = if set_at its.station place == set then reading_line its place else []
+-- the line of an observation, if the observation is of this set
+abbrev pub line_of : StationValue → (ℕ → List ℕ) → ℕ → ℕ → List ℕ
+line_of station line set place = if set_at station place == set then line place else []
 
 -- The lines of a set, after an empty one.
-abbrev pub set_text : SurveyedStation → ℕ → List ℕ
-set_text its set = codes "\n" ++ each_place (length its.station.obs) (line_of its set)
+abbrev pub set_text : StationValue → (ℕ → List ℕ) → ℕ → List ℕ
+set_text station line set = codes "\n" ++ each_place (length station.obs) (line_of station line set)
+
+-- The lines of all observations, set by set.
+abbrev pub sets_text : StationValue → (ℕ → List ℕ) → List ℕ
+sets_text station line = each_place (length station.sets) (set_text station line)
 
 -- a line below the columns of 2c and of 2i: words, and a number of 0.01 mgon of each
 abbrev pub foot_line : List ℕ → ℤ → ℤ → List ℕ
@@ -135,7 +142,7 @@ foot_line words two_c two_i =
     ++ (right_text 10 (short_mgon_text two_c)
     ++ (right_text 10 (short_mgon_text two_i) ++ codes "\n")))
 
--- The means of 2c and of 2i, half of them, and how far each spreads.
+-- The means of 2c and of 2i, half of them, and of each the greatest less the least.
 abbrev pub foot_text : Language → SurveyedStation → List ℕ
 foot_text language its =
     let count = length its.station.obs in
@@ -152,27 +159,19 @@ abbrev pub readings_text : Language → SurveyedStation → List ℕ
 readings_text language its =
     said language phrase.Readings
     ++ (said language phrase.ReadingColumns
-    ++ (each_place (length its.station.sets) (set_text its) ++ foot_text language its))
+    ++ (sets_text its.station (reading_line its) ++ foot_text language its))
 
--- the zenith angles that were read in face I and in face II, and their mean
-abbrev pub zeniths_text : SurveyedStation → ℕ → List ℕ
-zeniths_text its place =
-    right_text 11 (read_text (zenith_one (zenith_at its place)))
-    ++ (right_text 11 (read_text (zenith_two (zenith_at its place) (two_i_at its place)))
-    ++ (right_text 13 (mean_text (zenith_mean_at its place)) ++ codes "\n"))
+-- the zenith angles that were read in face I and in face II, and their mean: by that of face I and 2i
+abbrev pub zeniths_text : ℤ → ℤ → List ℕ
+zeniths_text zenith two_i =
+    right_text 11 (read_text (zenith_one zenith))
+    ++ (right_text 11 (read_text (zenith_two zenith two_i))
+    ++ (right_text 13 (mean_text (zenith_mean zenith two_i)) ++ codes "\n"))
 
 -- The line of an observation: the number of its set, the name of its target, and its zenith angles.
 abbrev pub zenith_line : SurveyedStation → ℕ → List ℕ
-zenith_line its place = label_text its.station place ++ zeniths_text its place
-
--- the same, if the observation is of this set
-abbrev pub zenith_line_of : SurveyedStation → ℕ → ℕ → List ℕ
-zenith_line_of its set place =
-    if set_at its.station place == set then zenith_line its place else []
-
--- The zenith angles of a set, after an empty line.
-abbrev pub zenith_set_text : SurveyedStation → ℕ → List ℕ
-zenith_set_text its set = codes "\n" ++ each_place (length its.station.obs) (zenith_line_of its set)
+zenith_line its place =
+    label_text its.station place ++ zeniths_text (zenith_at its place) (two_i_at its place)
 
 -- the standard deviation of the mean of zenith angles in mgon; a dash where there is one alone
 abbrev pub zenith_deviation_text : List ℕ → List ℕ
@@ -209,8 +208,7 @@ abbrev pub zenith_angles_text : Language → SurveyedStation → List ℕ
 zenith_angles_text language its =
     said language phrase.ZenithAngles
     ++ (said language phrase.ZenithColumns
-    ++ (each_place (length its.station.sets) (zenith_set_text its)
-    ++ zenith_means_text language its))
+    ++ (sets_text its.station (zenith_line its) ++ zenith_means_text language its))
 
 -- The line of a target: its name, and its adjusted direction.
 abbrev pub direction_line : StationValue → List ℕ → ℕ → List ℕ

@@ -60,7 +60,8 @@ fn push_squares(text: &mut Vec<u8>, squares: u64) -> Result<(), AllocError>
     requires { squares < 2 ^ 40 }
     ensures { OnOk result (text.new.items ≡ text.old.items ++ spec.squares_text squares) }
 {
-    // Squares of 0.001 mgon have six decimals in mgon^2, as directions have in gon.
+    // A square of 0.001 mgon is 0.000001 mgon^2. `push_gon` takes units of 0.000000001, UNIT of
+    // which make up one of these, and has six decimals.
     push_gon(text, UNIT * squares)?;
     text.extend_from_slice(b" mgon^2")?;
     Ok(())

@@ -138,7 +138,7 @@ fn push_line(
     Ok(())
 }
 
-/// Adds the means of 2c and of 2i, half of them, and how far each spreads.
+/// Adds the means of 2c and of 2i, half of them, and of each the greatest less the least.
 pub(crate) fn push_foot(
     text: &mut Vec<u8>,
     field: &mut Vec<u8>,

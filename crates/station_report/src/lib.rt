@@ -7,6 +7,7 @@
 #![tactic(auto)]
 
 mod accuracy;
+mod by_set;
 mod columns;
 mod computed;
 mod computing;

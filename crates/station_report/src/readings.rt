@@ -1,6 +1,5 @@
 //! The readings of a report.
-ghost use Rattle.std.specs.Prelude.{◌≡◌, ◌<◌, ◌+◌, ◌++◌, IfSome, OnOk, length};
-ghost use Rattle.std.specs.Option.{option_map_or};
+ghost use Rattle.std.specs.Prelude.{◌≡◌, ◌<◌, ◌++◌, OnOk, length};
 ghost use Rattle.adjust_kernel.specs.declared.bounds.TheConstants.{TURN};
 ghost use Rattle.station_book.specs.declared.bounds.TheConstants.{CIRCLE};
 ghost use Rattle.station_report.specs.Columns.{right_text};
@@ -8,10 +7,12 @@ ghost use Rattle.station_report.specs.Readings as reading;
 ghost use Rattle.station_report.specs.ReportTexts as spec;
 ghost use Rattle.angle_texts.specs.MgonTexts.{short_mgon_text};
 
+use crate::by_set::push_sets;
 use crate::columns::{GON, READ, push_left, push_right, push_right_number};
 use crate::face_means::{DIFFERENCES, push_foot};
 use crate::labels::push_phrase;
-use crate::lines::{Lines, push_lines};
+use crate::lines::Lines;
+use crate::place_of::front_of;
 use crate::places::{faces_at, name_of, number_of, observation_at};
 use adjust_kernel::{HALF_UNIT, LONGEST_NAME, Station, TURN};
 use angle_texts::{push_gon, push_short_gon, push_short_mgon};
@@ -64,24 +65,14 @@ pub fn zenith_mean(zenith: i32, two_i: i32) -> u32
     zenith_one(zenith) + (CIRCLE - zenith_two(zenith, two_i))
 }
 
-/// The place of the first observation of a set.
-fn first_of(station: &Station, set: usize) -> Option<usize>
-    ensures place { result ≡ reading.first_of station.now set }
-    ensures inside { IfSome result (λ place. place < length station.now.obs) }
-{
-    station.obs().iter().position(|o| o.set as usize == set)
-}
-
-/// The two-face direction of the first observation of a set.
-fn first_value(station: &Station, set: usize) -> u32
-    ensures value { result ≡ option_map_or (reading.value_at station.now)
-        (reading.first_of station.now set) 0 }
+/// The two-face direction of the first observation of the set of an observation.
+fn first_value(station: &Station, place: usize) -> u32
+    requires { place < length station.now.obs }
+    ensures value { result ≡ reading.first_value station.now place }
     ensures bound { result < TURN }
 {
-    match first_of(station, set) {
-        Some(place) => observation_at(station, place).value,
-        None => 0,
-    }
+    let set = observation_at(station, place).set as usize;
+    observation_at(station, front_of(station, set, 0)).value
 }
 
 /// The width of the column of a set's number.
@@ -148,24 +139,20 @@ pub(crate) fn push_label(
     Ok(())
 }
 
-/// Adds what was read, and the mean, of an observation of which the first of its set has this
-/// two-face direction.
+/// Adds what was read by a two-face direction and its 2c, and the mean, which is counted from the
+/// two-face direction of the first observation of the set.
 fn push_angles(
     text: &mut Vec<u8>,
     field: &mut Vec<u8>,
-    surveyed: &Surveyed,
-    place: usize,
+    value: u32,
+    two_c: i32,
     first: u32,
 ) -> Result<(), AllocError>
-    requires inside { place < length surveyed.now.station.obs }
-    requires first { first ≡ option_map_or (reading.value_at surveyed.now.station)
-        (reading.first_of surveyed.now.station (reading.set_at surveyed.now.station place)) 0 }
-    requires bound { first < TURN }
+    requires value { value < TURN }
+    requires first { first < TURN }
     ensures { OnOk result
-        (text.new.items ≡ text.old.items ++ spec.angles_text surveyed.now place) }
+        (text.new.items ≡ text.old.items ++ spec.angles_text value two_c first) }
 {
-    let value = observation_at(surveyed.station(), place).value;
-    let two_c = faces_at(surveyed, place).two_c;
     push_read(text, field, reading_one(value, two_c))?;
     push_read(text, field, reading_two(value, two_c))?;
     push_mean(text, field, (value + (TURN - first)) % TURN)?;
@@ -176,93 +163,41 @@ fn push_angles(
 fn push_differences(
     text: &mut Vec<u8>,
     field: &mut Vec<u8>,
-    surveyed: &Surveyed,
-    place: usize,
+    two_c: i32,
+    two_i: i32,
 ) -> Result<(), AllocError>
-    requires { place < length surveyed.now.station.obs }
     ensures { OnOk result
-        (text.new.items ≡ text.old.items ++ spec.differences_text surveyed.now place) }
+        (text.new.items ≡ text.old.items ++ spec.differences_text two_c two_i) }
 {
-    let faces = faces_at(surveyed, place);
-    push_difference(text, field, faces.two_c)?;
-    push_difference(text, field, faces.two_i)?;
+    push_difference(text, field, two_c)?;
+    push_difference(text, field, two_i)?;
     text.push(b'\n')?;
     Ok(())
 }
 
-/// Adds the line of an observation, of which the first of its set has this two-face direction.
-fn push_line(
-    text: &mut Vec<u8>,
-    field: &mut Vec<u8>,
-    surveyed: &Surveyed,
-    place: usize,
-    first: u32,
-) -> Result<(), AllocError>
-    requires inside { place < length surveyed.now.station.obs }
-    requires first { first ≡ option_map_or (reading.value_at surveyed.now.station)
-        (reading.first_of surveyed.now.station (reading.set_at surveyed.now.station place)) 0 }
-    requires bound { first < TURN }
-    ensures { OnOk result
-        (text.new.items ≡ text.old.items ++ spec.reading_line surveyed.now place) }
-{
-    push_label(text, surveyed.station(), place)?;
-    push_angles(text, field, surveyed, place, first)?;
-    push_differences(text, field, surveyed, place)?;
-    Ok(())
-}
-
-/// The readings of a set.
-#[derive(Drop)]
-struct SetReadings<'a> {
-    surveyed: &'a Surveyed,
-    set: usize,
-    /// The two-face direction of its first observation.
-    first: u32,
-    ghost is_first: { first ≡ option_map_or (reading.value_at surveyed.now.station)
-        (reading.first_of surveyed.now.station set) 0 },
-    ghost bound: { first < TURN },
-}
-
-impl<'a> Lines for SetReadings<'a> {
-    ghost places = { λ its. length its.surveyed.now.station.obs };
-
-    ghost line = { λ its. spec.line_of its.surveyed.now its.set };
-
-    fn count(&self) -> usize {
-        self.surveyed.station().obs().len()
-    }
-
-    fn add(&self, text: &mut Vec<u8>, field: &mut Vec<u8>, place: usize) -> Result<(), AllocError> {
-        if observation_at(self.surveyed.station(), place).set as usize == self.set {
-            return push_line(text, field, self.surveyed, place, self.first);
-        }
-        Ok(())
-    }
-}
-
-/// The readings of all sets, each after an empty line.
+/// The readings of a station.
 #[derive(Drop)]
 struct Readings<'a> {
     surveyed: &'a Surveyed,
 }
 
 impl<'a> Lines for Readings<'a> {
-    ghost places = { λ its. length its.surveyed.now.station.sets };
+    ghost places = { λ its. length its.surveyed.now.station.obs };
 
-    ghost line = { λ its. spec.set_text its.surveyed.now };
+    ghost line = { λ its. spec.reading_line its.surveyed.now };
 
     fn count(&self) -> usize {
-        self.surveyed.station().sets().len()
+        self.surveyed.station().obs().len()
     }
 
     fn add(&self, text: &mut Vec<u8>, field: &mut Vec<u8>, place: usize) -> Result<(), AllocError> {
-        let readings = SetReadings {
-            surveyed: self.surveyed,
-            set: place,
-            first: first_value(self.surveyed.station(), place),
-        };
-        text.push(b'\n')?;
-        push_lines(text, field, &readings)
+        let station = self.surveyed.station();
+        let value = observation_at(station, place).value;
+        let faces = faces_at(self.surveyed, place);
+        push_label(text, station, place)?;
+        push_angles(text, field, value, faces.two_c, first_value(station, place))?;
+        push_differences(text, field, faces.two_c, faces.two_i)?;
+        Ok(())
     }
 }
 
@@ -280,7 +215,7 @@ pub(crate) fn push_readings(
     let mut field = Vec::new(alloc);
     push_phrase(text, language, Phrase::Readings)?;
     push_phrase(text, language, Phrase::ReadingColumns)?;
-    push_lines(text, &mut field, &Readings { surveyed })?;
+    push_sets(text, &mut field, surveyed.station(), &Readings { surveyed })?;
     push_foot(text, &mut field, language, surveyed)?;
     Ok(())
 }

@@ -1,18 +1,14 @@
 use Rattle.std.proofs.Common.{◌∙◌, arith}
 use Rattle.least_directions.proofs.LeastLaws.{are_rounded}
-use Rattle.station_results.proofs.GreatestLaws.{as_many_rows, some_observation}
+use Rattle.station_results.proofs.GreatestLaws.{some_row}
 use Rattle.station_results.proofs.LeastLaws.{are_adjusted}
 use Rattle.station_report.proofs.computing.computed_by.Goals as goal
 
 pub greatest_of-greatest-requires : goal.greatest_of-greatest-requires
 greatest_of-greatest-requires c =
-    let station = c.args.station.now in
     let r = c.in_ok-rows.ensures in
-    omega (
-      arith,
-      as_many_rows station c.in_ok-rows.rows.items r.observed,
-      some_observation station r.valid,
-    )
+    rw c.deref.ensures.value
+    (some_row c.args.station.now c.in_ok-rows.rows.items r.valid r.observed)
 
 pub returns : goal.returns
 returns c =

@@ -1,11 +1,11 @@
 use Rattle.std.proofs.Common.{◌≡◌, ◌∙◌, ◌^◌, pos, ap, arith, length, rules, subst}
-use Rattle.std.proofs.Common.{FitsSigned, to_z, of_z}
+use Rattle.std.proofs.Common.{to_z, of_z}
 use Rattle.std.specs.Int.{w32}
-use Rattle.std.proofs.lemmas.Int.{to_z-of_z}
 use Rattle.adjust_kernel.specs.Stations.{StationValue}
 use Rattle.adjust_kernel.specs.Within.{IsWithin}
 use Rattle.station_report.specs.Readings.{two_c_at, two_i_at}
 use Rattle.station_report.specs.Together.{AreTogether}
+use Rattle.station_report.proofs.PlaceLaws.{kept}
 use Rattle.station_report.proofs.TogetherLaws.{more, within_most}
 use Rattle.station_report.proofs.face_means.faces_together.Goals as goal
 
@@ -30,12 +30,8 @@ loop-place-preserved c =
     let its = c.args.surveyed.now in
     let place = c.loop-place.place in
     let faces = c.faces_at-faces.result in
-    let two_c_fits : FitsSigned w32 faces.two_c = search rules in
-    let two_i_fits : FitsSigned w32 faces.two_i = search rules in
-    let two_c : to_z w32 (of_z w32 faces.two_c) ≡ two_c_at its place =
-    to_z-of_z w32 faces.two_c two_c_fits ∙ c.faces_at-faces.ensures.two_c in
-    let two_i : to_z w32 (of_z w32 faces.two_i) ≡ two_i_at its place =
-    to_z-of_z w32 faces.two_i two_i_fits ∙ c.faces_at-faces.ensures.two_i in
+    let two_c = kept c.faces_at-faces.ensures.two_c (search rules) in
+    let two_i = kept c.faces_at-faces.ensures.two_i (search rules) in
     let two_c_small : IsWithin (pos (2 ^ 31)) (to_z w32 (of_z w32 faces.two_c)) = search rules in
     let two_i_small : IsWithin (pos (2 ^ 31)) (to_z w32 (of_z w32 faces.two_i)) = search rules in (
       more place (two_c_at its) c.loop-place.two_c c.with-two_c.result

@@ -1,7 +1,7 @@
 use Rattle.std.proofs.Common.{◌++◌}
 use Rattle.station_report.specs.NoteTexts.{head_of, noted, notes_text}
 use Rattle.station_report.specs.ReportTexts.{counts_text, gaps_text, limits_text, named_text}
-use Rattle.station_report.proofs.PlaceLaws.{three, two}
+use Rattle.station_report.proofs.PlaceLaws.{three}
 use Rattle.station_report.proofs.head.push_head.Goals as goal
 
 pub returns : goal.returns

@@ -1,19 +1,16 @@
-use Rattle.std.proofs.Common.{◌+◌, ◌-◌, ◌/◌, arith}
-use Rattle.station_report.proofs.FrontLaws.{front_after, front_before}
+use Rattle.std.proofs.Common.{rules}
+use Rattle.std.proofs.lemmas.List.Sorted.{IsPartitionPoint-from_clause}
+use Rattle.station_report.specs.Fronts.{stands_before}
+use Rattle.station_report.proofs.FrontLaws.{parted}
 use Rattle.station_report.proofs.place_of.front_of.Goals as goal
 
-pub loop-low-preserved-then-stands_before : goal.loop-low-preserved-then-stands_before
-loop-low-preserved-then-stands_before c =
-    let low = c.loop-low.low in
-    let high = c.loop-low.high in
-    front_after c.args.obs.now c.args.set c.args.target c.requires low high
-    (low + (high - low) / 2) _ c.loop-low.invariant (omega arith) (omega arith)
-    (c.stands_before.ensures.before c.if-stands_before.true)
-
-pub loop-low-preserved : goal.loop-low-preserved
-loop-low-preserved c =
-    let low = c.loop-low.low in
-    let high = c.loop-low.high in
-    front_before c.args.obs.now c.args.set c.args.target c.requires low high
-    (low + (high - low) / 2) _ c.loop-low.invariant (omega arith) (omega arith)
-    (c.stands_before.ensures.from c.if-stands_before.false)
+pub returns-clause-front : goal.returns-clause-front
+returns-clause-front c =
+    let obs = c.args.station.now.obs in
+    let set = c.args.set in
+    let target = c.args.target in
+    let clause = rw c.obs.ensures.value at c.partition_point.ensures.partitioned in
+    let front = IsPartitionPoint-from_clause (stands_before set target) obs
+    c.partition_point.result clause (parted obs set target c.obs.ensures.valid.obs.ordered)
+    (λ a r f' k. search rules) in
+    record { inside = search rules; before = front.0; from = front.1 }

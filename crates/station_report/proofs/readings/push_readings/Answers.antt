@@ -1,8 +1,7 @@
-use Rattle.std.proofs.Common.{◌++◌, length}
+use Rattle.std.proofs.Common.{◌++◌}
 use Rattle.report_phrases.specs.Phrases.{said}
 use Rattle.report_phrases.specs.declared.phrase.Phrase.TheVariants as phrase
-use Rattle.station_report.specs.Columns.{each_place}
-use Rattle.station_report.specs.ReportTexts.{foot_text, set_text}
+use Rattle.station_report.specs.ReportTexts.{foot_text, reading_line, sets_text}
 use Rattle.station_report.proofs.PlaceLaws.{three, two}
 use Rattle.station_report.proofs.readings.push_readings.Goals as goal
 
@@ -10,10 +9,11 @@ pub returns : goal.returns
 returns c =
     let its = c.args.surveyed.now in
     let language = c.args.language in
-    let sets = each_place (length its.station.sets) (set_text its) in
+    let sets = sets_text its.station (reading_line its) in
     let foot = foot_text language its in
-    let last = two c.push_phrase-2.new.text.items c.push_lines.new.text.items
-    c.push_foot.new.text.items sets foot c.in_ok-push_lines.ensures c.in_ok-push_foot.ensures in
+    let last = two c.push_phrase-2.new.text.items c.push_sets.new.text.items
+    c.push_foot.new.text.items sets foot (rw c.station.ensures at c.in_ok-push_sets.ensures)
+    c.in_ok-push_foot.ensures in
     three c.args.text.now.items c.push_phrase.new.text.items c.push_phrase-2.new.text.items
     c.push_foot.new.text.items (said language phrase.Readings)
     (said language phrase.ReadingColumns) (sets ++ foot)
