@@ -6,14 +6,14 @@
 ghost use Rattle.std.specs.Prelude.{◌≡◌, ◌≤◌, ◌<◌, ◌+◌, ◌++◌, ◌∷◌, [], length, map, IfOk};
 ghost use Rattle.std.specs.Prelude.{decimal};
 ghost use Rattle.adjust_kernel.specs.Names.{IsName};
-ghost use Rattle.csv.specs.Writing.{needs_quotes, row_text};
+ghost use Rattle.csv.specs.Writing.{needs_quotes};
 ghost use Rattle.list_rows.specs.RowPieces as spec;
 ghost use Rattle.row_forms.specs.Forms.{separator, writer_of};
 
 use crate::put::{put, put_bytes};
 use adjust_kernel::{LONGEST_NAME, Name, Station};
 use itoa::Buffer;
-use row_forms::{RowForm, rows_in, write_row};
+use row_forms::{RowForm, text_of_row};
 use station_check::LONGEST_U32;
 use std::alloc::{AllocError, Global};
 use std::marker::Model;
@@ -83,16 +83,6 @@ fn calls_for_quotes(name: &[u8], form: RowForm) -> bool
     name.iter().any(|&byte| byte == separator || byte == b'"' || byte == b'\r' || byte == b'\n')
 }
 
-/// The row of a name and an empty field, as `csv` writes it.
-fn row_of(alloc: Global, name: &[u8], form: RowForm) -> Result<Vec<u8>, AllocError>
-    ensures { IfOk result (λ row. row.items
-        ≡ row_text (writer_of form) (name.now ∷ [] ∷ [])) }
-{
-    let mut writer = rows_in(form, Vec::new(alloc));
-    write_row(&mut writer, &[name, b"".as_slice()])?;
-    writer.into_inner().map_err(|_| AllocError)
-}
-
 /// The cell of a name.
 fn cell_of(alloc: Global, name: &Name, form: RowForm) -> Result<Cell, AllocError>
     ensures cell { IfOk result (λ cell. cell ≡ spec.cell_text form name.now) }
@@ -100,8 +90,8 @@ fn cell_of(alloc: Global, name: &Name, form: RowForm) -> Result<Cell, AllocError
 {
     let bytes = name.bytes();
     if calls_for_quotes(bytes, form) {
-        let row = row_of(alloc, bytes, form)?;
         // After the name there is a separator, an empty field and the end of the line.
+        let row = text_of_row(alloc, &[bytes, b"".as_slice()], form)?;
         return Ok(Cell::new(&row[..row.len() - 2], b"", form.separator()));
     }
     Ok(Cell::new(bytes, b"", form.separator()))

@@ -2,7 +2,7 @@
 //!
 //! What the rows of a station share is made once for all of them: what those of a set begin with,
 //! and the cell of a target.
-ghost use Rattle.std.specs.Prelude.{◌≡◌, ◌<◌, ◌++◌, length, map, slice_get, IfOk, OnOk, Some};
+ghost use Rattle.std.specs.Prelude.{◌≡◌, ◌<◌, ◌++◌, length, map, IfOk, OnOk};
 ghost use Rattle.std.specs.List.{flat_map};
 ghost use Rattle.adjust_kernel.specs.Matching.{key_of_obs};
 ghost use Rattle.adjust_kernel.specs.Stations.{IsStation};
@@ -16,6 +16,7 @@ use crate::row::{LONGEST_ROW, Room, put_row};
 use adjust_kernel::{Obs, Station};
 use row_forms::RowForm;
 use station_book::{Faces, Stations, Surveyed};
+use station_check::{differences_at, observation_at};
 use std::alloc::{AllocError, Global};
 
 /// The text of stations in a form: a row of titles, and a row for each of their observations, in
@@ -95,24 +96,6 @@ fn push_surveyed(
         push_observation(text, room, station, &shared, observation, differences)?;
     }
     Ok(())
-}
-
-/// The observation at a place.
-fn observation_at(station: &Station, place: usize) -> Obs
-    requires { place < length station.now.obs }
-    ensures here { slice_get station.now.obs place ≡ Some result }
-    ensures set_in { result.set < length station.now.sets }
-    ensures target_in { result.target < length station.now.targets }
-{
-    station.obs()[place]
-}
-
-/// The face differences at a place.
-fn differences_at(faces: &[Faces], place: usize) -> Faces
-    requires { place < length faces.now }
-    ensures { slice_get faces.now place ≡ Some result }
-{
-    faces[place]
 }
 
 /// What the rows of a station share.

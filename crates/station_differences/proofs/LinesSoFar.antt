@@ -6,6 +6,7 @@ use Rattle.std.proofs.Math.Seq.{take-add}
 use Rattle.std.proofs.lemmas.List.{drop_more, length-drop, length-map, length_push}
 use Rattle.std.proofs.lemmas.List.{map-append, take_all, take_more}
 use Rattle.std.proofs.lemmas.List.Elements.{filter_map-append}
+use Rattle.std.proofs.lemmas.Slice.Zip.{all_zipped_more}
 use Rattle.std.specs.List.{AllZip}
 use Rattle.adjust_kernel.specs.Residuals.{Choice}
 use Rattle.adjust_kernel.specs.declared.units.TheConstants.{UNIT}
@@ -16,7 +17,7 @@ use Rattle.station_differences.specs.Differences.{AreDifferences, differences_of
 use Rattle.station_differences.specs.Lines.{HasStated, compared_of, least_on, row_on, target_on}
 use Rattle.station_differences.specs.StatedTargets.{choice_at, stated_directions, stated_places}
 use Rattle.station_differences.specs.declared.line.TargetLine.{TargetLine}
-use Rattle.station_differences.proofs.RowLaws.{one_more, zip_more}
+use Rattle.station_differences.proofs.RowLaws.{one_more}
 
 -- how many directions are stated of these targets
 abbrev pub count_of : List (Option ℤ) → ℕ
@@ -91,8 +92,9 @@ module _ (c : Choice) (targets : List (List ℕ)) (stated : List (Option ℤ)) (
                 ∙ (λ i. far.named i ++ (named i ∷ []))
                 ∙ ap (λ t. take place targets ++ (t ∷ [])) is
                 ∙ sym (take_more targets place target inside);
-            stated_on = zip_more HasStated stated lines place None line also far.stated_on
-                (subst (λ o. HasStated o line) its has);
+            stated_on = rw (take_more stated place None also) (all_zipped_more HasStated
+                (take place stated) lines (get_or stated place None) line far.stated_on
+                (subst (λ o. HasStated o line) its has));
             rounded = subst (λ (xs : List ℕ). (t : ℕ) → t < length xs
                 → IsRounded c t UNIT (get_or xs t 0)) (sym (map-append least_on lines (line ∷ [])))
                 (one_more (λ (t d : ℕ). IsRounded c t UNIT d) (map least_on lines) (least_on line)

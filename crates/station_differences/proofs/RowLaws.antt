@@ -1,10 +1,8 @@
 -- Rows of targets, one after the other.
-use Rattle.std.proofs.Common.{◌≡◌, ℕ, suc, ◌+◌, ◌≤◌, ◌<◌, List, [], ◌∷◌, ◌++◌, length, take}
-use Rattle.std.proofs.Common.{get_or, ℤ, pos, length-append, arith, refl, sym, subst}
-use Rattle.std.proofs.lemmas.List.{get_or_append_left, get_or_push, take_more}
-use Rattle.std.proofs.lemmas.Slice.Zip.{all_zipped_more}
+use Rattle.std.proofs.Common.{◌≡◌, ℕ, ◌<◌, List, [], ◌∷◌, ◌++◌, length, get_or, ℤ, pos}
+use Rattle.std.proofs.Common.{below_more, length-append, arith, refl}
+use Rattle.std.proofs.lemmas.List.{get_or_append_left, get_or_push}
 use Rattle.std.specs.List.{AllZip}
-use native.Mathlib.Decide.{dec_le}
 use Rattle.directions_apart.specs.Arcs.{IsWayRound}
 use Rattle.station_differences.specs.Differences.{differences_of, least_of, names_of, stated_of}
 use Rattle.station_differences.specs.declared.compared.TargetDifference.{TargetDifference}
@@ -14,23 +12,11 @@ use Rattle.station_differences.proofs.DifferenceLaws.{one_way}
 pub one_more : {A : Type 0} (P : ℕ → A → Type 0) (made : List A) (one d : A)
     → ((t : ℕ) → t < length made → P t (get_or made t d)) → P (length made) one
     → (t : ℕ) → t < length (made ++ (one ∷ [])) → P t (get_or (made ++ (one ∷ [])) t d)
-one_more {A} P made one d all last t h = by (dec_le (suc t) (length made))
-  where
-    by : Dec (suc t ≤ length made) → P t (get_or (made ++ (one ∷ [])) t d)
-    by (yes e) = subst (P t) (sym (get_or_append_left made (one ∷ []) d t e)) (all t e)
-    by (no e) =
-        let more = length-append made (one ∷ []) in
-        let here : t ≡ length made = omega (arith, h, e, more) in
-        subst (λ n. P n (get_or (made ++ (one ∷ [])) n d)) (sym here) (subst (P (length made))
-        (sym (get_or_push made one d (length made) refl)) last)
-
--- One pair more, which stands at the next place.
-pub zip_more : {A B : Type 0} (R : A → B → Type 0) (xs : List A) (ys : List B) (i : ℕ) (d : A)
-    (y : B) → i < length xs → AllZip R (take i xs) ys → R (get_or xs i d) y
-    → AllZip R (take (i + 1) xs) (ys ++ (y ∷ []))
-zip_more R xs ys i d y inside h r =
-    subst (λ zs. AllZip R zs (ys ++ (y ∷ []))) (sym (take_more xs i d inside))
-    (all_zipped_more R (take i xs) ys (get_or xs i d) y h r)
+one_more P made one d all last t h =
+    let more = length-append made (one ∷ []) in
+    below_more (λ n. P n (get_or (made ++ (one ∷ [])) n d)) (length made)
+    (λ n l. rw (get_or_append_left made (one ∷ []) d n l) (all n l))
+    (rw (get_or_push made one d (length made) refl) last) t (omega arith)
 
 -- What is on the circle of each of some directions is one list.
 pub one_on_circle : (circle : ℕ) (directions : List ℤ) (a b : List ℕ)

@@ -1,7 +1,7 @@
 -- The stated targets among all: how many, and where.
 use Rattle.std.proofs.Common.{◌≡◌, ◌∙◌, ℕ, zero, suc, ◌+◌, ◌*◌, ◌≤◌, ◌<◌, List, [], ◌∷◌, length}
 use Rattle.std.proofs.Common.{map, All, Option, Some, None, get_or, ℤ, pos, true, arith, ap, refl}
-use Rattle.std.proofs.Common.{subst}
+use Rattle.std.proofs.Common.{subst, sym}
 use Rattle.std.proofs.lemmas.List.{get_or-map, get_or_default}
 use Rattle.std.proofs.lemmas.List.Recursion.{is_count_by}
 use Rattle.std.proofs.Math.IntN.{◌*ℤ◌, ◌-ℤ◌}
@@ -60,19 +60,26 @@ pub record IsPlaceOf (n : ℕ) (stated : List (Option ℤ)) (i : ℕ) : Type 0 w
   pub is : get_or (places_from n stated) i 0 ≡ n + place
   pub here : get_or stated place None ≡ Some (get_or (stated_directions stated) i (pos 0))
 
-pub place_of : (n : ℕ) (stated : List (Option ℤ)) (i : ℕ) → i < length (places_from n stated)
-    → IsPlaceOf n stated i
-place_of n [] i h = absurd (omega (arith, h))
-place_of n (None ∷ stated) i h =
-    let p = place_of (n + 1) stated i h in
+-- A place among targets that stand after one more.
+further : (n : ℕ) (o : Option ℤ) (stated : List (Option ℤ)) (i j : ℕ)
+    → get_or (places_from n (o ∷ stated)) j 0 ≡ get_or (places_from (n + 1) stated) i 0
+    → get_or (stated_directions (o ∷ stated)) j (pos 0) ≡ get_or (stated_directions stated) i (pos 0)
+    → IsPlaceOf (n + 1) stated i → IsPlaceOf n (o ∷ stated) j
+further n o stated i j same direction p =
     let inside = p.inside in
     let is = p.is in
     record {
       place = suc p.place;
       inside = omega (arith, inside);
-      is = omega (arith, is);
-      here = p.here;
+      is = omega (arith, same, is);
+      here = p.here ∙ ap Some (sym direction);
     }
+
+pub place_of : (n : ℕ) (stated : List (Option ℤ)) (i : ℕ) → i < length (places_from n stated)
+    → IsPlaceOf n stated i
+place_of n [] i h = absurd (omega (arith, h))
+place_of n (None ∷ stated) i h =
+    further n None stated i i refl refl (place_of (n + 1) stated i h)
 place_of n (Some d ∷ stated) zero h = record {
   place = 0;
   inside = omega arith;
@@ -80,15 +87,7 @@ place_of n (Some d ∷ stated) zero h = record {
   here = refl;
 }
 place_of n (Some d ∷ stated) (suc i) h =
-    let p = place_of (n + 1) stated i (omega (arith, h)) in
-    let inside = p.inside in
-    let is = p.is in
-    record {
-      place = suc p.place;
-      inside = omega (arith, inside);
-      is = omega (arith, is);
-      here = p.here;
-    }
+    further n (Some d) stated i (suc i) refl refl (place_of (n + 1) stated i (omega (arith, h)))
 
 -- Each is a place of a target.
 pub all_inside : (stated : List (Option ℤ))

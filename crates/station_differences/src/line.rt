@@ -38,6 +38,16 @@ impl TargetLine {
         }
     }
 
+    /// What is stated of the target and its difference, where the table states a direction of it.
+    fn row(&self) -> Option<TargetDifference>
+        ensures { result ≡ spec.row_on self.now }
+    {
+        match self {
+            TargetLine::Compared(row) => Some(*row),
+            TargetLine::Lacking(_) => None,
+        }
+    }
+
     /// The least-squares direction, in units of 0.000000001 gon.
     pub(crate) fn least(&self) -> u64
         ensures { result ≡ spec.least_on self.now }
@@ -58,13 +68,7 @@ pub(crate) fn compared_of(
 ) -> Result<Vec<TargetDifference>, AllocError>
     ensures { IfOk result (λ rows. rows.items ≡ spec.compared_of lines.now) }
 {
-    let mut rows = Vec::with_capacity(alloc, lines.len())?;
-    for line in lines {
-        if let TargetLine::Compared(row) = line {
-            rows.push(*row)?;
-        }
-    }
-    Ok(rows)
+    lines.iter().filter_map(|line| line.row()).collect(alloc)
 }
 
 /// The lines of a table that lacks no target.
@@ -73,9 +77,7 @@ pub(crate) fn compared_of(
 pub fn lines_of(alloc: Global, rows: &[TargetDifference]) -> Result<Vec<TargetLine>, AllocError>
     ensures { IfOk result (λ lines. lines.items ≡ map line.Compared rows.now) }
 {
-    let mut lines = Vec::with_capacity(alloc, rows.len())?;
-    for row in rows {
-        lines.push(TargetLine::Compared(*row))?;
-    }
-    Ok(lines)
+    rows.iter()
+        .map(|row| TargetLine::Compared(*row))
+        .collect(alloc)
 }

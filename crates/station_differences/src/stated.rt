@@ -25,13 +25,11 @@ pub fn is_enough(stated: &[Option<i64>]) -> bool
 pub(crate) fn stated_places(alloc: Global, stated: &[Option<i64>]) -> Result<Vec<usize>, AllocError>
     ensures { IfOk result (λ places. places.items ≡ spec.stated_places stated.now) }
 {
-    let mut places = Vec::with_capacity(alloc, stated.len())?;
-    for (place, direction) in stated.iter().enumerate() {
-        if direction.is_some() {
-            places.push(place)?;
-        }
-    }
-    Ok(places)
+    stated
+        .iter()
+        .enumerate()
+        .filter_map(|(place, direction)| direction.map(|_| place))
+        .collect(alloc)
 }
 
 /// A direction at each place: 0 where none is stated.
@@ -39,20 +37,18 @@ pub(crate) fn at_each_place(alloc: Global, stated: &[Option<i64>]) -> Result<Vec
     ensures { IfOk result (λ directions.
         directions.items ≡ map (λ direction. unwrap_or direction (pos 0)) stated.now) }
 {
-    let mut directions = Vec::with_capacity(alloc, stated.len())?;
-    for direction in stated {
-        directions.push(direction.unwrap_or(0))?;
-    }
-    Ok(directions)
+    stated
+        .iter()
+        .map(|direction| direction.unwrap_or(0))
+        .collect(alloc)
 }
 
 /// All directions of a table that lacks none.
 pub(crate) fn lacking_none(alloc: Global, stated: &[i64]) -> Result<Vec<Option<i64>>, AllocError>
     ensures { IfOk result (λ directions. directions.items ≡ map Some stated.now) }
 {
-    let mut directions = Vec::with_capacity(alloc, stated.len())?;
-    for direction in stated {
-        directions.push(Some(*direction))?;
-    }
-    Ok(directions)
+    stated
+        .iter()
+        .map(|direction| Some(*direction))
+        .collect(alloc)
 }

@@ -2,13 +2,10 @@
 //!
 //! The rows go through `csv`'s writer, which puts quotes where a name asks for them.
 ghost use Rattle.std.specs.Prelude.{◌≡◌, ◌++◌, ◌∷◌, [], ◌-ℤ◌, IfOk, OnOk, OnErr};
-ghost use Rattle.angle_texts.specs.MgonTexts.{mgon_text, sign_text};
+ghost use Rattle.angle_texts.specs.MgonTexts.{sign_text};
 ghost use Rattle.direction_table.specs.Beginnings.{IsBegun};
-ghost use Rattle.direction_table.specs.Texts.{direction_text};
-ghost use Rattle.csv.specs.Writing.{row_text};
-ghost use Rattle.row_forms.specs.Forms.{number_in, rows_text, writer_of};
+ghost use Rattle.row_forms.specs.Forms.{rows_text};
 ghost use Rattle.row_forms.specs.Writing.{Writes};
-ghost use Rattle.row_forms.specs.declared.form.RowForm.{RowForm as Form};
 ghost use Rattle.station_differences.specs.DifferenceTexts as spec;
 ghost use Rattle.station_differences.specs.Lines.{target_on};
 
@@ -18,9 +15,18 @@ use crate::median::median_of;
 use adjust_kernel::{CIRCLE, PARTS, UNIT};
 use angle_texts::{digit, push_gon, push_mgon, push_thousandths};
 use csv::Writer;
-use row_forms::{RowForm, rows_in, set_point, write_row};
+use row_forms::{RowForm, rows_below, set_point, write_row, written_text};
 use std::alloc::{AllocError, Global};
 use std::io::Write;
+
+/// The titles.
+const TITLES: [&[u8]; 5] = [
+    b"target",
+    b"stated",
+    b"least squares",
+    b"difference",
+    b"from the median",
+];
 
 /// The text of the targets of a station, in a form: a row of titles, and a row for each in their
 /// order.
@@ -33,40 +39,9 @@ pub(crate) fn rows_text_of(
 ) -> Result<Vec<u8>, AllocError>
     ensures { IfOk result (λ text. text.items ≡ spec.differences_text form lines.now) }
 {
-    let mut writer = rows_in(form, Vec::new(alloc));
-    push_all(alloc, &mut writer, lines, form)?;
-    writer.into_inner().map_err(|_| AllocError)
-}
-
-/// Writes the titles and the rows.
-fn push_all<W: Write + Drop>(
-    alloc: Global,
-    writer: &mut Writer<W>,
-    lines: &[TargetLine],
-    form: RowForm,
-) -> Result<(), AllocError>
-    ensures { OnOk result (Writes form W.contents writer.old writer.new
-        (spec.differences_text form lines.now)) }
-{
-    push_titles(writer)?;
-    push_rows(alloc, writer, lines, form)
-}
-
-/// Writes the titles.
-fn push_titles<W: Write + Drop>(writer: &mut Writer<W>) -> Result<(), AllocError>
-    ensures { (form : Form) → OnOk result (Writes form W.contents writer.old writer.new
-        (row_text (writer_of form) spec.titles)) }
-{
-    write_row(
-        writer,
-        &[
-            b"target".as_slice(),
-            b"stated".as_slice(),
-            b"least squares".as_slice(),
-            b"difference".as_slice(),
-            b"from the median".as_slice(),
-        ],
-    )
+    let mut writer = rows_below(alloc, &TITLES, form)?;
+    push_rows(alloc, &mut writer, lines, form)?;
+    written_text(writer)
 }
 
 /// Writes the rows of the targets.
@@ -120,73 +95,23 @@ fn numbers_of(
         ≡ target_on line.now ∷ numbers.stated.items ∷ numbers.least.items
         ∷ numbers.difference.items ∷ numbers.from_median.items ∷ []) }
 {
-    let least = least_number(alloc, form, line.least())?;
-    match line {
-        TargetLine::Compared(row) => Ok(Numbers {
-            stated: stated_number(alloc, form, short, row.stated)?,
-            least,
-            difference: difference_number(alloc, form, row.difference)?,
-            from_median: from_median_number(alloc, form, row.difference, median)?,
-        }),
-        TargetLine::Lacking(_) => Ok(Numbers {
-            stated: Vec::new(alloc),
-            least,
-            difference: Vec::new(alloc),
-            from_median: Vec::new(alloc),
-        }),
+    let mut numbers = Numbers {
+        stated: Vec::new(alloc),
+        least: Vec::new(alloc),
+        difference: Vec::new(alloc),
+        from_median: Vec::new(alloc),
+    };
+    push_gon(&mut numbers.least, line.least())?;
+    set_point(&mut numbers.least, form);
+    if let TargetLine::Compared(row) = line {
+        push_stated(&mut numbers.stated, short, row.stated)?;
+        set_point(&mut numbers.stated, form);
+        push_mgon(&mut numbers.difference, row.difference)?;
+        set_point(&mut numbers.difference, form);
+        push_from_median(&mut numbers.from_median, row.difference, median)?;
+        set_point(&mut numbers.from_median, form);
     }
-}
-
-/// A stated direction in a form.
-fn stated_number(
-    alloc: Global,
-    form: RowForm,
-    short: bool,
-    direction: u64,
-) -> Result<Vec<u8>, AllocError>
-    ensures { IfOk result (λ number.
-        number.items ≡ number_in form (spec.stated_text short direction)) }
-{
-    let mut number = Vec::new(alloc);
-    push_stated(&mut number, short, direction)?;
-    set_point(&mut number, form);
-    Ok(number)
-}
-
-/// A least-squares direction in a form.
-fn least_number(alloc: Global, form: RowForm, direction: u64) -> Result<Vec<u8>, AllocError>
-    ensures { IfOk result (λ number. number.items ≡ number_in form (direction_text 6 direction)) }
-{
-    let mut number = Vec::new(alloc);
-    push_gon(&mut number, direction)?;
-    set_point(&mut number, form);
-    Ok(number)
-}
-
-/// A difference in a form.
-fn difference_number(alloc: Global, form: RowForm, difference: i32) -> Result<Vec<u8>, AllocError>
-    ensures { IfOk result (λ number. number.items ≡ number_in form (mgon_text difference)) }
-{
-    let mut number = Vec::new(alloc);
-    push_mgon(&mut number, difference)?;
-    set_point(&mut number, form);
-    Ok(number)
-}
-
-/// A difference less the median in a form.
-fn from_median_number(
-    alloc: Global,
-    form: RowForm,
-    difference: i32,
-    median: i32,
-) -> Result<Vec<u8>, AllocError>
-    ensures { IfOk result (λ number.
-        number.items ≡ number_in form (spec.from_median_text median difference)) }
-{
-    let mut number = Vec::new(alloc);
-    push_from_median(&mut number, difference, median)?;
-    set_point(&mut number, form);
-    Ok(number)
+    Ok(numbers)
 }
 
 /// Adds a difference less the median of all, in mgon: a minus where it is negative, the whole, a
