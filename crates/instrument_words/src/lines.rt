@@ -10,80 +10,49 @@ use crate::instrument::Instrument;
 use report_phrases::{Language, Phrase};
 use std::alloc::AllocError;
 
-/// Adds the first content, and whether there are others.
-fn push_and_others(
+/// Adds what is told: the first content, and, if asked `to_last`, the last where it is another;
+/// else whether there are others.
+fn push_contents(
     text: &mut Vec<u8>,
     language: Language,
     told: Contents<'_>,
+    to_last: bool,
 ) -> Result<(), AllocError>
-    ensures { OnOk result
-        (text.new.items ≡ text.old.items ++ spec.and_others language (contents_value told.entry)) }
+    ensures { OnOk result (text.new.items
+        ≡ text.old.items ++ spec.contents_text to_last language (contents_value told.entry)) }
 {
     text.extend_from_slice(told.first)?;
-    if told.varies {
+    if to_last && told.first != told.last {
+        text.extend_from_slice(Phrase::ToLast.said(language))?;
+        text.extend_from_slice(told.last)?;
+    } else if told.varies {
         text.extend_from_slice(Phrase::AndOthers.said(language))?;
     }
     Ok(())
 }
 
-/// Adds the first content, and the last where it is another; where it is the same, whether there are
-/// others.
-fn push_first_to_last(
-    text: &mut Vec<u8>,
-    language: Language,
-    told: Contents<'_>,
-) -> Result<(), AllocError>
-    ensures { OnOk result (text.new.items
-        ≡ text.old.items ++ spec.first_to_last language (contents_value told.entry)) }
-{
-    if told.first == told.last {
-        return push_and_others(text, language, told);
-    }
-    text.extend_from_slice(told.first)?;
-    text.extend_from_slice(Phrase::ToLast.said(language))?;
-    text.extend_from_slice(told.last)?;
-    Ok(())
-}
-
-/// Adds the line of the instrument, if something is told of it.
-fn push_varying(
+/// Adds the line of what is told of one index, if something is.
+fn push_line(
     text: &mut Vec<u8>,
     language: Language,
     label: Phrase,
     told: Option<Contents<'_>>,
+    to_last: bool,
 ) -> Result<(), AllocError>
     ensures { OnOk result (text.new.items ≡ text.old.items ++ spec.line_text
-        (said language label) (spec.and_others language) (told_value told.entry)) }
+        (said language label) (spec.contents_text to_last language) (told_value told.entry)) }
 {
     let Some(told) = told else {
         return Ok(());
     };
     text.extend_from_slice(label.said(language))?;
-    push_and_others(text, language, told)?;
+    push_contents(text, language, told, to_last)?;
     text.push(b'\n')?;
     Ok(())
 }
 
-/// Adds the line of date or time, if something is told of it.
-fn push_time(
-    text: &mut Vec<u8>,
-    language: Language,
-    label: Phrase,
-    told: Option<Contents<'_>>,
-) -> Result<(), AllocError>
-    ensures { OnOk result (text.new.items ≡ text.old.items ++ spec.line_text
-        (said language label) (spec.first_to_last language) (told_value told.entry)) }
-{
-    let Some(told) = told else {
-        return Ok(());
-    };
-    text.extend_from_slice(label.said(language))?;
-    push_first_to_last(text, language, told)?;
-    text.push(b'\n')?;
-    Ok(())
-}
-
-/// Adds the lines, in a language, of what a field file recorded of instrument and time.
+/// Adds the lines, in a language, of what a field file recorded of instrument and time: of the
+/// instrument the first, of date and time the first to the last.
 ///
 /// The only error is that memory was refused.
 pub fn push_instrument(
@@ -94,10 +63,12 @@ pub fn push_instrument(
     ensures { OnOk result (text.new.items
         ≡ text.old.items ++ spec.instrument_text language (instrument_value told.now)) }
 {
-    push_varying(text, language, Phrase::SerialNumber, told.serial_number)?;
-    push_varying(text, language, Phrase::InstrumentType, told.instrument_type)?;
-    push_time(text, language, Phrase::RecordedDate, told.date)?;
-    push_time(text, language, Phrase::TimeFormatOne, told.time_format_1)?;
-    push_time(text, language, Phrase::TimeFormatTwo, told.time_format_2)?;
+    let (number, kind) = (told.serial_number, told.instrument_type);
+    push_line(text, language, Phrase::SerialNumber, number, false)?;
+    push_line(text, language, Phrase::InstrumentType, kind, false)?;
+    push_line(text, language, Phrase::RecordedDate, told.date, true)?;
+    let (one, two) = (told.time_format_1, told.time_format_2);
+    push_line(text, language, Phrase::TimeFormatOne, one, true)?;
+    push_line(text, language, Phrase::TimeFormatTwo, two, true)?;
     Ok(())
 }

@@ -2,6 +2,7 @@
 -- (profile).
 use Rattle.std.specs.Prelude.{ℕ, ◌+◌, ◌/◌, Bool, false, ◌&&◌, not, List, [], ◌∷◌, ◌++◌, ◌==◌}
 use Rattle.std.specs.Prelude.{if◌then◌else◌, Option, Some, None, codes, decimal}
+use Rattle.std.specs.List.{flat_map}
 use Rattle.std.specs.Str.{bytes_eq}
 use Rattle.station_book.specs.Places.{is_among, with_new}
 use Rattle.set_marks.specs.FaultNames.{mark_kind_name}
@@ -109,14 +110,14 @@ others_text m =
 
 -- that sets which are read by targets are followed by a reading of the target that opens them:
 -- `TOWER is read again after the sets: is a reading of theirs missing?`
-abbrev pub opened_again_text : Remarks → List ℕ
-opened_again_text m =
-    m.opening ++ codes " is read again after the sets: is a reading of theirs missing?"
+abbrev pub opened_again_text : List ℕ → List ℕ
+opened_again_text opening =
+    opening ++ codes " is read again after the sets: is a reading of theirs missing?"
 
 -- the line that says so, where it is so
 abbrev pub opened_again_line : List ℕ → Remarks → List ℕ
 opened_again_line name m =
-    if m.opened_again then note_line name (opened_again_text m) else []
+    if m.opened_again then note_line name (opened_again_text m.opening) else []
 
 -- that two sets are equal: `sets 1 and 3 are the same to the last digit`
 abbrev pub pair_text : SetPair → List ℕ
@@ -126,8 +127,7 @@ pair_text p =
 
 -- the lines of these pairs of sets
 abbrev pub pair_lines : List ℕ → List SetPair → List ℕ
-pair_lines name [] = []
-pair_lines name (p ∷ ps) = note_line name (pair_text p) ++ pair_lines name ps
+pair_lines name pairs = flat_map (λ p. note_line name (pair_text p)) pairs
 
 -- Units of 0.00001 gon in whole mgon, 100 in each: the nearest number, and of two as near the
 -- greater one.
@@ -173,16 +173,18 @@ abbrev pub is_named_again : List ℕ → List Recognized → Bool
 is_named_again name [] = false
 is_named_again name (r ∷ later) = bytes_eq r.name name
 
--- The line of a station without readings, unless its set-up line was written again.
-abbrev pub unread_line : List ℕ → List Recognized → List ℕ
-unread_line name later =
-    if is_named_again name later then [] else note_line name (codes "no readings")
+-- How a station before these others is told, after stations with readings that have these names:
+-- whether it is set up again; a set-up line without readings not at all, where the next one has the
+-- same name.
+abbrev pub told_again : List (List ℕ) → Recognized → List Recognized → Option Bool
+told_again names r later = if has_readings r then Some (is_among names r.name)
+    else if is_named_again r.name later then None else Some false
 
--- what a station is told by its readings, before these others, after stations with readings that
--- have these names
-abbrev pub read_lines : List (List ℕ) → Recognized → List Recognized → List ℕ
-read_lines names r later =
-    if has_readings r then station_lines (is_among names r.name) r else unread_line r.name later
+-- what a station is told by its readings
+abbrev pub read_lines : Option Bool → Recognized → List ℕ
+read_lines None r = []
+read_lines (Some again) r =
+    if has_readings r then station_lines again r else note_line r.name (codes "no readings")
 
 -- how often a set-up line was written again while its station was open:
 -- `set-up line written again 2 times, taken as the same set-up`
@@ -191,11 +193,11 @@ written_again_text count =
     codes "set-up line written again "
     ++ (counted count (codes "time") ++ codes ", taken as the same set-up")
 
--- The lines of a station before these others, after stations with readings that have these names:
--- the last is that its set-up line was written again, where it was.
-abbrev pub next_lines : List (List ℕ) → Recognized → List Recognized → List ℕ
-next_lines names r later =
-    read_lines names r later
+-- The lines of a station, which is told so: the last is that its set-up line was written again,
+-- where it was.
+abbrev pub next_lines : Option Bool → Recognized → List ℕ
+next_lines again r =
+    read_lines again r
     ++ line_of_some r.written_again r.name (written_again_text r.written_again)
 
 -- these names, and that of a station with readings
@@ -206,7 +208,7 @@ names_after names r = if has_readings r then with_new names r.name else names
 abbrev pub stations_text : List (List ℕ) → List Recognized → List ℕ
 stations_text names [] = []
 stations_text names (r ∷ later) =
-    next_lines names r later ++ stations_text (names_after names r) later
+    next_lines (told_again names r later) r ++ stations_text (names_after names r) later
 
 -- the last line: that this is to be compared
 abbrev pub last_line : List ℕ

@@ -4,14 +4,13 @@ ghost use Rattle.std.specs.Prelude.{◌≡◌, ◌++◌, [], IfOk, OnOk, codes, 
 ghost use Rattle.station_mark.specs.Notes.{again_line, are_missing, counted, ends_text, fault_text};
 ghost use Rattle.station_mark.specs.Notes.{faultless_text, flaw_text, has_readings, is_named_again};
 ghost use Rattle.station_mark.specs.Notes.{left_outside_text, line_head, line_of_some, missing_text};
-ghost use Rattle.station_mark.specs.Notes.{unrecognized_text};
-ghost use Rattle.station_mark.specs.Notes.{names_after, next_lines, others_text, outside_text};
-ghost use Rattle.station_mark.specs.Notes.{recognized_text, remarks_lines, sets_text};
-ghost use Rattle.station_mark.specs.Notes.{station_lines, stations_text, unread_line};
-ghost use Rattle.station_mark.specs.Notes.{with_sets_text, without_sets_text};
-ghost use Rattle.station_mark.specs.Notes.{pair_lines, pair_text, zenith_lines, zeniths_text};
-ghost use Rattle.station_mark.specs.Notes.{opened_again_line, opened_again_text, whole_mgon};
-ghost use Rattle.station_mark.specs.Notes.{read_lines, written_again_text};
+ghost use Rattle.station_mark.specs.Notes.{names_after, next_lines, opened_again_line};
+ghost use Rattle.station_mark.specs.Notes.{opened_again_text, others_text, outside_text, pair_lines};
+ghost use Rattle.station_mark.specs.Notes.{pair_text, read_lines, recognized_text, remarks_lines};
+ghost use Rattle.station_mark.specs.Notes.{sets_text, station_lines, stations_text};
+ghost use Rattle.station_mark.specs.Notes.{unrecognized_text, whole_mgon, with_sets_text};
+ghost use Rattle.station_mark.specs.Notes.{without_sets_text, written_again_text, zenith_lines};
+ghost use Rattle.station_mark.specs.Notes.{zeniths_text};
 ghost use Rattle.station_mark.specs.Notes as spec;
 
 use crate::leading::leads_on;
@@ -54,60 +53,65 @@ pub(crate) fn add_stations(
     let mut names = Names::with_room(alloc, stations.len())?;
     let mut left = stations;
     'stations: while let Some((station, later)) = left.split_first() {
-        add_next(text, &mut names, station, later)?;
+        let again = told_again(&mut names, station, later)?;
+        add_next(text, again, station)?;
         left = later;
     }
     Ok(())
 }
 
-/// Adds the lines of a station before these others, after stations with readings that have these
-/// names.
-fn add_next(
-    text: &mut Vec<u8>,
+/// How a station before these others is told, after stations with readings that have these names:
+/// whether it is set up again; a set-up line without readings not at all, where the next one has the
+/// same name. The name of a station with readings is then among them.
+pub(crate) fn told_again(
     names: &mut Names,
     station: &Recognized,
     later: &[Recognized],
-) -> Result<(), AllocError>
-    ensures text { OnOk result (text.new.items
-        ≡ text.old.items ++ next_lines names.old station.now later.now) }
-    ensures names { OnOk result (names.new ≡ names_after names.old station.now) }
-{
-    add_read(text, names, station, later)?;
-    add_written_again(text, station)?;
-    Ok(())
-}
-
-/// Adds what a station is told by its readings.
-fn add_read(
-    text: &mut Vec<u8>,
-    names: &mut Names,
-    station: &Recognized,
-    later: &[Recognized],
-) -> Result<(), AllocError>
-    ensures text { OnOk result (text.new.items
-        ≡ text.old.items ++ read_lines names.old station.now later.now) }
+) -> Result<Option<bool>, AllocError>
+    ensures again { IfOk result
+        (λ again. again ≡ spec.told_again names.old station.now later.now) }
     ensures names { OnOk result (names.new ≡ names_after names.old station.now) }
 {
     if has_readings(station) {
         let again = names.add(&station.name)?;
-        add_station(text, again, station)?;
-    } else {
-        add_unread(text, &station.name, later)?;
+        return Ok(Some(again));
     }
+    if is_named_again(&station.name, later) {
+        return Ok(None);
+    }
+    Ok(Some(false))
+}
+
+/// Adds the lines of a station that is told so.
+fn add_next(text: &mut Vec<u8>, again: Option<bool>, station: &Recognized) -> Result<(), AllocError>
+    ensures { OnOk result (text.new.items ≡ text.old.items ++ next_lines again station.now) }
+{
+    add_read(text, again, station)?;
+    add_written_again(text, &station.name, station.written_again)?;
     Ok(())
 }
 
-/// Adds the line of a station whose set-up line was written again, where it was.
-fn add_written_again(text: &mut Vec<u8>, station: &Recognized) -> Result<(), AllocError>
-    ensures { OnOk result (text.new.items ≡ text.old.items
-        ++ line_of_some station.now.written_again station.now.name
-        (written_again_text station.now.written_again)) }
+/// Adds what a station is told by its readings.
+fn add_read(text: &mut Vec<u8>, again: Option<bool>, station: &Recognized) -> Result<(), AllocError>
+    ensures { OnOk result (text.new.items ≡ text.old.items ++ read_lines again station.now) }
 {
-    if station.written_again == 0 {
+    match again {
+        Some(again) if has_readings(station) => add_station(text, again, station),
+        Some(_) => add_line(text, &station.name, b"no readings"),
+        None => Ok(()),
+    }
+}
+
+/// Adds the line of a station whose set-up line was written again so often, where it was.
+fn add_written_again(text: &mut Vec<u8>, name: &Name, count: usize) -> Result<(), AllocError>
+    ensures { OnOk result (text.new.items
+        ≡ text.old.items ++ line_of_some count name.now (written_again_text count)) }
+{
+    if count == 0 {
         return Ok(());
     }
-    add_head(text, &station.name)?;
-    add_times(text, station.written_again)?;
+    add_head(text, name)?;
+    add_times(text, count)?;
     text.extend_from_slice(b"\n")?;
     Ok(())
 }
@@ -123,7 +127,7 @@ fn add_times(text: &mut Vec<u8>, count: usize) -> Result<(), AllocError>
 }
 
 /// Whether readings follow the set-up line of a station.
-pub(crate) fn has_readings(station: &Recognized) -> bool
+fn has_readings(station: &Recognized) -> bool
     ensures { result ≡ has_readings station.now }
 {
     !(station.sets == 0 && station.before == 0)
@@ -151,23 +155,13 @@ fn add_again(text: &mut Vec<u8>, again: bool, name: &Name) -> Result<(), AllocEr
 }
 
 /// Whether the next set-up line has the same name.
-pub(crate) fn is_named_again(name: &Name, later: &[Recognized]) -> bool
+fn is_named_again(name: &Name, later: &[Recognized]) -> bool
     ensures { result ≡ is_named_again name.now later.now }
 {
     match later.first() {
         Some(next) => next.name.is_same(name),
         None => false,
     }
-}
-
-/// Adds the line of a station without readings, unless its set-up line was written again.
-fn add_unread(text: &mut Vec<u8>, name: &Name, later: &[Recognized]) -> Result<(), AllocError>
-    ensures { OnOk result (text.new.items ≡ text.old.items ++ unread_line name.now later.now) }
-{
-    if !is_named_again(name, later) {
-        add_line(text, name, b"no readings")?;
-    }
-    Ok(())
 }
 
 /// Adds the line that tells this of a station.
@@ -385,8 +379,7 @@ fn add_others(text: &mut Vec<u8>, name: &Name, remarks: &Remarks) -> Result<(), 
     }
     add_head(text, name)?;
     add_counted(text, remarks.others, b" target", b" targets")?;
-    text.extend_from_slice(b" after the sets in both faces: of another station?")?;
-    text.extend_from_slice(b"\n")?;
+    text.extend_from_slice(b" after the sets in both faces: of another station?\n")?;
     Ok(())
 }
 
@@ -400,16 +393,16 @@ fn add_opened_again(text: &mut Vec<u8>, name: &Name, remarks: &Remarks) -> Resul
         return Ok(());
     }
     add_head(text, name)?;
-    add_opening(text, remarks)?;
+    add_opening(text, &remarks.opening)?;
     text.extend_from_slice(b"\n")?;
     Ok(())
 }
 
 /// Adds that the target that opens the sets is read after them.
-fn add_opening(text: &mut Vec<u8>, remarks: &Remarks) -> Result<(), AllocError>
-    ensures { OnOk result (text.new.items ≡ text.old.items ++ opened_again_text remarks.now) }
+fn add_opening(text: &mut Vec<u8>, opening: &Name) -> Result<(), AllocError>
+    ensures { OnOk result (text.new.items ≡ text.old.items ++ opened_again_text opening.now) }
 {
-    text.extend_from_slice(remarks.opening.bytes())?;
+    text.extend_from_slice(opening.bytes())?;
     text.extend_from_slice(b" is read again after the sets: is a reading of theirs missing?")?;
     Ok(())
 }
@@ -418,13 +411,20 @@ fn add_opening(text: &mut Vec<u8>, remarks: &Remarks) -> Result<(), AllocError>
 fn add_pairs(text: &mut Vec<u8>, name: &Name, pairs: &[SetPair]) -> Result<(), AllocError>
     ensures { OnOk result (text.new.items ≡ text.old.items ++ pair_lines name.now pairs.now) }
 {
-    let mut left = pairs;
-    'pairs: while let Some((pair, rest)) = left.split_first() {
-        add_head(text, name)?;
-        add_pair(text, pair)?;
-        text.extend_from_slice(b"\n")?;
-        left = rest;
+    for pair in pairs {
+        add_pair_line(text, name, pair)?;
     }
+    Ok(())
+}
+
+/// Adds the line of two sets that are equal.
+fn add_pair_line(text: &mut Vec<u8>, name: &Name, pair: &SetPair) -> Result<(), AllocError>
+    ensures { OnOk result
+        (text.new.items ≡ text.old.items ++ spec.note_line name.now (pair_text pair.now)) }
+{
+    add_head(text, name)?;
+    add_pair(text, pair)?;
+    text.extend_from_slice(b"\n")?;
     Ok(())
 }
 

@@ -8,21 +8,20 @@ use Rattle.station_mark.proofs.copy.print_copy.Goals as goal
 
 pub marks-preserved : goal.marks-preserved
 marks-preserved g c =
-    let m = c.in-Some.mark.now in
-    let rest = c.in-Some.rest.now in
-    let bytes = c.args.bytes.now in
-    let split : c.marks.left.now ≡ m ∷ rest = search rules in
-    let line : line_of m ≡ c.as_slice.result.now =
+    let split : c.marks.left.now ≡ c.in-Some.mark.now ∷ c.in-Some.rest.now = search rules in
+    let line : line_of c.in-Some.mark.now ≡ c.as_slice.result.now =
     sym (c.as_slice.ensures.value ∙ c.code_line.ensures) in
-    let ordered : AreOrdered c.marks.from (length bytes) (m ∷ rest) =
-    subst (λ (ms : List Mark). AreOrdered c.marks.from (length bytes) ms) split
+    let ordered : AreOrdered c.marks.from (length c.args.bytes.now)
+    (c.in-Some.mark.now ∷ c.in-Some.rest.now) =
+    subst (λ (ms : List Mark). AreOrdered c.marks.from (length c.args.bytes.now) ms) split
     c.marks.invariant.ordered in
     record {
       text = partway_then _ _ _ _ _ _ _ _ _ _
           (partway_then _ _ _ _ _ _ _ _ _ _ c.marks.invariant.text c.in_ok-print.ensures.ok
-          (next_piece c.marks.from bytes c.marks.left.now rest m split))
+          (next_piece c.marks.from c.args.bytes.now c.marks.left.now _ _ split))
           c.in_ok-print-2.ensures.ok
-          (ap (λ (t : List _). t ++ woven m.at bytes rest) line);
+          (ap (λ (t : List _). t ++ woven c.in-Some.mark.now.at c.args.bytes.now c.in-Some.rest.now)
+          line);
       ordered = ordered.3;
       failed = c.in_ok-print-2.ensures.failed ∙ c.in_ok-print.ensures.failed
           ∙ c.marks.invariant.failed;
@@ -30,27 +29,22 @@ marks-preserved g c =
 
 pub returns-in_err-print-clause-cut_short : goal.returns-in_err-print-clause-cut_short
 returns-in_err-print-clause-cut_short g c =
-    let m = c.in-Some.mark.now in
-    let rest = c.in-Some.rest.now in
-    let split : c.marks.left.now ≡ m ∷ rest = search rules in
+    let split : c.marks.left.now ≡ c.in-Some.mark.now ∷ c.in-Some.rest.now = search rules in
     in_any_case c.from_residual.result
     (partway_then_some _ _ _ _ _ _ _ _ _ c.marks.invariant.text c.in_err-print.ensures.cut_short
-    (next_piece c.marks.from c.args.bytes.now c.marks.left.now rest m split))
+    (next_piece c.marks.from c.args.bytes.now c.marks.left.now _ _ split))
 
 pub returns-in_err-print-2-clause-cut_short : goal.returns-in_err-print-2-clause-cut_short
 returns-in_err-print-2-clause-cut_short g c =
-    let m = c.in-Some.mark.now in
-    let rest = c.in-Some.rest.now in
-    let bytes = c.args.bytes.now in
-    let split : c.marks.left.now ≡ m ∷ rest = search rules in
-    let line : line_of m ≡ c.as_slice.result.now =
+    let split : c.marks.left.now ≡ c.in-Some.mark.now ∷ c.in-Some.rest.now = search rules in
+    let line : line_of c.in-Some.mark.now ≡ c.as_slice.result.now =
     sym (c.as_slice.ensures.value ∙ c.code_line.ensures) in
     in_any_case c.from_residual-in_err-print-2.result
     (partway_then_some _ _ _ _ _ _ _ _ _
     (partway_then _ _ _ _ _ _ _ _ _ _ c.marks.invariant.text c.in_ok-print.ensures.ok
-    (next_piece c.marks.from bytes c.marks.left.now rest m split))
+    (next_piece c.marks.from c.args.bytes.now c.marks.left.now _ _ split))
     c.in_err-print-2.ensures.cut_short
-    (ap (λ (t : List _). t ++ woven m.at bytes rest) line))
+    (ap (λ (t : List _). t ++ woven c.in-Some.mark.now.at c.args.bytes.now c.in-Some.rest.now) line))
 
 pub returns-clause-ok : goal.returns-clause-ok
 returns-clause-ok g c =

@@ -1,10 +1,9 @@
-use Rattle.std.proofs.Common.{◌≡◌, ◌++◌, length}
-use Rattle.station_mark.specs.ToldRows.{pair_rows}
+use Rattle.std.proofs.Common.{◌≡◌, ◌++◌, drop}
+use Rattle.std.specs.List.{flat_map}
+use Rattle.station_mark.specs.ToldRows.{pair_row}
 use Rattle.station_mark.proofs.rows.add_pairs.Given as goal
 
-abbrev pub invariant-pairs : goal.invariant-pairs
-invariant-pairs l =
-    l.text.items ++ pair_rows l.station l.left ≡ l.fn.text.items ++ pair_rows l.station l.pairs
-
-abbrev pub decreases-pairs : goal.decreases-pairs
-decreases-pairs l = length l.left
+abbrev pub invariant-loop-pair : goal.invariant-loop-pair
+invariant-loop-pair l =
+    l.text.items ++ flat_map (pair_row l.station) (drop l.pair-index l.pairs)
+    ≡ l.fn.text.items ++ flat_map (pair_row l.station) l.pairs

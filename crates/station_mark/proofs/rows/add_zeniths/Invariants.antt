@@ -1,11 +1,9 @@
-use Rattle.std.proofs.Common.{◌≡◌, ◌++◌, length}
-use Rattle.station_mark.specs.ToldRows.{zenith_rows}
+use Rattle.std.proofs.Common.{◌≡◌, ◌++◌, drop}
+use Rattle.std.specs.List.{flat_map}
+use Rattle.station_mark.specs.ToldRows.{zenith_row}
 use Rattle.station_mark.proofs.rows.add_zeniths.Given as goal
 
-abbrev pub invariant-targets : goal.invariant-targets
-invariant-targets l =
-    l.text.items ++ zenith_rows l.station l.left
-    ≡ l.fn.text.items ++ zenith_rows l.station l.ranges
-
-abbrev pub decreases-targets : goal.decreases-targets
-decreases-targets l = length l.left
+abbrev pub invariant-loop-range : goal.invariant-loop-range
+invariant-loop-range l =
+    l.text.items ++ flat_map (zenith_row l.station) (drop l.range-index l.ranges)
+    ≡ l.fn.text.items ++ flat_map (zenith_row l.station) l.ranges
