@@ -30,8 +30,10 @@ use Rattle.station_check.specs.Means.{WritesMeans}
 use Rattle.station_check.specs.Promise.{KeepsPromise}
 use Rattle.station_check.specs.Words.{WritesWords}
 use Rattle.station_check.specs.declared.runs.TheConstants.{ACCEPTED, REFUSED}
+use Rattle.station_check.specs.VerdictLines.{refusal_line}
 use Rattle.station_check.specs.declared.verdict_line.TheConstants.{LONGEST_VERDICT_LINE}
 use Rattle.station_compare.specs.Answers.{Compares}
+use Rattle.station_compare.specs.FaultTexts as compare
 use Rattle.station_compare.specs.declared.agreement.Agreement.{Agreement}
 use Rattle.station_compare.specs.declared.fault.CompareFault.{CompareFault}
 use Rattle.station_differences.specs.declared.line_form.LineForm.TheVariants.{Rows}
@@ -50,6 +52,7 @@ use Rattle.table_answers.specs.Wholes.{IsWhole, WholeValue, verdict_parts}
 use Rattle.table_answers.specs.declared.compared.Compared.{Compared}
 use Rattle.table_report.specs.Stating.{ReportAsked}
 use Rattle.direction_table.specs.declared.reading.TheConstants.{LONGEST_TABLE}
+use Rattle.table_titles.specs.FaultTexts.{titles_line}
 use Rattle.table_titles.specs.declared.fault.TitlesFault.{TitlesFault}
 use Rattle.table_titles.specs.declared.fault.TitlesFault.TheVariants.{TooLong}
 use Rattle.changed_lines.specs.Answers.{IsChanged, IsFault}
@@ -57,19 +60,17 @@ use Rattle.changed_lines.specs.Sayings.{SayChanges}
 use Rattle.changed_lines.specs.declared.change.Change.{Change}
 use Rattle.changed_lines.specs.declared.fault.ChangeFault.{ChangeFault}
 use Rattle.changed_lines.specs.declared.fault.ChangeFault.TheVariants as change
-use Rattle.station_page.specs.Changes.{copy_or_refusal}
 use Rattle.station_change.specs.FaultTexts.{change_line}
-use Rattle.station_page.specs.Explained.{AnswersLine, explanation_or_refusal}
+use Rattle.station_page.specs.Explained.{AnswersLine, unexplained_line}
 use Rattle.station_page.specs.HandedOut.{HandsOut, HandsOutMade, verdict_line, text_or_refusal}
-use Rattle.station_page.specs.HandedOut.{comparison_line, listed_or_refusal, refusal_text}
-use Rattle.station_page.specs.HandedOut.{table_or_refusal}
+use Rattle.station_page.specs.HandedOut.{comparison_line, refusal_text, text_or}
 use Rattle.station_page.specs.Limits.{States, stated_limit}
 use Rattle.station_page.specs.Listed.{TellsListed}
 use Rattle.station_page.specs.Marked.{Marks, copy_text, untold_text}
 use Rattle.station_page.specs.Placed.{IsPlaceText}
 use Rattle.station_page.specs.Recorded.{IsRecorded}
 use Rattle.station_page.specs.TextRecords.{AreTheRecords}
-use Rattle.station_page.specs.Titled.{TellsColumns, columns_or_line}
+use Rattle.station_page.specs.Titled.{TellsColumns}
 use Rattle.station_page.specs.declared.explain.ExplainedAs.{ExplainedAs}
 use Rattle.station_page.specs.declared.explain.Unexplained.{Unexplained}
 use Rattle.station_page.specs.declared.hand_out.TheConstants.{OUT_OF_RANGE}
@@ -134,7 +135,7 @@ pub record IsListRowsOf (two_c two_i : ℕ) (gsi : List ℕ) (room answered : �
   pub states : States two_c two_i limits
   pub answer : Result (List ℕ) Fault
   pub tells : TellsListed limits (file_answers (source_of gsi)) answer
-  pub hands_out : HandsOut (status_of answer) (listed_or_refusal answer) room answered shown
+  pub hands_out : HandsOut (status_of answer) (text_or refusal_line answer) room answered shown
 
 -- The status and the text are those of what is answered of the station of this name in these bytes,
 -- by the largest limit of residuals.
@@ -145,7 +146,8 @@ pub record IsTextOf (Says : ResultLimits → SurveyedStation → List ℕ → Ty
   pub answer : Result (List ℕ) CompareFault
   pub tells : TellsOf (Says (of_faces limits)) (of_faces limits) (file_answers (source_of gsi))
       name answer
-  pub hands_out : HandsOut (status_of answer) (table_or_refusal answer) room answered shown
+  pub hands_out : HandsOut (status_of answer) (text_or compare.refusal_line answer) room answered
+      shown
 
 -- It is the table of its least-squares directions, with so many decimals.
 abbrev pub IsDirectionsOf : ℕ → ℕ → List ℕ → List ℕ → ℕ → ℕ → ℕ → List ℕ → Type 0
@@ -196,74 +198,86 @@ abbrev pub note_of : {V : Type 0} → Result (V × List ℕ) CompareFault → Li
 note_of (Ok noted) = noted.1
 note_of (Err fault) = []
 
--- The status and the line are those of the comparison of these bytes of a table, read in this form,
--- with the station of this name in these bytes of a field file, by the largest limit of residuals,
--- of which the whole promise is kept; the note is that of the table, and a refusal before it was
--- compared has none. With room for the longest line of a verdict and for the note it is answered.
-pub record IsComparisonOf (two_c two_i : ℕ) (form : TableForm) (within : Option ℕ)
-    (gsi table name : List ℕ) (note_room : ℕ) (note : List ℕ) (room answered : ℕ) (shown : List ℕ)
-    : Type 0 where
-  pub limits : FaceLimits
-  pub states : States two_c two_i limits
-  pub answer : Result (Compared × List ℕ) CompareFault
-  pub tells : TellsBeside (Noting (SaysComparison form within (of_faces limits)) form)
-      (RefusesComparison form (of_faces limits)) (of_faces limits) (file_answers (source_of gsi))
-      (source_of table) name answer
-  pub compares : Compares form (of_faces limits) (file_answers (source_of gsi)) (source_of table)
-      name within (noted_verdict answer)
-  pub status : ℕ
-  pub hands_line_out : HandsOut (status_of (noted_verdict answer))
-      (comparison_line (noted_verdict answer)) room status shown
-  pub hands_note_out : HandsOut status (note_of answer) note_room answered note
-  pub answers : LONGEST_VERDICT_LINE ≤ room → length (note_of answer) ≤ note_room → answered < 2
-
--- An answer without the note of its table.
-abbrev pub answer_alone : Result (List ℕ × List ℕ) CompareFault → Result (List ℕ) CompareFault
+-- an answer without the note of its table
+abbrev pub answer_alone : {V : Type 0} → Result (V × List ℕ) CompareFault → Result V CompareFault
 answer_alone (Ok noted) = Ok noted.0
 answer_alone (Err fault) = Err fault
 
--- The status and the text are those of the differences of these bytes of a table, read in this form,
--- from the station of this name in these bytes of a field file, target by target, by the largest
--- limit of residuals, as rows of this form; the note is that of the table, and a refusal has none.
-pub record IsDifferencesOf (rows : RowForm) (two_c two_i : ℕ) (form : TableForm)
-    (gsi table name : List ℕ) (note_room : ℕ) (note : List ℕ) (room answered : ℕ)
-    (shown : List ℕ) : Type 0 where
+-- The status and the text are those of what is said of these bytes of a table, read in this form,
+-- beside the station of this name in these bytes of a field file, by the largest limit of residuals;
+-- the note is that of the table, and a refusal before it was compared has none. With room that is
+-- enough for any such text, if there is such room, and for the note it is answered.
+pub record IsBeside {V : Type 0} (Says : ResultLimits → SurveyedStation → List ℕ → V → Type 0)
+    (Refuses : ResultLimits → SurveyedStation → List ℕ → CompareFault → Type 0) (form : TableForm)
+    (status_in : Result V CompareFault → ℕ) (text_in : Result V CompareFault → List ℕ)
+    (IsEnough : ℕ → Type 0) (two_c two_i : ℕ) (gsi table name : List ℕ) (note_room : ℕ)
+    (note : List ℕ) (room answered : ℕ) (shown : List ℕ) : Type 0 where
   pub limits : FaceLimits
   pub states : States two_c two_i limits
-  pub answer : Result (List ℕ × List ℕ) CompareFault
-  pub tells : TellsBeside (Noting (SaysDifferences form (Rows rows)) form)
-      (RefusesDifferences form (of_faces limits)) (of_faces limits) (file_answers (source_of gsi))
-      (source_of table) name answer
+  pub answer : Result (V × List ℕ) CompareFault
+  pub tells : TellsBeside (Noting (Says (of_faces limits)) form) (Refuses (of_faces limits))
+      (of_faces limits) (file_answers (source_of gsi)) (source_of table) name answer
   pub status : ℕ
-  pub hands_text_out : HandsOut (status_of answer) (table_or_refusal (answer_alone answer)) room
-      status shown
+  pub hands_text_out : HandsOut (status_in (answer_alone answer)) (text_in (answer_alone answer))
+      room status shown
   pub hands_note_out : HandsOut status (note_of answer) note_room answered note
+  pub answers : IsEnough room → length (note_of answer) ≤ note_room → answered < 2
 
--- the parts of an answer: of a table that was compared its text; of a refusal its line and its row
-abbrev pub parts_of : Result (WholeValue × List ℕ) CompareFault → List ℕ
-parts_of (Ok noted) = noted.0.text
-parts_of (Err fault) = verdict_parts (Err fault)
+-- no room is enough for each text
+abbrev pub IsNeverEnough : ℕ → Type 0
+IsNeverEnough room = ⊥
 
 -- the verdict of an answer
-abbrev pub whole_verdict : Result (WholeValue × List ℕ) CompareFault → Result Agreement CompareFault
-whole_verdict (Ok noted) = verdict noted.0.compared
-whole_verdict (Err fault) = Err fault
+abbrev pub compared_verdict : Result Compared CompareFault → Result Agreement CompareFault
+compared_verdict (Ok compared) = verdict compared
+compared_verdict (Err fault) = Err fault
 
--- The status and the text are those of all that is answered of these bytes of a table beside the
--- station of this name in these bytes of a field file, as its report is asked for, by the largest
--- limit of residuals; the note is that of the table, and a refusal before it was compared has none.
-pub record IsTableOf (two_c two_i : ℕ) (asked : ReportAsked) (gsi table name : List ℕ)
-    (note_room : ℕ) (note : List ℕ) (room answered : ℕ) (shown : List ℕ) : Type 0 where
-  pub limits : FaceLimits
-  pub states : States two_c two_i limits
-  pub answer : Result (WholeValue × List ℕ) CompareFault
-  pub tells : TellsBeside (Noting (IsWhole asked (of_faces limits)) asked.form)
-      (RefusesComparison asked.form (of_faces limits)) (of_faces limits)
-      (file_answers (source_of gsi)) (source_of table) name answer
-  pub status : ℕ
-  pub hands_text_out : HandsOut (status_of (whole_verdict answer)) (parts_of answer) room status
-      shown
-  pub hands_note_out : HandsOut status (note_of answer) note_room answered note
+-- the status of a comparison
+abbrev pub comparison_status : Result Compared CompareFault → ℕ
+comparison_status answer = status_of (compared_verdict answer)
+
+-- its line
+abbrev pub comparison_text : Result Compared CompareFault → List ℕ
+comparison_text answer = comparison_line (compared_verdict answer)
+
+-- room for the longest line of a verdict
+abbrev pub IsRoomForLine : ℕ → Type 0
+IsRoomForLine room = LONGEST_VERDICT_LINE ≤ room
+
+-- The status and the line are those of the comparison, of which the whole promise is kept. With room
+-- for the longest line of a verdict and for the note it is answered.
+pub record IsComparisonOf (two_c two_i : ℕ) (form : TableForm) (within : Option ℕ)
+    (gsi table name : List ℕ) (note_room : ℕ) (note : List ℕ) (room answered : ℕ) (shown : List ℕ)
+    : Type 0 where
+  pub beside : IsBeside (SaysComparison form within) (RefusesComparison form) form
+      comparison_status comparison_text IsRoomForLine two_c two_i gsi table name note_room note room
+      answered shown
+  pub compares : Compares form (of_faces beside.limits) (file_answers (source_of gsi))
+      (source_of table) name within (noted_verdict beside.answer)
+
+-- It is the differences, target by target, as rows of this form.
+abbrev pub IsDifferencesOf : RowForm → ℕ → ℕ → TableForm → List ℕ → List ℕ → List ℕ → ℕ → List ℕ
+    → ℕ → ℕ → List ℕ → Type 0
+IsDifferencesOf rows two_c two_i form =
+    IsBeside (λ limits. SaysDifferences form (Rows rows)) (RefusesDifferences form) form status_of
+    (text_or compare.refusal_line) IsNeverEnough two_c two_i
+
+-- the parts of an answer: of a table that was compared its text; of a refusal its line and its row
+abbrev pub parts_of : Result WholeValue CompareFault → List ℕ
+parts_of (Ok whole) = whole.text
+parts_of (Err fault) = verdict_parts (Err fault)
+
+-- the status of its verdict
+abbrev pub whole_status : Result WholeValue CompareFault → ℕ
+whole_status (Ok whole) = status_of (verdict whole.compared)
+whole_status (Err fault) = REFUSED
+
+-- It is all that is answered of both, as its report is asked for.
+abbrev pub IsTableOf : ℕ → ℕ → ReportAsked → List ℕ → List ℕ → List ℕ → ℕ → List ℕ → ℕ → ℕ
+    → List ℕ → Type 0
+IsTableOf two_c two_i asked =
+    IsBeside (IsWhole asked) (RefusesComparison asked.form) asked.form whole_status parts_of
+    IsNeverEnough two_c two_i
 
 -- The status, the copy and what is told of it in this form, or the refusal, are those of putting
 -- codes into these bytes, by beginnings and by what is stated of the file.
@@ -309,20 +323,15 @@ pub record IsDigestOf (file name : List ℕ) (room answered : ℕ) (shown : List
   pub hands_out : HandsOut ACCEPTED (digest_line (sha256 file) name) room answered shown
   pub answers : MOST_BESIDE_NAME + 2 * length name ≤ room → answered ≡ ACCEPTED
 
--- The status and the text are those of the explanation that a line asks for, of the faults of a
--- table.
-pub record IsExplanationFrom (form : ExplainedAs) (table : List (Bor (List Explanation)))
-    (line : List ℕ) (room answered : ℕ) (shown : List ℕ) : Type 0 where
-  pub answer : Result (List ℕ) Unexplained
-  pub answers : AnswersLine form table line answer
-  pub hands_out : HandsOut (status_of answer) (explanation_or_refusal answer) room answered shown
-
--- The same of the faults of the program's own table.
+-- The status and the text are those of the explanation that a line asks for, of the faults of the
+-- program's own table.
 pub record IsExplanationOf (form : ExplainedAs) (line : List ℕ) (room answered : ℕ)
     (shown : List ℕ) : Type 0 where
   pub table : List (Bor (List Explanation))
   pub is_the_table : IsTheTable table
-  pub explains : IsExplanationFrom form table line room answered shown
+  pub answer : Result (List ℕ) Unexplained
+  pub answers : AnswersLine form table line answer
+  pub hands_out : HandsOut (status_of answer) (text_or unexplained_line answer) room answered shown
 
 -- The status and the text are those of the columns of this table with these titles; or memory ran
 -- out, but not for one that is too long.
@@ -331,7 +340,7 @@ pub record IsColumnsOf (targets directions table : List ℕ) (room answered : �
   pub answer : Result (List ℕ) TitlesFault
   pub tells : TellsColumns targets directions table answer
   pub too_long : LONGEST_TABLE < length table → answer ≡ Err TooLong
-  pub hands_out : HandsOut (status_of answer) (columns_or_line answer) room answered shown
+  pub hands_out : HandsOut (status_of answer) (text_or titles_line answer) room answered shown
 
 -- The text is that of where the line of a refusal stands in these bytes of a field file and of
 -- another file; or memory ran out.
@@ -358,7 +367,7 @@ pub record IsChangeOf (gsi changes : List ℕ) (room answered : ℕ) (shown : Li
   pub say : SayChanges changes cs
   pub answer : Result (List ℕ) ChangeFault
   pub answers : Changes gsi cs answer
-  pub hands_out : HandsOut (status_of answer) (copy_or_refusal answer) room answered shown
+  pub hands_out : HandsOut (status_of answer) (text_or change_line answer) room answered shown
 
 -- The bytes say no changes: nothing is handed out, and the status says so.
 pub record SaysNone (changes : List ℕ) (answered : ℕ) (shown : List ℕ) : Type 0 where

@@ -72,8 +72,3 @@ abbrev pub unexplained_line : Unexplained → List ℕ
 unexplained_line NotUtf8 = codes "refused: not UTF-8\n"
 unexplained_line NoName = codes "refused: no such fault\n"
 unexplained_line Memory = refusal_line check.Memory
-
--- the text that explains, or the line of the refusal in its place
-abbrev pub explanation_or_refusal : Result (List ℕ) Unexplained → List ℕ
-explanation_or_refusal (Ok text) = text
-explanation_or_refusal (Err why) = unexplained_line why

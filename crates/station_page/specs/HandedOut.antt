@@ -54,15 +54,15 @@ abbrev pub verdict_line : Result Accepted Fault → List ℕ
 verdict_line (Ok accepted) = accepted_line accepted
 verdict_line (Err fault) = refusal_line fault
 
+-- the text of an answer, or the line of the refusal in its place
+abbrev pub text_or : {F : Type 0} → (F → List ℕ) → Result (List ℕ) F → List ℕ
+text_or line (Ok text) = text
+text_or line (Err fault) = line fault
+
 -- the text of an answer; of a refusal its line, in the place of any text
 abbrev pub text_or_refusal : {A : Type 0} → List ℕ → Result A Fault → List ℕ
 text_or_refusal text (Ok x) = text
 text_or_refusal text (Err fault) = refusal_line fault
-
--- the text that is answered of a list as rows; or the line of the refusal in its place
-abbrev pub listed_or_refusal : Result (List ℕ) Fault → List ℕ
-listed_or_refusal (Ok text) = text
-listed_or_refusal (Err fault) = refusal_line fault
 
 -- the line of a refusal, where the answer is one
 abbrev pub refusal_text : {A : Type 0} → Result A Fault → List ℕ
@@ -73,9 +73,3 @@ refusal_text (Err fault) = refusal_line fault
 abbrev pub comparison_line : Result Agreement CompareFault → List ℕ
 comparison_line (Ok agreement) = agreement_line agreement
 comparison_line (Err fault) = compare.refusal_line fault
-
--- the table that is answered, of directions, residuals or differences, or the report; or the line
--- of the refusal in its place
-abbrev pub table_or_refusal : Result (List ℕ) CompareFault → List ℕ
-table_or_refusal (Ok table) = table
-table_or_refusal (Err fault) = compare.refusal_line fault

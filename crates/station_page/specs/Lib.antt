@@ -5,7 +5,6 @@ pub mod Forms
 pub mod Asked
 pub mod Statements
 pub mod Marked
-pub mod Changes
 pub mod Listed
 pub mod Placed
 pub mod Languages

@@ -1,7 +1,6 @@
 -- The two columns of a table by their titles, as they are handed out (profile).
 use Rattle.std.specs.Prelude.{◌≡◌, ◌⊎◌, ◌+◌, ◌++◌, ℕ, List, Result, Ok, Err, codes, decimal}
 use Rattle.direction_table.specs.declared.form.ColumnPair.{ColumnPair}
-use Rattle.table_titles.specs.FaultTexts.{titles_line}
 use Rattle.table_titles.specs.Titles.{columns_by_titles}
 use Rattle.table_titles.specs.declared.fault.TitlesFault.{TitlesFault}
 use Rattle.table_titles.specs.declared.fault.TitlesFault.TheVariants.{Memory}
@@ -20,8 +19,3 @@ pair_or_fault (Err fault) = Err fault
 abbrev pub TellsColumns : List ℕ → List ℕ → List ℕ → Result (List ℕ) TitlesFault → Type 0
 TellsColumns targets directions table answer =
     (answer ≡ pair_or_fault (columns_by_titles targets directions table)) ⊎ (answer ≡ Err Memory)
-
--- the columns; or the line of the refusal in their place
-abbrev pub columns_or_line : Result (List ℕ) TitlesFault → List ℕ
-columns_or_line (Ok text) = text
-columns_or_line (Err fault) = titles_line fault

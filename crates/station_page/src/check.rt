@@ -1,6 +1,6 @@
 //! The check of a sheet, for a page.
 
-ghost use Rattle.std.specs.Prelude.{◌≡◌, ◌<◌, ◌≤◌, length, IfNone, IfSome};
+ghost use Rattle.std.specs.Prelude.{◌<◌, ◌≤◌, SomeIff, length};
 ghost use Rattle.station_check.specs.RunEndings.{status_of};
 ghost use Rattle.station_check.specs.declared.verdict_line.TheConstants.{LONGEST_VERDICT_LINE};
 ghost use Rattle.station_page.specs.Answers.{IsCheckOf};
@@ -50,9 +50,7 @@ pub extern "C" fn station_page_check(
 
 /// The residual limit, where it is said that one is stated, unless it is above the largest.
 fn residual_limit(is_stated: bool, residual: u32) -> Option<Option<ResidualLimit>>
-    ensures limit { IfSome result (λ limit. limit ≡ stated_limit is_stated residual) }
-    ensures valid { IfSome result (λ _. IsResidualLimit is_stated residual) }
-    ensures none { IfNone result (IsResidualLimit is_stated residual → ⊥) }
+    ensures { SomeIff result (IsResidualLimit is_stated residual) (stated_limit is_stated residual) }
 {
     if !is_stated {
         return Some(None);

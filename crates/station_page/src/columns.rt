@@ -1,19 +1,19 @@
 //! The two columns of a table by their titles, for a page.
 
-ghost use Rattle.std.specs.Prelude.{◌≡◌, ◌<◌, IfOk, MatchResult, Ok, Err, length};
+ghost use Rattle.std.specs.Prelude.{◌≡◌, ◌<◌, IfOk, Err, length};
 ghost use Rattle.direction_table.specs.declared.reading.TheConstants.{LONGEST_TABLE};
 ghost use Rattle.station_page.specs.Answers.{IsColumnsOf};
 ghost use Rattle.station_page.specs.HandedOut.{Shows};
+ghost use Rattle.station_page.specs.Texts.{bytes_in};
 ghost use Rattle.station_page.specs.Titled as spec;
 ghost use Rattle.station_page.specs.Titled.{TellsColumns};
 ghost use Rattle.table_titles.specs.declared.fault.TitlesFault.TheVariants.{TooLong};
 
-use crate::hand_out::hand_out;
+use crate::hand_out::hand_out_text;
 use direction_table::ColumnPair;
-use station_check::{ACCEPTED, REFUSED};
 use station_report::push_count;
 use std::alloc::{AllocError, Global};
-use table_titles::{Titles, TitlesFault, columns_by_titles, titles_line};
+use table_titles::{Titles, TitlesFault, columns_by_titles};
 
 /// Hands out by which columns a whole table with these titles of targets and of directions is to be
 /// read: their numbers, counted from 1, with a comma between; or the line of the refusal.
@@ -37,20 +37,14 @@ pub extern "C" fn station_page_columns(
         targets,
         directions,
     };
-    match columns_text(alloc, table, titles) {
-        Ok(text) => hand_out(ACCEPTED, text.as_slice(), out, written),
-        Err(fault) => hand_out(REFUSED, titles_line(fault).as_bytes(), out, written),
-    }
+    hand_out_text(&columns_text(alloc, table, titles), out, written)
 }
 
 /// The columns of a table with these titles, as a text.
 fn columns_text(alloc: Global, table: &[u8], titles: Titles<'_>) -> Result<Vec<u8>, TitlesFault>
-    ensures tells { MatchResult result
-        (λ text. TellsColumns titles.entry.targets.now titles.entry.directions.now table.now
-        (Ok text.items))
-        (λ fault. TellsColumns titles.entry.targets.now titles.entry.directions.now table.now
-        (Err fault)) }
-    ensures too_long { LONGEST_TABLE < length table.now → result ≡ Err TooLong }
+    ensures tells { TellsColumns titles.entry.targets.now titles.entry.directions.now table.now
+        (bytes_in result) }
+    ensures too_long { LONGEST_TABLE < length table.now → bytes_in result ≡ Err TooLong }
 {
     let pair = columns_by_titles(alloc, titles, table)?;
     Ok(pair_text(alloc, pair)?)

@@ -2,15 +2,16 @@
 
 ghost use Rattle.std.specs.Prelude.{◌≡◌, ◌++◌, codes, option_map, IfOk, MatchResult, OnOk};
 ghost use Rattle.station_answers.specs.Parts.{part_text};
-ghost use Rattle.station_page.specs.Answers.{IsExplanationFrom, IsExplanationOf};
-ghost use Rattle.station_page.specs.Explained.{IsAskedFor, IsExplained, IsUnexplained, Tells};
+ghost use Rattle.station_page.specs.Answers.{IsExplanationOf};
+ghost use Rattle.station_page.specs.Explained.{AnswersLine, IsAskedFor, IsUnexplained, Tells};
 ghost use Rattle.station_page.specs.Explained.{explanation_parts, unexplained_line};
 ghost use Rattle.station_page.specs.HandedOut.{Shows};
+ghost use Rattle.station_page.specs.Texts.{bytes_in};
 ghost use Rattle.station_page.specs.declared.explain.ExplainedAs.TheVariants as spec;
 
-use crate::hand_out::hand_out;
+use crate::hand_out::{Refusing, hand_out, hand_out_text};
 use station_answers::push_part;
-use station_check::{ACCEPTED, REFUSED};
+use station_check::REFUSED;
 use station_explain::{
     Explanation, all_explanations, explaining_text, explanation_meant, fault_named_in,
 };
@@ -54,8 +55,7 @@ pub extern "C" fn station_page_explain(
 ) -> u8
     ensures { Shows (IsExplanationOf spec.Text line.now) out.old out.new written.new result }
 {
-    let table = all_explanations();
-    hand_out_explanation(alloc, ExplainedAs::Text, &table, line, out, written)
+    hand_out_explanation(alloc, ExplainedAs::Text, line, out, written)
 }
 
 /// Hands out the same in parts, each after a line of its title and of how many bytes it has: the
@@ -70,35 +70,32 @@ pub extern "C" fn station_page_explanation(
 ) -> u8
     ensures { Shows (IsExplanationOf spec.Parts line.now) out.old out.new written.new result }
 {
-    let table = all_explanations();
-    hand_out_explanation(alloc, ExplainedAs::Parts, &table, line, out, written)
+    hand_out_explanation(alloc, ExplainedAs::Parts, line, out, written)
 }
 
-/// Hands out what the fault of this table means that a text names, or what is said of no name.
+/// Hands out what the fault means that a text names, or what is said of no name.
 fn hand_out_explanation(
     alloc: Global,
     form: ExplainedAs,
-    table: &[&'static [Explanation]],
     line: &[u8],
     out: &mut [u8],
     written: &mut usize,
 ) -> u8
-    ensures { Shows (IsExplanationFrom form table.now line.now) out.old out.new written.new result }
+    ensures { Shows (IsExplanationOf form line.now) out.old out.new written.new result }
 {
-    match explained(alloc, form, table, line) {
-        Ok(text) => hand_out(ACCEPTED, text.as_slice(), out, written),
-        Err(why) => hand_out(REFUSED, unexplained_line(why), out, written),
-    }
+    let table = all_explanations();
+    hand_out_text(&explained(alloc, form, &table, line), out, written)
 }
 
-/// The line of a refusal to explain.
-fn unexplained_line(why: Unexplained) -> &'static [u8]
-    ensures { result.now ≡ unexplained_line why }
-{
-    match why {
-        Unexplained::NotUtf8 => b"refused: not UTF-8\n",
-        Unexplained::NoName => b"refused: no such fault\n",
-        Unexplained::Memory => b"refused: out of memory\n",
+impl Refusing for Unexplained {
+    ghost line = { unexplained_line };
+
+    fn refuse(&self, out: &mut [u8], written: &mut usize) -> u8 {
+        match self {
+            Unexplained::NotUtf8 => hand_out(REFUSED, b"refused: not UTF-8\n", out, written),
+            Unexplained::NoName => hand_out(REFUSED, b"refused: no such fault\n", out, written),
+            Unexplained::Memory => hand_out(REFUSED, b"refused: out of memory\n", out, written),
+        }
     }
 }
 
@@ -109,9 +106,7 @@ fn explained(
     table: &[&'static [Explanation]],
     line: &[u8],
 ) -> Result<Vec<u8>, Unexplained>
-    ensures { MatchResult result
-        (λ text. IsExplained form table.now line.now text.items)
-        (λ why. IsUnexplained table.now line.now why) }
+    ensures { AnswersLine form table.now line.now (bytes_in result) }
 {
     let Ok(line) = str::from_utf8(line) else {
         return Err(Unexplained::NotUtf8);

@@ -1,6 +1,6 @@
 //! How a table is to be read, as numbers state it.
 
-ghost use Rattle.std.specs.Prelude.{◌≡◌, ◌≤◌, ◌-◌, IfNone, IfSome};
+ghost use Rattle.std.specs.Prelude.{◌≤◌, ◌-◌, SomeIff};
 ghost use Rattle.station_page.specs.declared.form.TheConstants.{LARGEST_UNIT};
 ghost use Rattle.station_page.specs.Forms.{AreColumns, IsColumn, IsForm};
 ghost use Rattle.station_page.specs.Forms as spec;
@@ -17,9 +17,8 @@ pub const LARGEST_COLUMN: u32 = 999_999;
 /// degrees with minutes and seconds after the point; and the columns of names and of directions,
 /// two, counted from 1, or 0 and 0 where none are stated.
 pub(crate) fn form_of(unit: u32, names: u32, directions: u32) -> Option<TableForm>
-    ensures form { IfSome result (λ form. form ≡ spec.stated_form unit names directions) }
-    ensures valid { IfSome result (λ _. IsForm unit names directions) }
-    ensures none { IfNone result (IsForm unit names directions → ⊥) }
+    ensures { SomeIff result (IsForm unit names directions)
+        (spec.stated_form unit names directions) }
 {
     Some(TableForm {
         unit: unit_of(unit)?,
@@ -29,9 +28,7 @@ pub(crate) fn form_of(unit: u32, names: u32, directions: u32) -> Option<TableFor
 
 /// The unit of a number.
 fn unit_of(number: u32) -> Option<AngleUnit>
-    ensures unit { IfSome result (λ unit. unit ≡ spec.stated_unit number) }
-    ensures valid { IfSome result (λ _. number ≤ LARGEST_UNIT) }
-    ensures none { IfNone result (number ≤ LARGEST_UNIT → ⊥) }
+    ensures { SomeIff result (number ≤ LARGEST_UNIT) (spec.stated_unit number) }
 {
     match number {
         0 => Some(AngleUnit::Gon),
@@ -43,9 +40,7 @@ fn unit_of(number: u32) -> Option<AngleUnit>
 
 /// The columns of two numbers, which are not the same, or that none are stated.
 fn columns_of(names: u32, directions: u32) -> Option<Option<ColumnPair>>
-    ensures columns { IfSome result (λ columns. columns ≡ spec.stated_columns names directions) }
-    ensures valid { IfSome result (λ _. AreColumns names directions) }
-    ensures none { IfNone result (AreColumns names directions → ⊥) }
+    ensures { SomeIff result (AreColumns names directions) (spec.stated_columns names directions) }
 {
     if names == 0 && directions == 0 {
         return Some(None);
@@ -61,9 +56,7 @@ fn columns_of(names: u32, directions: u32) -> Option<Option<ColumnPair>>
 
 /// The column of a number, counted from 0.
 fn column_of(number: u32) -> Option<u32>
-    ensures column { IfSome result (λ column. column ≡ number - 1) }
-    ensures valid { IfSome result (λ _. IsColumn number) }
-    ensures none { IfNone result (IsColumn number → ⊥) }
+    ensures { SomeIff result (IsColumn number) (number - 1) }
 {
     if number > LARGEST_COLUMN {
         return None;

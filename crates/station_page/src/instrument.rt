@@ -6,7 +6,7 @@ ghost use Rattle.station_page.specs.HandedOut.{ShowsInRange};
 ghost use Rattle.station_page.specs.Languages.{IsLanguage, stated_language};
 ghost use Rattle.station_page.specs.Recorded.{IsRecorded};
 
-use crate::hand_out::{OUT_OF_RANGE, hand_out_made};
+use crate::hand_out::{OUT_OF_RANGE, hand_out_text};
 use crate::language::language_of;
 use instrument_words::{instrument_in, push_instrument};
 use report_phrases::Language;
@@ -33,7 +33,7 @@ pub extern "C" fn station_page_instrument(
     let Some(language) = language_of(language) else {
         return OUT_OF_RANGE;
     };
-    hand_out_made(&lines_of(alloc, gsi, language), out, written)
+    hand_out_text(&lines_of(alloc, gsi, language), out, written)
 }
 
 /// The lines of what a field file recorded, in a language.

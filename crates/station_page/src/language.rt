@@ -1,6 +1,6 @@
 //! The language of a text, as a number states it.
 
-ghost use Rattle.std.specs.Prelude.{◌≡◌, IfNone, IfSome};
+ghost use Rattle.std.specs.Prelude.{SomeIff};
 ghost use Rattle.station_page.specs.Languages.{IsLanguage, stated_language};
 
 use report_phrases::Language;
@@ -10,9 +10,7 @@ pub const LARGEST_LANGUAGE: u32 = 2;
 
 /// The language of a number: 0 for English, 1 for German and 2 for French.
 pub(crate) fn language_of(number: u32) -> Option<Language>
-    ensures language { IfSome result (λ language. language ≡ stated_language number) }
-    ensures valid { IfSome result (λ _. IsLanguage number) }
-    ensures none { IfNone result (IsLanguage number → ⊥) }
+    ensures { SomeIff result (IsLanguage number) (stated_language number) }
 {
     match number {
         0 => Some(Language::English),

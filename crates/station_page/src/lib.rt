@@ -36,15 +36,10 @@
 //! What a page does is these calls and what makes a module of them, which no contract speaks of.
 #![tactic(auto)]
 
-mod beside;
 mod change;
 mod check;
 mod columns;
-mod comma;
-mod compare;
-mod differences;
 mod digest;
-mod directions;
 mod explain;
 mod form;
 mod hand_out;
@@ -52,17 +47,12 @@ mod instrument;
 mod language;
 pub mod laws;
 mod list;
-mod listed_rows;
 mod mark;
 mod marking;
-mod means;
 mod place;
 mod records;
-mod report;
-mod residuals;
 mod statement;
 mod station;
 mod table;
 mod text;
-mod whole;
 mod words;

@@ -6,7 +6,7 @@ ghost use Rattle.station_page.specs.HandedOut.{Leaves, Shows};
 ghost use Rattle.station_page.specs.Statements.{StatesBeginnings, StatesFile};
 ghost use Rattle.station_page.specs.declared.marking.ToldAs.TheVariants.{Notes, Rows};
 
-use crate::marking::{ToldAs, hand_out_marking};
+use crate::marking::{Marking, ToldAs};
 use std::alloc::Global;
 
 /// Hands out a copy of a whole field file with codes put in, and in `notes` what was recognized; at
@@ -43,9 +43,7 @@ pub extern "C" fn station_page_mark(
         (take notes_written.new notes.new)) out.old out.new written.new result }
     ensures notes { Leaves notes.old notes.new notes_written.new }
 {
-    hand_out_marking(
-        alloc,
-        ToldAs::Notes,
+    let marking = Marking {
         gsi,
         name,
         code,
@@ -54,11 +52,8 @@ pub extern "C" fn station_page_mark(
         same_set_up,
         again,
         others,
-        out,
-        written,
-        notes,
-        notes_written,
-    )
+    };
+    marking.hand_out(alloc, ToldAs::Notes, out, written, notes, notes_written)
 }
 
 /// Hands out a copy of a whole field file with codes put in, or the line of the refusal; and in
@@ -89,9 +84,7 @@ pub extern "C" fn station_page_mark_rows(
         (take rows_written.new rows.new)) out.old out.new written.new result }
     ensures rows { Leaves rows.old rows.new rows_written.new }
 {
-    hand_out_marking(
-        alloc,
-        ToldAs::Rows,
+    let marking = Marking {
         gsi,
         name,
         code,
@@ -100,9 +93,6 @@ pub extern "C" fn station_page_mark_rows(
         same_set_up,
         again,
         others,
-        out,
-        written,
-        rows,
-        rows_written,
-    )
+    };
+    marking.hand_out(alloc, ToldAs::Rows, out, written, rows, rows_written)
 }

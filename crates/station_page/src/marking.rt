@@ -27,75 +27,83 @@ pub(crate) enum ToldAs {
     Rows,
 }
 
-/// Hands out a copy with codes put in and what is told of it, in this form.
-pub(crate) fn hand_out_marking(
-    alloc: Global,
-    form: ToldAs,
-    gsi: &[u8],
-    name: &[u8],
-    code: &[u8],
-    sets: &[u8],
-    targets: &[u8],
-    same_set_up: bool,
-    again: bool,
-    others: bool,
-    out: &mut [u8],
-    written: &mut usize,
-    told: &mut [u8],
-    told_written: &mut usize,
-) -> u8
-    ensures copy { Shows (IsMarkAnswer form (StatesBeginnings name.now code.now same_set_up)
-        (StatesFile sets.now targets.now again others) gsi.now (length told.old)
-        (take told_written.new told.new)) out.old out.new written.new result }
-    ensures told { Leaves told.old told.new told_written.new }
-{
-    *written = 0;
-    *told_written = 0;
-    let Some(beginnings) = beginnings_in(name, code, same_set_up) else {
-        return OUT_OF_RANGE;
-    };
-    match marked(alloc, gsi, form, beginnings, sets, targets, again, others) {
-        Ok((copy, text)) => {
-            let status = hand_out_copy(form, &copy, out, written);
-            hand_out(status, text.as_slice(), told, told_written)
-        }
-        Err(Untaken::Memory) => {
-            let status = hand_out_copy(form, &Err(MarkFault::Memory), out, written);
-            hand_out(status, untold(form).as_slice(), told, told_written)
-        }
-        Err(Untaken::Wrong) => OUT_OF_RANGE,
-    }
+/// A field file, and what is stated of it by bytes and flags.
+#[derive(Clone, Copy, Drop)]
+pub(crate) struct Marking<'a> {
+    pub(crate) gsi: &'a [u8],
+    pub(crate) name: &'a [u8],
+    pub(crate) code: &'a [u8],
+    pub(crate) sets: &'a [u8],
+    pub(crate) targets: &'a [u8],
+    pub(crate) same_set_up: bool,
+    pub(crate) again: bool,
+    pub(crate) others: bool,
 }
 
-/// The copy, or the fault, and what is told, by what is stated of the file.
-///
-/// # Errors
-///
-/// That can't be stated, or memory ran out.
-fn marked(
-    alloc: Global,
-    gsi: &[u8],
-    form: ToldAs,
-    beginnings: Beginnings,
-    sets: &[u8],
-    targets: &[u8],
-    again: bool,
-    others: bool,
-) -> Result<(Result<Vec<u8>, MarkFault>, Vec<u8>), Untaken>
-    ensures marks { IfOk result (λ its. Marks form beginnings
-        (StatesFile sets.now targets.now again others) gsi.now (bytes_in its.0) its.1.items) }
-    ensures wrong { IfErr result (λ why. why ≡ Untaken.Wrong → (stated : Stated)
-        → ¬ (StatesFile sets.now targets.now again others stated)) }
-{
-    let stated = stated_in(alloc, sets, targets, again, others)?;
-    let marking = mark_file(alloc, gsi, false, beginnings, stated);
-    let told = told_text(alloc, form, &marking)?;
-    match marking {
-        Ok(marked) => {
-            let copy = marked_copy(alloc, gsi, &marked.marks)?;
-            Ok((Ok(copy), told))
+impl<'a> Marking<'a> {
+    /// Hands out a copy with codes put in and what is told of it, in this form.
+    pub(crate) fn hand_out(
+        &self,
+        alloc: Global,
+        form: ToldAs,
+        out: &mut [u8],
+        written: &mut usize,
+        told: &mut [u8],
+        told_written: &mut usize,
+    ) -> u8
+        ensures copy { Shows (IsMarkAnswer form
+            (StatesBeginnings self.now.name.now self.now.code.now self.now.same_set_up)
+            (StatesFile self.now.sets.now self.now.targets.now self.now.again self.now.others)
+            self.now.gsi.now (length told.old) (take told_written.new told.new)) out.old out.new
+            written.new result }
+        ensures told { Leaves told.old told.new told_written.new }
+    {
+        *written = 0;
+        *told_written = 0;
+        let Some(beginnings) = beginnings_in(self.name, self.code, self.same_set_up) else {
+            return OUT_OF_RANGE;
+        };
+        match self.marked(alloc, form, beginnings) {
+            Ok((copy, text)) => {
+                let status = hand_out_copy(form, &copy, out, written);
+                hand_out(status, text.as_slice(), told, told_written)
+            }
+            Err(Untaken::Memory) => {
+                let status = hand_out_copy(form, &Err(MarkFault::Memory), out, written);
+                hand_out(status, untold(form).as_slice(), told, told_written)
+            }
+            Err(Untaken::Wrong) => OUT_OF_RANGE,
         }
-        Err(refused) => Ok((Err(refused.fault()), told)),
+    }
+
+    /// The copy, or the fault, and what is told, by what is stated of the file.
+    ///
+    /// # Errors
+    ///
+    /// That can't be stated, or memory ran out.
+    fn marked(
+        &self,
+        alloc: Global,
+        form: ToldAs,
+        beginnings: Beginnings,
+    ) -> Result<(Result<Vec<u8>, MarkFault>, Vec<u8>), Untaken>
+        ensures marks { IfOk result (λ its. Marks form beginnings
+            (StatesFile self.now.sets.now self.now.targets.now self.now.again self.now.others)
+            self.now.gsi.now (bytes_in its.0) its.1.items) }
+        ensures wrong { IfErr result (λ why. why ≡ Untaken.Wrong → (stated : Stated)
+            → ¬ (StatesFile self.now.sets.now self.now.targets.now self.now.again
+            self.now.others stated)) }
+    {
+        let stated = stated_in(alloc, self.sets, self.targets, self.again, self.others)?;
+        let marking = mark_file(alloc, self.gsi, false, beginnings, stated);
+        let told = told_text(alloc, form, &marking)?;
+        match marking {
+            Ok(marked) => {
+                let copy = marked_copy(alloc, self.gsi, &marked.marks)?;
+                Ok((Ok(copy), told))
+            }
+            Err(refused) => Ok((Err(refused.fault()), told)),
+        }
     }
 }
 

@@ -5,7 +5,7 @@ ghost use Rattle.station_page.specs.Answers.{IsPlaceOf};
 ghost use Rattle.station_page.specs.HandedOut.{Shows};
 ghost use Rattle.station_page.specs.Placed.{IsPlaceText};
 
-use crate::hand_out::hand_out_made;
+use crate::hand_out::hand_out_text;
 use refusal_places::{place_in, place_text};
 use std::alloc::{AllocError, Global};
 
@@ -28,7 +28,7 @@ pub extern "C" fn station_page_place(
 ) -> u8
     ensures { Shows (IsPlaceOf line.now gsi.now other.now) out.old out.new written.new result }
 {
-    hand_out_made(&text_of(alloc, line, gsi, other), out, written)
+    hand_out_text(&text_of(alloc, line, gsi, other), out, written)
 }
 
 /// What the line of a refusal names, and where that stands, as a row.

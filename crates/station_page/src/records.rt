@@ -1,6 +1,6 @@
 //! The records of a text whose fields a byte separates, for a page.
 
-ghost use Rattle.std.specs.Prelude.{◌≡◌, ◌++◌, [], IfNone, IfOk, IfSome, OnOk, unwrap_or};
+ghost use Rattle.std.specs.Prelude.{◌≡◌, ◌++◌, [], IfOk, OnOk, SomeIff, unwrap_or};
 ghost use Rattle.std.specs.List.{concat};
 ghost use Rattle.csv.specs.Reading.{error_kind};
 ghost use Rattle.csv.specs.Records.{field_at, fields_of};
@@ -10,7 +10,7 @@ ghost use Rattle.station_page.specs.HandedOut.{ShowsInRange};
 ghost use Rattle.station_page.specs.TextRecords.{AreTheRecords, IsSeparator};
 ghost use Rattle.station_page.specs.TextRecords.{lengths_text, record_text};
 
-use crate::hand_out::{OUT_OF_RANGE, hand_out_made};
+use crate::hand_out::{OUT_OF_RANGE, hand_out_text};
 use csv::{ByteRecord, ReaderBuilder};
 use station_report::push_count;
 use std::alloc::{AllocError, Global};
@@ -37,14 +37,12 @@ pub extern "C" fn station_page_records(
     let Some(separator) = separator_of(separator) else {
         return OUT_OF_RANGE;
     };
-    hand_out_made(&records_text(alloc, text, separator), out, written)
+    hand_out_text(&records_text(alloc, text, separator), out, written)
 }
 
 /// The separator of a number, which is that of its byte.
 fn separator_of(number: u32) -> Option<u8>
-    ensures byte { IfSome result (λ byte. byte ≡ number) }
-    ensures valid { IfSome result (λ _. IsSeparator number) }
-    ensures none { IfNone result (IsSeparator number → ⊥) }
+    ensures { SomeIff result (IsSeparator number) number }
 {
     match u8::try_from(number) {
         Ok(byte @ (b',' | b';' | b'\t' | b' ')) => Some(byte),

@@ -1,22 +1,14 @@
-use Rattle.std.proofs.Common.{Ok, Err, rules}
+use Rattle.station_page.specs.Texts.{bytes_in}
 use Rattle.station_page.proofs.explain.hand_out_explanation.Goals as goal
 
-pub returns-in-Ok : goal.returns-in-Ok
-returns-in-Ok c = record {
+pub returns : goal.returns
+returns c = record {
   shows = record {
-    answer = Ok c.in-Ok.text.items;
-    answers = c.in-Ok.ensures;
-    hands_out = search rules;
+    table = _;
+    is_the_table = c.all_explanations-table.ensures;
+    answer = bytes_in c.explained.result;
+    answers = c.explained.ensures;
+    hands_out = c.hand_out_text.ensures.shows;
   };
-  leaves = search rules;
-}
-
-pub returns-in-Err : goal.returns-in-Err
-returns-in-Err c = record {
-  shows = record {
-    answer = Err c.in-Err.why;
-    answers = search rules;
-    hands_out = search rules;
-  };
-  leaves = search rules;
+  leaves = c.hand_out_text.ensures.leaves;
 }

@@ -1,6 +1,6 @@
 use Rattle.std.proofs.Common.{inl, inr, refl, rules}
 use Rattle.station_page.specs.Texts.{bytes_in}
-use Rattle.station_page.proofs.marking.hand_out_marking.Goals as goal
+use Rattle.station_page.proofs.marking.Marking.hand_out.Goals as goal
 
 pub returns-in-Ok-clause-copy : goal.returns-in-Ok-clause-copy
 returns-in-Ok-clause-copy c = record {

@@ -1,7 +1,7 @@
 use Rattle.std.proofs.Common.{◌≡◌, Some, ap, rules}
 use Rattle.byte_ends.proofs.Coming.{came_as_told}
 use Rattle.station_check.specs.Came.{source_of}
-use Rattle.station_page.proofs.means.means_of.Goals as goal
+use Rattle.station_page.proofs.station.means_of.Goals as goal
 
 pub returns-in_default-clause-writes : goal.returns-in_default-clause-writes
 returns-in_default-clause-writes c =

@@ -1,5 +1,5 @@
 use Rattle.std.proofs.Common.{Ok, Err, ap}
-use Rattle.station_page.proofs.marking.marked.Goals as goal
+use Rattle.station_page.proofs.marking.Marking.marked.Goals as goal
 
 pub returns-in_ok-copy-in-Ok-clause-marks : goal.returns-in_ok-copy-in-Ok-clause-marks
 returns-in_ok-copy-in-Ok-clause-marks c = record {

@@ -8,7 +8,7 @@ use Rattle.station_check.specs.Came.{source_of}
 use Rattle.station_check.specs.NotedSurveys.{NotesSurvey}
 use Rattle.station_check.specs.declared.fault.Fault.{Fault}
 use Rattle.station_check.specs.declared.fault.Fault.TheVariants.{Memory}
-use Rattle.station_page.proofs.listed_rows.rows_of.Goals as goal
+use Rattle.station_page.proofs.list.rows_of.Goals as goal
 
 -- A fault of the file is told as it stands.
 fault_told : (limits : FaceLimits) (file : FileAnswers) (fault : Fault)
