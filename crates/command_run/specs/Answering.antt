@@ -14,9 +14,9 @@ use Rattle.changed_lines.specs.declared.change.Change.{Change}
 use Rattle.byte_ends.specs.Sink.{WriterChange}
 use Rattle.byte_ends.specs.Writers.{writer_change}
 use Rattle.byte_ends.specs.declared.sink.Sink.{Ghosts}
+use Rattle.byte_ends.specs.declared.source.Source.{Ghosts as Readers}
 use Rattle.byte_ends.specs.Came.{BytesCame}
 use Rattle.byte_ends.specs.Input.{input_within}
-use Rattle.byte_ends.specs.Source.{Told}
 use Rattle.clap.specs.Words.{Text}
 use Rattle.clap.specs.declared.error.Error.{Error}
 use Rattle.command_line.specs.CommandLine.{Asked, IsAskedForBy, IsMistakeIn, NameAsked}
@@ -69,8 +69,8 @@ use Rattle.station_change.specs.Runs.{IsChangeRun}
 use Rattle.station_mark.specs.FaultTexts.{refusal_text as mark_refusal_text}
 use Rattle.station_mark.specs.Runs.{IsMarkRun, notes_in}
 use Rattle.command_run.specs.Explaining.{IsExplainRun}
-use Rattle.command_run.specs.Hosts.{Known, Readers, IsAsKnown, IsNew, IsUnread, IsTakenIn}
-use Rattle.command_run.specs.Hosts.{change_of}
+use Rattle.command_run.specs.AsKnown.{IsAsKnown}
+use Rattle.command_run.specs.Hosts.{Files, Known, IsNew, IsUnread, IsTakenIn, change_of}
 use Rattle.command_run.specs.Unopened.{there_line, unopened_line}
 use Rattle.command_run.specs.declared.host.NoWords.{NoWords}
 use Rattle.command_run.specs.declared.host.NoWords.TheVariants as no_words
@@ -279,225 +279,209 @@ IsNewFile seen known None None = ⊤
 IsNewFile seen known (Some path) (Some file) = IsNew seen known path.now file
 IsNewFile seen known stated file = ⊥
 
--- The two files of a check were opened, and all else of it is as it was asked for. `known` is what
--- is known of the file of a path.
-abbrev pub IsOpenedCheck : {F : Type 0} → Readers F → (List ℕ → Option Told)
-    → SheetCheck (Bor (List ℕ)) → SheetCheck (NamedReader F) → Type 0
-IsOpenedCheck files known asked opened =
-    IsUnread files known asked.gsi.now opened.gsi
-    × IsUnread files known asked.sheet.now opened.sheet
+-- The two files of a check were opened, and all else of it is as it was asked for.
+abbrev pub IsOpenedCheck : {F : Type 0} → Files F → SheetCheck (Bor (List ℕ))
+    → SheetCheck (NamedReader F) → Type 0
+IsOpenedCheck files asked opened =
+    IsUnread files asked.gsi.now opened.gsi
+    × IsUnread files asked.sheet.now opened.sheet
     × (opened.limits ≡ asked.limits) × (opened.residual ≡ asked.residual)
     × (opened.digests ≡ asked.digests)
 
 -- The only station of the field file of a path was looked for by these limits, and this is what was
 -- answered.
-abbrev pub LooksForOnly : {F : Type 0} → Readers F → (List ℕ → Option Told) → FaceLimits → List ℕ
-    → Result (List ℕ) Refusal → Type 0
-LooksForOnly {F} files known limits path r = (file : NamedReader F)
-    × IsUnread files known path file
-    × IsTakenIn files file.reader (λ gsi. FindsOnly limits gsi r)
+abbrev pub LooksForOnly : {F : Type 0} → Files F → FaceLimits → List ℕ → Result (List ℕ) Refusal
+    → Type 0
+LooksForOnly {F} files limits path r = (file : NamedReader F)
+    × IsUnread files path file
+    × IsTakenIn files.seen file.reader (λ gsi. FindsOnly limits gsi r)
 
 -- A station of the field file of a path has the name that is stated; where none is stated, that of
 -- the only station of the file.
-abbrev pub IsNamed : {F : Type 0} → Readers F → (List ℕ → Option Told) → FaceLimits → List ℕ
-    → NameAsked → StationName → Type 0
-IsNamed files known limits path (Some stated) name = name_bytes name ≡ stated.now
-IsNamed files known limits path None name =
-    LooksForOnly files known limits path (Ok (name_bytes name))
+abbrev pub IsNamed : {F : Type 0} → Files F → FaceLimits → List ℕ → NameAsked → StationName → Type 0
+IsNamed files limits path (Some stated) name = name_bytes name ≡ stated.now
+IsNamed files limits path None name = LooksForOnly files limits path (Ok (name_bytes name))
 
 -- The columns of the table of a path were looked for by these titles, and this is what was
 -- answered.
-abbrev pub LooksForTitles : {F : Type 0} → Readers F → (List ℕ → Option Told) → List ℕ → List ℕ
-    → List ℕ → Result ColumnPair TitlesFault → Type 0
-LooksForTitles {F} files known path targets directions r = (file : NamedReader F) × (read : F)
-    × IsUnread files known path file
-    × BytesCame (change_of files file.reader read)
+abbrev pub LooksForTitles : {F : Type 0} → Files F → List ℕ → List ℕ → List ℕ
+    → Result ColumnPair TitlesFault → Type 0
+LooksForTitles {F} files path targets directions r = (file : NamedReader F) × (read : F)
+    × IsUnread files path file
+    × BytesCame (change_of files.seen file.reader read)
     (λ gives. ComesOfInput targets directions (input_within LONGEST_TABLE gives) r)
 
 -- The columns of the table of a path are those that are stated by numbers, or none; where they are
 -- stated by titles, those that have them.
-abbrev pub AreColumns : {F : Type 0} → Readers F → (List ℕ → Option Told) → List ℕ
-    → Option ColumnsStated → Option ColumnPair → Type 0
-AreColumns files known path None columns = columns ≡ None
-AreColumns files known path (Some (stated_by.Numbers pair)) columns = columns ≡ Some pair
-AreColumns files known path (Some (stated_by.Titles targets directions)) columns =
+abbrev pub AreColumns : {F : Type 0} → Files F → List ℕ → Option ColumnsStated → Option ColumnPair
+    → Type 0
+AreColumns files path None columns = columns ≡ None
+AreColumns files path (Some (stated_by.Numbers pair)) columns = columns ≡ Some pair
+AreColumns files path (Some (stated_by.Titles targets directions)) columns =
     (pair : ColumnPair) × (columns ≡ Some pair)
-    × LooksForTitles files known path targets.now directions.now (Ok pair)
+    × LooksForTitles files path targets.now directions.now (Ok pair)
 
 -- The table of a path is read as it is stated.
-abbrev pub IsFormOf : {F : Type 0} → Readers F → (List ℕ → Option Told) → List ℕ → FormStated
-    → TableForm → Type 0
-IsFormOf files known path stated form =
-    (form.unit ≡ stated.unit) × AreColumns files known path stated.columns form.columns
+abbrev pub IsFormOf : {F : Type 0} → Files F → List ℕ → FormStated → TableForm → Type 0
+IsFormOf files path stated form =
+    (form.unit ≡ stated.unit) × AreColumns files path stated.columns form.columns
 
 -- The field file of a station was opened, the station has its name, and its limits are those that
 -- were asked for.
-abbrev pub IsOpenedStation : {F : Type 0} → Readers F → (List ℕ → Option Told)
-    → FieldStation (Bor (List ℕ)) NameAsked → FieldStation (NamedReader F) StationName → Type 0
-IsOpenedStation files known asked opened =
-    IsUnread files known asked.gsi.now opened.gsi
-    × IsNamed files known asked.limits.faces asked.gsi.now asked.name opened.name
+abbrev pub IsOpenedStation : {F : Type 0} → Files F → FieldStation (Bor (List ℕ)) NameAsked
+    → FieldStation (NamedReader F) StationName → Type 0
+IsOpenedStation files asked opened =
+    IsUnread files asked.gsi.now opened.gsi
+    × IsNamed files asked.limits.faces asked.gsi.now asked.name opened.name
     × (opened.limits ≡ asked.limits)
 
 -- The field file of all stations was opened, and their limits are those that were asked for.
-abbrev pub IsOpenedStations : {F : Type 0} → Readers F → (List ℕ → Option Told)
-    → FieldStations (Bor (List ℕ)) → FieldStations (NamedReader F) → Type 0
-IsOpenedStations files known asked opened =
-    IsUnread files known asked.gsi.now opened.gsi × (opened.limits ≡ asked.limits)
+abbrev pub IsOpenedStations : {F : Type 0} → Files F → FieldStations (Bor (List ℕ))
+    → FieldStations (NamedReader F) → Type 0
+IsOpenedStations files asked opened =
+    IsUnread files asked.gsi.now opened.gsi × (opened.limits ≡ asked.limits)
 
 -- Both files of a table and its station were opened, the station has its name, and the table is
 -- read as it is stated.
-abbrev pub IsOpenedBeside : {F : Type 0} → Readers F → (List ℕ → Option Told)
-    → TableBeside (Bor (List ℕ)) NameAsked FormStated
+abbrev pub IsOpenedBeside : {F : Type 0} → Files F → TableBeside (Bor (List ℕ)) NameAsked FormStated
     → TableBeside (NamedReader F) StationName TableForm → Type 0
-IsOpenedBeside files known asked opened =
-    IsOpenedStation files known asked.station opened.station
-    × IsUnread files known asked.file.now opened.file
-    × IsFormOf files known asked.file.now asked.form opened.form
+IsOpenedBeside files asked opened =
+    IsOpenedStation files asked.station opened.station
+    × IsUnread files asked.file.now opened.file
+    × IsFormOf files asked.file.now asked.form opened.form
 
 -- The same of all stations and one table of them.
-abbrev pub IsOpenedTableOfAll : {F : Type 0} → Readers F → (List ℕ → Option Told)
-    → StationsBeside (Bor (List ℕ)) FormStated → StationsBeside (NamedReader F) TableForm → Type 0
-IsOpenedTableOfAll files known asked opened =
-    IsOpenedStations files known asked.stations opened.stations
-    × IsUnread files known asked.file.now opened.file
-    × IsFormOf files known asked.file.now asked.form opened.form
+abbrev pub IsOpenedTableOfAll : {F : Type 0} → Files F → StationsBeside (Bor (List ℕ)) FormStated
+    → StationsBeside (NamedReader F) TableForm → Type 0
+IsOpenedTableOfAll files asked opened =
+    IsOpenedStations files asked.stations opened.stations
+    × IsUnread files asked.file.now opened.file
+    × IsFormOf files asked.file.now asked.form opened.form
 
 -- The files of a request were opened, each the one of its path, which is its name; the name of its
 -- station and the columns of its table were found, where they were to be; and all else of it is as
 -- it was asked for.
-abbrev pub IsOpened : {F N : Type 0} → Readers F → (List ℕ → Option Told) → Ghosts N
-    → (List ℕ → Option (List ℕ)) → Asked → Request (NamedReader F) N StationName TableForm → Type 0
-IsOpened files known new_files new (request.Check asked) (request.Check opened) =
-    IsOpenedCheck files known asked opened
-IsOpened files known new_files new (request.Means gsi station limits)
+abbrev pub IsOpened : {F N : Type 0} → Files F → Ghosts N → (List ℕ → Option (List ℕ)) → Asked
+    → Request (NamedReader F) N StationName TableForm → Type 0
+IsOpened files new_files new (request.Check asked) (request.Check opened) =
+    IsOpenedCheck files asked opened
+IsOpened files new_files new (request.Means gsi station limits)
     (request.Means field_file station' limits') =
-    IsUnread files known gsi.now field_file
-    × IsNamed files known limits gsi.now station station' × (limits' ≡ limits)
-IsOpened files known new_files new (request.Station station text) (request.Station station' text') =
-    IsOpenedStation files known station station' × (text' ≡ text)
-IsOpened files known new_files new (request.Stations stations text)
+    IsUnread files gsi.now field_file
+    × IsNamed files limits gsi.now station station' × (limits' ≡ limits)
+IsOpened files new_files new (request.Station station text) (request.Station station' text') =
+    IsOpenedStation files station station' × (text' ≡ text)
+IsOpened files new_files new (request.Stations stations text)
     (request.Stations stations' text') =
-    IsOpenedStations files known stations stations' × (text' ≡ text)
-IsOpened files known new_files new (request.Table beside text) (request.Table beside' text') =
-    IsOpenedBeside files known beside beside' × (text' ≡ text)
-IsOpened files known new_files new (request.StationsTable beside text)
+    IsOpenedStations files stations stations' × (text' ≡ text)
+IsOpened files new_files new (request.Table beside text) (request.Table beside' text') =
+    IsOpenedBeside files beside beside' × (text' ≡ text)
+IsOpened files new_files new (request.StationsTable beside text)
     (request.StationsTable beside' text') =
-    IsOpenedTableOfAll files known beside beside' × (text' ≡ text)
-IsOpened files known new_files new (request.Mark gsi copy beginnings stated)
+    IsOpenedTableOfAll files beside beside' × (text' ≡ text)
+IsOpened files new_files new (request.Mark gsi copy beginnings stated)
     (request.Mark field_file copy' beginnings' stated') =
-    IsUnread files known gsi.now field_file
+    IsUnread files gsi.now field_file
     × IsNewFile new_files new copy copy' × (beginnings' ≡ beginnings) × (stated' ≡ stated)
-IsOpened files known new_files new (request.Change gsi copy changes)
+IsOpened files new_files new (request.Change gsi copy changes)
     (request.Change field_file copy' changes') =
-    IsUnread files known gsi.now field_file
+    IsUnread files gsi.now field_file
     × IsNewFile new_files new copy copy' × (changes' ≡ changes)
-IsOpened files known new_files new (request.List gsi limits form)
+IsOpened files new_files new (request.List gsi limits form)
     (request.List field_file limits' form') =
-    IsUnread files known gsi.now field_file × (limits' ≡ limits) × (form' ≡ form)
-IsOpened files known new_files new (request.Words gsi) (request.Words field_file) =
-    IsUnread files known gsi.now field_file
-IsOpened files known new_files new request.WordsOfInput request.WordsOfInput = ⊤
-IsOpened files known new_files new (request.Explain fault) (request.Explain fault') = fault' ≡ fault
-IsOpened files known new_files new asked other = ⊥
+    IsUnread files gsi.now field_file × (limits' ≡ limits) × (form' ≡ form)
+IsOpened files new_files new (request.Words gsi) (request.Words field_file) =
+    IsUnread files gsi.now field_file
+IsOpened files new_files new request.WordsOfInput request.WordsOfInput = ⊤
+IsOpened files new_files new (request.Explain fault) (request.Explain fault') = fault' ≡ fault
+IsOpened files new_files new asked other = ⊥
 
 -- The file of this path was opened.
-abbrev pub WasOpened : {F : Type 0} → Readers F → (List ℕ → Option Told) → List ℕ → Type 0
-WasOpened {F} files known path = (file : NamedReader F) × IsUnread files known path file
+abbrev pub WasOpened : {F : Type 0} → Files F → List ℕ → Type 0
+WasOpened {F} files path = (file : NamedReader F) × IsUnread files path file
 
 -- The file of this path may be one that can't be opened, and hinders.
-abbrev pub IsUnopened : (List ℕ → Bool) → List ℕ → Hindrance → Type 0
-IsUnopened may_not path (hindrance.Unopened unopened) =
-    (unopened.path.now ≡ path) × (may_not path ≡ true)
-IsUnopened may_not path other = ⊥
+abbrev pub IsUnopened : {F : Type 0} → Files F → List ℕ → Hindrance → Type 0
+IsUnopened files path (hindrance.Unopened unopened) =
+    (unopened.path.now ≡ path) × (files.may_not_open path ≡ true)
+IsUnopened files path other = ⊥
 
 -- One of two files hinders so: the first; or the second, and the first was opened.
-abbrev pub IsUnopenedOfTwo : {F : Type 0} → Readers F → (List ℕ → Option Told) → (List ℕ → Bool)
-    → List ℕ → List ℕ → Hindrance → Type 0
-IsUnopenedOfTwo files known may_not first second why =
-    IsUnopened may_not first why
-    ⊎ (WasOpened files known first × IsUnopened may_not second why)
+abbrev pub IsUnopenedOfTwo : {F : Type 0} → Files F → List ℕ → List ℕ → Hindrance → Type 0
+IsUnopenedOfTwo files first second why =
+    IsUnopened files first why
+    ⊎ (WasOpened files first × IsUnopened files second why)
 
 -- The name of a station is left out, and the field file of this path is refused where its only
 -- station was looked for.
-abbrev pub LacksName : {F : Type 0} → Readers F → (List ℕ → Option Told) → FaceLimits → List ℕ
-    → NameAsked → Hindrance → Type 0
-LacksName files known limits path name (hindrance.Station refusal) =
-    (name ≡ None) × LooksForOnly files known limits path (Err refusal)
-LacksName files known limits path name other = ⊥
+abbrev pub LacksName : {F : Type 0} → Files F → FaceLimits → List ℕ → NameAsked → Hindrance → Type 0
+LacksName files limits path name (hindrance.Station refusal) =
+    (name ≡ None) × LooksForOnly files limits path (Err refusal)
+LacksName files limits path name other = ⊥
 
 -- What hinders a run of a station of the field file of this path: that it can't be opened, or that.
-abbrev pub HindersStation : {F : Type 0} → Readers F → (List ℕ → Option Told) → (List ℕ → Bool)
-    → FaceLimits → List ℕ → NameAsked → Hindrance → Type 0
-HindersStation files known may_not limits path name why =
-    IsUnopened may_not path why ⊎ LacksName files known limits path name why
+abbrev pub HindersStation : {F : Type 0} → Files F → FaceLimits → List ℕ → NameAsked → Hindrance
+    → Type 0
+HindersStation files limits path name why =
+    IsUnopened files path why ⊎ LacksName files limits path name why
 
 -- The table of this path is refused where its columns were looked for by these titles.
-abbrev pub LacksTitles : {F : Type 0} → Readers F → (List ℕ → Option Told) → List ℕ → List ℕ
-    → List ℕ → Hindrance → Type 0
-LacksTitles files known path targets directions (hindrance.Columns fault) =
-    LooksForTitles files known path targets directions (Err fault)
-LacksTitles files known path targets directions other = ⊥
+abbrev pub LacksTitles : {F : Type 0} → Files F → List ℕ → List ℕ → List ℕ → Hindrance → Type 0
+LacksTitles files path targets directions (hindrance.Columns fault) =
+    LooksForTitles files path targets directions (Err fault)
+LacksTitles files path targets directions other = ⊥
 
 -- What hinders there: that the table can't be opened, or that.
-abbrev pub HindersTitles : {F : Type 0} → Readers F → (List ℕ → Option Told) → (List ℕ → Bool)
-    → List ℕ → List ℕ → List ℕ → Hindrance → Type 0
-HindersTitles files known may_not path targets directions why =
-    IsUnopened may_not path why ⊎ LacksTitles files known path targets directions why
+abbrev pub HindersTitles : {F : Type 0} → Files F → List ℕ → List ℕ → List ℕ → Hindrance → Type 0
+HindersTitles files path targets directions why =
+    IsUnopened files path why ⊎ LacksTitles files path targets directions why
 
 -- What hinders a run of the table of this path, of which these columns are stated: that it can't be
 -- opened; or they are stated by titles, and that hinders.
-abbrev pub HindersTable : {F : Type 0} → Readers F → (List ℕ → Option Told) → (List ℕ → Bool)
-    → List ℕ → Option ColumnsStated → Hindrance → Type 0
-HindersTable files known may_not path stated why =
-    IsUnopened may_not path why
+abbrev pub HindersTable : {F : Type 0} → Files F → List ℕ → Option ColumnsStated → Hindrance
+    → Type 0
+HindersTable files path stated why =
+    IsUnopened files path why
     ⊎ ((targets directions : Bor (List ℕ))
     × (stated ≡ Some (stated_by.Titles targets directions))
-    × LacksTitles files known path targets.now directions.now why)
+    × LacksTitles files path targets.now directions.now why)
 
 -- What hinders a run of a table beside its station: what hinders one of the station; or one of the
 -- table, and the field file was opened and the name of the station is known.
-abbrev pub HindersBeside : {F : Type 0} → Readers F → (List ℕ → Option Told) → (List ℕ → Bool)
-    → TableBeside (Bor (List ℕ)) NameAsked FormStated → Hindrance → Type 0
-HindersBeside {F} files known may_not asked why =
-    HindersStation files known may_not asked.station.limits.faces asked.station.gsi.now
+abbrev pub HindersBeside : {F : Type 0} → Files F → TableBeside (Bor (List ℕ)) NameAsked FormStated
+    → Hindrance → Type 0
+HindersBeside {F} files asked why =
+    HindersStation files asked.station.limits.faces asked.station.gsi.now
     asked.station.name why
     ⊎ ((station : FieldStation (NamedReader F) StationName)
-    × IsOpenedStation files known asked.station station
-    × HindersTable files known may_not asked.file.now asked.form.columns why)
+    × IsOpenedStation files asked.station station
+    × HindersTable files asked.file.now asked.form.columns why)
 
 -- The same of all stations and one table of them.
-abbrev pub HindersTableOfAll : {F : Type 0} → Readers F → (List ℕ → Option Told) → (List ℕ → Bool)
-    → StationsBeside (Bor (List ℕ)) FormStated → Hindrance → Type 0
-HindersTableOfAll files known may_not asked why =
-    IsUnopened may_not asked.stations.gsi.now why
-    ⊎ (WasOpened files known asked.stations.gsi.now
-    × HindersTable files known may_not asked.file.now asked.form.columns why)
+abbrev pub HindersTableOfAll : {F : Type 0} → Files F → StationsBeside (Bor (List ℕ)) FormStated
+    → Hindrance → Type 0
+HindersTableOfAll files asked why =
+    IsUnopened files asked.stations.gsi.now why
+    ⊎ (WasOpened files asked.stations.gsi.now
+    × HindersTable files asked.file.now asked.form.columns why)
 
 -- What hinders a run of a request before its files are open.
-abbrev pub HindersOpening : {F : Type 0} → Readers F → (List ℕ → Option Told) → (List ℕ → Bool)
-    → Asked → Hindrance → Type 0
-HindersOpening files known may_not (request.Check asked) why =
-    IsUnopenedOfTwo files known may_not asked.gsi.now asked.sheet.now why
-HindersOpening files known may_not (request.Means gsi station limits) why =
-    HindersStation files known may_not limits gsi.now station why
-HindersOpening files known may_not (request.Station station text) why =
-    HindersStation files known may_not station.limits.faces station.gsi.now station.name why
-HindersOpening files known may_not (request.Stations stations text) why =
-    IsUnopened may_not stations.gsi.now why
-HindersOpening files known may_not (request.Table beside text) why =
-    HindersBeside files known may_not beside why
-HindersOpening files known may_not (request.StationsTable beside text) why =
-    HindersTableOfAll files known may_not beside why
-HindersOpening files known may_not (request.Mark gsi copy beginnings stated) why =
-    IsUnopened may_not gsi.now why
-HindersOpening files known may_not (request.Change gsi copy changes) why =
-    IsUnopened may_not gsi.now why
-HindersOpening files known may_not (request.List gsi limits form) why =
-    IsUnopened may_not gsi.now why
-HindersOpening files known may_not (request.Words gsi) why = IsUnopened may_not gsi.now why
-HindersOpening files known may_not request.WordsOfInput why = ⊥
-HindersOpening files known may_not (request.Explain fault) why = ⊥
+abbrev pub HindersOpening : {F : Type 0} → Files F → Asked → Hindrance → Type 0
+HindersOpening files (request.Check asked) why =
+    IsUnopenedOfTwo files asked.gsi.now asked.sheet.now why
+HindersOpening files (request.Means gsi station limits) why =
+    HindersStation files limits gsi.now station why
+HindersOpening files (request.Station station text) why =
+    HindersStation files station.limits.faces station.gsi.now station.name why
+HindersOpening files (request.Stations stations text) why = IsUnopened files stations.gsi.now why
+HindersOpening files (request.Table beside text) why = HindersBeside files beside why
+HindersOpening files (request.StationsTable beside text) why = HindersTableOfAll files beside why
+HindersOpening files (request.Mark gsi copy beginnings stated) why = IsUnopened files gsi.now why
+HindersOpening files (request.Change gsi copy changes) why = IsUnopened files gsi.now why
+HindersOpening files (request.List gsi limits form) why = IsUnopened files gsi.now why
+HindersOpening files (request.Words gsi) why = IsUnopened files gsi.now why
+HindersOpening files request.WordsOfInput why = ⊥
+HindersOpening files (request.Explain fault) why = ⊥
 
 -- The path of the new file that a request asks for.
 abbrev pub new_path : Asked → Option (List ℕ)
@@ -506,23 +490,22 @@ new_path (request.Change gsi copy changes) = option_map (λ path. path.now) copy
 new_path asked = None
 
 -- A new file is to have this path, and the file of it was opened, so it is there already.
-abbrev pub IsThereAlready : {F : Type 0} → Readers F → (List ℕ → Option Told) → Asked → Hindrance
-    → Type 0
-IsThereAlready files known asked (hindrance.IsThere path) =
-    (new_path asked ≡ Some path.now) × WasOpened files known path.now
-IsThereAlready files known asked other = ⊥
+abbrev pub IsThereAlready : {F : Type 0} → Files F → Asked → Hindrance → Type 0
+IsThereAlready files asked (hindrance.IsThere path) =
+    (new_path asked ≡ Some path.now) × WasOpened files path.now
+IsThereAlready files asked other = ⊥
 
 -- Where a new file is to be made, the file of its path may be one that can't be opened: so none is
 -- there yet.
-abbrev pub IsNoneThere : (List ℕ → Bool) → Asked → Type 0
-IsNoneThere may_not asked = IfSome (new_path asked) (λ path. may_not path ≡ true)
+abbrev pub IsNoneThere : {F : Type 0} → Files F → Asked → Type 0
+IsNoneThere files asked = IfSome (new_path asked) (λ path. files.may_not_open path ≡ true)
 
 -- What hinders a run of a request: that the new file is there already; or, where none is, what
 -- comes before its files are open.
 abbrev pub Hinders : {F N I : Type 0} → Known F N I → Asked → Hindrance → Type 0
-Hinders host asked why = IsThereAlready host.files host.file asked why
-    ⊎ (IsNoneThere host.may_not_open asked
-    × HindersOpening host.files host.file host.may_not_open asked why)
+Hinders host asked why = IsThereAlready host.files asked why
+    ⊎ (IsNoneThere host.files asked
+    × HindersOpening host.files asked why)
 
 -- A request was answered with this exit status: no file was there yet of the path of a new one; its
 -- files were opened, each the one of its path, and its run was made over them, or over standard
@@ -530,10 +513,10 @@ Hinders host asked why = IsThereAlready host.files host.file asked why
 pub record IsAnswered {F N I : Type 0} (host : Known F N I)
     (faults : List (Bor (List Explanation))) (out err : WriterChange) (asked : Asked)
     (status : ℕ) : Type 0 where
-  pub none_there : IsNoneThere host.may_not_open asked
+  pub none_there : IsNoneThere host.files asked
   pub opened : Request (NamedReader F) N StationName TableForm
-  pub of_files : IsOpened host.files host.file host.new_files host.new_file asked opened
-  pub run : IsRun host.files host.new_files host.inputs host.input faults out err opened status
+  pub of_files : IsOpened host.files host.new_files host.new_file asked opened
+  pub run : IsRun host.files.seen host.new_files host.inputs host.input faults out err opened status
 
 -- The exit status is 1, and the line that memory ran out went to `err`.
 abbrev pub IsOutOfMemory : ℕ → WriterChange → Type 0

@@ -1,5 +1,6 @@
 -- The public definitions, which public contracts and laws cite, in the order in which a reader
 -- needs them.
+pub mod AsKnown
 pub mod Hosts
 pub mod Unopened
 pub mod StationNames

@@ -15,7 +15,7 @@ ghost use Rattle.command_line.specs.declared.request.Request.TheVariants as requ
 ghost use Rattle.command_run.specs.Answering.{ChangesFile, ChecksSheet, IsNewFile};
 ghost use Rattle.command_run.specs.Answering.{PrintsBeside, PrintsStation, PrintsStations};
 ghost use Rattle.command_run.specs.Answering as spec;
-ghost use Rattle.command_run.specs.Hosts.{IsUnread, known_of, readers};
+ghost use Rattle.command_run.specs.Hosts.{IsUnread, files_of, known_of};
 ghost use Rattle.station_report.specs.NoteTexts.{head_of};
 
 use crate::explaining::run_explain;
@@ -67,20 +67,11 @@ pub(crate) fn answer<'a, H: Host, W: Sink, E: Sink>(
     err: &mut E,
 ) -> Result<u8, Hindrance<'a>>
     ensures status { IfOk result (λ status. status ≤ 1) }
-    ensures run { IfOk result (IsAnswered
-        (known_of (H.known_words host.now) (H.may_lack host.now)
-        (readers H.File.told H.File.failed H.File.gave)
-        (H.known_file host.now) (H.may_not_open host.now)
-        ⟦<NewFile<'a, H, H::New> as Sink>⟧ (H.known_new host.now)
-        (readers H.Input.told H.Input.failed H.Input.gave) input) faults.now
-        (writer_change W.Sink out.old out.new)
+    ensures run { IfOk result (IsAnswered (known_of H.File.Source ⟦<NewFile<'a, H, H::New> as Sink>⟧
+        H.Input.Source H.Host host.now input) faults.now (writer_change W.Sink out.old out.new)
         (writer_change E.Sink err.old err.new) request.entry) }
-    ensures hindered { IfErr result (Hinders
-        (known_of (H.known_words host.now) (H.may_lack host.now)
-        (readers H.File.told H.File.failed H.File.gave)
-        (H.known_file host.now) (H.may_not_open host.now)
-        ⟦<NewFile<'a, H, H::New> as Sink>⟧ (H.known_new host.now)
-        (readers H.Input.told H.Input.failed H.Input.gave) input) request.entry) }
+    ensures hindered { IfErr result (Hinders (known_of H.File.Source
+        ⟦<NewFile<'a, H, H::New> as Sink>⟧ H.Input.Source H.Host host.now input) request.entry) }
     ensures unchanged { OnErr result ((out.new ≡ out.old) × (err.new ≡ err.old)) }
 {
     find_none_there(host, &request)?;
@@ -90,9 +81,9 @@ pub(crate) fn answer<'a, H: Host, W: Sink, E: Sink>(
 
 /// That no file is there of the path that a new one is to have.
 fn find_none_there<'a, H: Host>(host: &H, request: &Asked<'a>) -> Result<(), Hindrance<'a>>
-    ensures none { OnOk result (IsNoneThere (H.may_not_open host.now) request.now) }
-    ensures there { IfErr result (IsThereAlready
-        (readers H.File.told H.File.failed H.File.gave) (H.known_file host.now) request.now) }
+    ensures none { OnOk result (IsNoneThere (files_of H.File.Source H.Host host.now) request.now) }
+    ensures there { IfErr result (IsThereAlready (files_of H.File.Source H.Host host.now)
+        request.now) }
 {
     match new_path(request) {
         None => Ok(()),
@@ -123,12 +114,10 @@ fn open_files<'a, H: Host>(
     Request<'a, NamedReader<'a, H::File>, NewFile<'a, H, H::New>, StationName<'a>, TableForm>,
     Hindrance<'a>,
 >
-    ensures opened { IfOk result
-        (IsOpened (readers H.File.told H.File.failed H.File.gave) (H.known_file host.now)
+    ensures opened { IfOk result (IsOpened (files_of H.File.Source H.Host host.now)
         ⟦<NewFile<'a, H, H::New> as Sink>⟧ (H.known_new host.now) request.entry) }
-    ensures hindered { IfErr result (HindersOpening
-        (readers H.File.told H.File.failed H.File.gave) (H.known_file host.now)
-        (H.may_not_open host.now) request.entry) }
+    ensures hindered { IfErr result (HindersOpening (files_of H.File.Source H.Host host.now)
+        request.entry) }
 {
     Ok(match request {
         Request::Check(asked) => Request::Check(open_check(host, &asked)?),
@@ -193,11 +182,9 @@ fn open_check<'a, H: Host>(
     host: &H,
     asked: &SheetCheck<&'a str>,
 ) -> Result<SheetCheck<NamedReader<'a, H::File>>, Hindrance<'a>>
-    ensures opened { IfOk result (IsOpenedCheck (readers H.File.told H.File.failed H.File.gave)
-        (H.known_file host.now) asked.now) }
-    ensures hindered { IfErr result (IsUnopenedOfTwo
-        (readers H.File.told H.File.failed H.File.gave) (H.known_file host.now)
-        (H.may_not_open host.now) asked.now.gsi.now asked.now.sheet.now) }
+    ensures opened { IfOk result (IsOpenedCheck (files_of H.File.Source H.Host host.now) asked.now) }
+    ensures hindered { IfErr result (IsUnopenedOfTwo (files_of H.File.Source H.Host host.now)
+        asked.now.gsi.now asked.now.sheet.now) }
 {
     let (gsi, sheet) = open_two(host, asked.gsi, asked.sheet)?;
     Ok(SheetCheck {
@@ -218,15 +205,12 @@ fn open_named<'a, H: Host>(
     stated: Option<&'a str>,
     limits: Limits,
 ) -> Result<(NamedReader<'a, H::File>, StationName<'a>), Hindrance<'a>>
-    ensures opened { IfOk result (λ its. IsUnread
-        (readers H.File.told H.File.failed H.File.gave) (H.known_file host.now)
-        gsi.now its.0) }
-    ensures named { IfOk result (λ its. IsNamed
-        (readers H.File.told H.File.failed H.File.gave) (H.known_file host.now)
-        limits gsi.now stated.entry its.1) }
-    ensures hindered { IfErr result (HindersStation
-        (readers H.File.told H.File.failed H.File.gave) (H.known_file host.now)
-        (H.may_not_open host.now) limits gsi.now stated.entry) }
+    ensures opened { IfOk result (λ its. IsUnread (files_of H.File.Source H.Host host.now) gsi.now
+        its.0) }
+    ensures named { IfOk result (λ its. IsNamed (files_of H.File.Source H.Host host.now) limits
+        gsi.now stated.entry its.1) }
+    ensures hindered { IfErr result (HindersStation (files_of H.File.Source H.Host host.now) limits
+        gsi.now stated.entry) }
 {
     let name = match stated {
         Some(name) => StationName::Stated(name),
@@ -243,12 +227,10 @@ fn only_name<'a, H: Host>(
     gsi: &'a str,
     limits: Limits,
 ) -> Result<StationName<'a>, Hindrance<'a>>
-    ensures named { IfOk result (IsNamed
-        (readers H.File.told H.File.failed H.File.gave) (H.known_file host.now)
-        limits gsi.now None) }
-    ensures hindered { IfErr result (HindersStation
-        (readers H.File.told H.File.failed H.File.gave) (H.known_file host.now)
-        (H.may_not_open host.now) limits gsi.now None) }
+    ensures named { IfOk result (IsNamed (files_of H.File.Source H.Host host.now) limits gsi.now
+        None) }
+    ensures hindered { IfErr result (HindersStation (files_of H.File.Source H.Host host.now) limits
+        gsi.now None) }
 {
     let file = open(host, gsi)?;
     match only_station(alloc, file.reader, limits) {
@@ -263,11 +245,10 @@ fn open_station<'a, H: Host>(
     host: &H,
     asked: &FieldStation<&'a str, Option<&'a str>>,
 ) -> Result<FieldStation<NamedReader<'a, H::File>, StationName<'a>>, Hindrance<'a>>
-    ensures opened { IfOk result (IsOpenedStation (readers H.File.told H.File.failed H.File.gave)
-        (H.known_file host.now) asked.now) }
-    ensures hindered { IfErr result (HindersStation
-        (readers H.File.told H.File.failed H.File.gave) (H.known_file host.now)
-        (H.may_not_open host.now) asked.now.limits.faces asked.now.gsi.now asked.now.name) }
+    ensures opened { IfOk result (IsOpenedStation (files_of H.File.Source H.Host host.now)
+        asked.now) }
+    ensures hindered { IfErr result (HindersStation (files_of H.File.Source H.Host host.now)
+        asked.now.limits.faces asked.now.gsi.now asked.now.name) }
 {
     let limits = asked.limits;
     let (gsi, name) = open_named(alloc, host, asked.gsi, asked.name, limits.faces)?;
@@ -279,9 +260,10 @@ fn open_stations<'a, H: Host>(
     host: &H,
     asked: &FieldStations<&'a str>,
 ) -> Result<FieldStations<NamedReader<'a, H::File>>, Hindrance<'a>>
-    ensures opened { IfOk result (IsOpenedStations (readers H.File.told H.File.failed H.File.gave)
-        (H.known_file host.now) asked.now) }
-    ensures hindered { IfErr result (IsUnopened (H.may_not_open host.now) asked.now.gsi.now) }
+    ensures opened { IfOk result (IsOpenedStations (files_of H.File.Source H.Host host.now)
+        asked.now) }
+    ensures hindered { IfErr result (IsUnopened (files_of H.File.Source H.Host host.now)
+        asked.now.gsi.now) }
 {
     Ok(FieldStations {
         gsi: open(host, asked.gsi)?,
@@ -296,15 +278,12 @@ fn open_table<'a, H: Host>(
     path: &'a str,
     stated: FormStated<'a>,
 ) -> Result<(NamedReader<'a, H::File>, TableForm), Hindrance<'a>>
-    ensures opened { IfOk result (λ table. IsUnread
-        (readers H.File.told H.File.failed H.File.gave) (H.known_file host.now)
+    ensures opened { IfOk result (λ table. IsUnread (files_of H.File.Source H.Host host.now)
         path.now table.0) }
-    ensures form { IfOk result (λ table. IsFormOf
-        (readers H.File.told H.File.failed H.File.gave) (H.known_file host.now)
-        path.now stated.entry table.1) }
-    ensures hindered { IfErr result (HindersTable
-        (readers H.File.told H.File.failed H.File.gave) (H.known_file host.now)
-        (H.may_not_open host.now) path.now stated.entry.columns) }
+    ensures form { IfOk result (λ table. IsFormOf (files_of H.File.Source H.Host host.now) path.now
+        stated.entry table.1) }
+    ensures hindered { IfErr result (HindersTable (files_of H.File.Source H.Host host.now) path.now
+        stated.entry.columns) }
 {
     let unit = stated.unit;
     let columns = columns_of(alloc, host, path, stated.columns)?;
@@ -320,12 +299,10 @@ fn columns_of<'a, H: Host>(
     path: &'a str,
     stated: Option<ColumnsStated<'a>>,
 ) -> Result<Option<ColumnPair>, Hindrance<'a>>
-    ensures columns { IfOk result (AreColumns
-        (readers H.File.told H.File.failed H.File.gave) (H.known_file host.now)
-        path.now stated.entry) }
-    ensures hindered { IfErr result (HindersTable
-        (readers H.File.told H.File.failed H.File.gave) (H.known_file host.now)
-        (H.may_not_open host.now) path.now stated.entry) }
+    ensures columns { IfOk result (AreColumns (files_of H.File.Source H.Host host.now) path.now
+        stated.entry) }
+    ensures hindered { IfErr result (HindersTable (files_of H.File.Source H.Host host.now) path.now
+        stated.entry) }
 {
     match stated {
         None => Ok(None),
@@ -350,12 +327,10 @@ fn columns_titled<'a, H: Host>(
     targets: &str,
     directions: &str,
 ) -> Result<ColumnPair, Hindrance<'a>>
-    ensures titled { IfOk result (λ pair. LooksForTitles
-        (readers H.File.told H.File.failed H.File.gave) (H.known_file host.now)
+    ensures titled { IfOk result (λ pair. LooksForTitles (files_of H.File.Source H.Host host.now)
         path.now targets.now directions.now (Ok pair)) }
-    ensures hindered { IfErr result (HindersTitles
-        (readers H.File.told H.File.failed H.File.gave) (H.known_file host.now)
-        (H.may_not_open host.now) path.now targets.now directions.now) }
+    ensures hindered { IfErr result (HindersTitles (files_of H.File.Source H.Host host.now) path.now
+        targets.now directions.now) }
 {
     let mut file = open(host, path)?;
     let titles = Titles {
@@ -374,11 +349,9 @@ fn open_beside<'a, H: Host>(
     host: &H,
     asked: &TableBeside<&'a str, Option<&'a str>, FormStated<'a>>,
 ) -> Result<TableBeside<NamedReader<'a, H::File>, StationName<'a>, TableForm>, Hindrance<'a>>
-    ensures opened { IfOk result (IsOpenedBeside (readers H.File.told H.File.failed H.File.gave)
-        (H.known_file host.now) asked.now) }
-    ensures hindered { IfErr result (HindersBeside
-        (readers H.File.told H.File.failed H.File.gave) (H.known_file host.now)
-        (H.may_not_open host.now) asked.now) }
+    ensures opened { IfOk result (IsOpenedBeside (files_of H.File.Source H.Host host.now) asked.now) }
+    ensures hindered { IfErr result (HindersBeside (files_of H.File.Source H.Host host.now)
+        asked.now) }
 {
     let station = open_station(alloc, host, &asked.station)?;
     let (file, form) = open_table(alloc, host, asked.file, asked.form)?;
@@ -395,11 +368,10 @@ fn open_table_of_all<'a, H: Host>(
     host: &H,
     asked: &StationsBeside<&'a str, FormStated<'a>>,
 ) -> Result<StationsBeside<NamedReader<'a, H::File>, TableForm>, Hindrance<'a>>
-    ensures opened { IfOk result (IsOpenedTableOfAll
-        (readers H.File.told H.File.failed H.File.gave) (H.known_file host.now) asked.now) }
-    ensures hindered { IfErr result (HindersTableOfAll
-        (readers H.File.told H.File.failed H.File.gave) (H.known_file host.now)
-        (H.may_not_open host.now) asked.now) }
+    ensures opened { IfOk result (IsOpenedTableOfAll (files_of H.File.Source H.Host host.now)
+        asked.now) }
+    ensures hindered { IfErr result (HindersTableOfAll (files_of H.File.Source H.Host host.now)
+        asked.now) }
 {
     let stations = open_stations(host, &asked.stations)?;
     let (file, form) = open_table(alloc, host, asked.file, asked.form)?;
@@ -420,11 +392,10 @@ fn open_change<'a, H: Host>(
     Request<'a, NamedReader<'a, H::File>, NewFile<'a, H, H::New>, StationName<'a>, TableForm>,
     Hindrance<'a>,
 >
-    ensures opened { IfOk result
-        (IsOpened (readers H.File.told H.File.failed H.File.gave) (H.known_file host.now)
-        ⟦<NewFile<'a, H, H::New> as Sink>⟧ (H.known_new host.now)
-        (request.Change gsi.entry copy.entry changes)) }
-    ensures hindered { IfErr result (IsUnopened (H.may_not_open host.now) gsi.now) }
+    ensures opened { IfOk result (IsOpened (files_of H.File.Source H.Host host.now)
+        ⟦<NewFile<'a, H, H::New> as Sink>⟧ (H.known_new host.now) (request.Change gsi.entry
+        copy.entry changes)) }
+    ensures hindered { IfErr result (IsUnopened (files_of H.File.Source H.Host host.now) gsi.now) }
 {
     Ok(Request::Change {
         gsi: open(host, gsi)?,
@@ -446,15 +417,12 @@ fn open_two<'a, H: Host>(
     first: &'a str,
     second: &'a str,
 ) -> Result<(NamedReader<'a, H::File>, NamedReader<'a, H::File>), Hindrance<'a>>
-    ensures first { IfOk result (λ files. IsUnread
-        (readers H.File.told H.File.failed H.File.gave) (H.known_file host.now)
+    ensures first { IfOk result (λ files. IsUnread (files_of H.File.Source H.Host host.now)
         first.now files.0) }
-    ensures second { IfOk result (λ files. IsUnread
-        (readers H.File.told H.File.failed H.File.gave) (H.known_file host.now)
+    ensures second { IfOk result (λ files. IsUnread (files_of H.File.Source H.Host host.now)
         second.now files.1) }
-    ensures hindered { IfErr result (IsUnopenedOfTwo
-        (readers H.File.told H.File.failed H.File.gave) (H.known_file host.now)
-        (H.may_not_open host.now) first.now second.now) }
+    ensures hindered { IfErr result (IsUnopenedOfTwo (files_of H.File.Source H.Host host.now)
+        first.now second.now) }
 {
     let first = open(host, first)?;
     Ok((first, open(host, second)?))
@@ -462,9 +430,8 @@ fn open_two<'a, H: Host>(
 
 /// The file of a path, which has the path for its name.
 fn open<'a, H: Host>(host: &H, path: &'a str) -> Result<NamedReader<'a, H::File>, Hindrance<'a>>
-    ensures opened { IfOk result (IsUnread (readers H.File.told H.File.failed H.File.gave)
-        (H.known_file host.now) path.now) }
-    ensures hindered { IfErr result (IsUnopened (H.may_not_open host.now) path.now) }
+    ensures opened { IfOk result (IsUnread (files_of H.File.Source H.Host host.now) path.now) }
+    ensures hindered { IfErr result (IsUnopened (files_of H.File.Source H.Host host.now) path.now) }
 {
     match host.open(path) {
         Ok(reader) => Ok(NamedReader {
@@ -492,8 +459,8 @@ fn run_request<'a, H: Host, W: Sink, E: Sink>(
     err: &mut E,
 ) -> u8
     ensures status { result ≤ 1 }
-    ensures run { IsRun (readers H.File.told H.File.failed H.File.gave)
-        ⟦<NewFile<'a, H, H::New> as Sink>⟧ (readers H.Input.told H.Input.failed H.Input.gave)
+    ensures run { IsRun H.File.Source
+        ⟦<NewFile<'a, H, H::New> as Sink>⟧ H.Input.Source
         input faults.now
         (writer_change W.Sink out.old out.new)
         (writer_change E.Sink err.old err.new) request.entry result }
@@ -544,7 +511,7 @@ fn change_lines<F: Source, N: Sink + Drop, W: Sink, E: Sink>(
     err: &mut E,
 ) -> u8
     ensures status { result ≤ 1 }
-    ensures run { ChangesFile (readers F.told F.failed F.gave) N.Sink
+    ensures run { ChangesFile F.Source N.Sink
         (writer_change W.Sink out.old out.new)
         (writer_change E.Sink err.old err.new) gsi.entry copy changes.now result }
 {
@@ -563,7 +530,7 @@ fn check_sheet<F: Source, W: Sink, E: Sink>(
     err: &mut E,
 ) -> u8
     ensures status { result ≤ 1 }
-    ensures run { ChecksSheet (readers F.told F.failed F.gave)
+    ensures run { ChecksSheet F.Source
         (writer_change W.Sink out.old out.new)
         (writer_change E.Sink err.old err.new) asked.entry asked.entry.digests result }
 {
@@ -606,7 +573,7 @@ fn print_station<F: Source, W: Sink, E: Sink>(
     err: &mut E,
 ) -> u8
     ensures status { result ≤ 1 }
-    ensures run { PrintsStation (readers F.told F.failed F.gave)
+    ensures run { PrintsStation F.Source
         (writer_change W.Sink out.old out.new)
         (writer_change E.Sink err.old err.new) station.entry text.entry result }
 {
@@ -646,7 +613,7 @@ fn print_stations<F: Source, W: Sink, E: Sink>(
     err: &mut E,
 ) -> u8
     ensures status { result ≤ 1 }
-    ensures run { PrintsStations (readers F.told F.failed F.gave)
+    ensures run { PrintsStations F.Source
         (writer_change W.Sink out.old out.new)
         (writer_change E.Sink err.old err.new) stations.entry text.entry result }
 {
@@ -687,7 +654,7 @@ fn print_table_of_all<F: Source, W: Sink, E: Sink>(
     err: &mut E,
 ) -> u8
     ensures status { result ≤ 1 }
-    ensures run { PrintsTableOfAll (readers F.told F.failed F.gave)
+    ensures run { PrintsTableOfAll F.Source
         (writer_change W.Sink out.old out.new)
         (writer_change E.Sink err.old err.new) beside.entry text result }
 {
@@ -720,7 +687,7 @@ fn print_beside<F: Source, W: Sink, E: Sink>(
     err: &mut E,
 ) -> u8
     ensures status { result ≤ 1 }
-    ensures run { PrintsBeside (readers F.told F.failed F.gave)
+    ensures run { PrintsBeside F.Source
         (writer_change W.Sink out.old out.new)
         (writer_change E.Sink err.old err.new) beside.entry text.entry result }
 {

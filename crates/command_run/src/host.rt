@@ -3,7 +3,7 @@
 ghost use Rattle.std.specs.Prelude.{◌≡◌, ℕ, Bool, List, Option, IfOk, IfErr, OnErr, true, false};
 ghost use Rattle.std.specs.Prelude.{map, string_bytes};
 ghost use Rattle.byte_ends.specs.Source.{Told};
-ghost use Rattle.command_run.specs.Hosts.{IsAsKnown};
+ghost use Rattle.command_run.specs.AsKnown.{IsAsKnown};
 ghost use Rattle.command_run.specs.declared.host.NoWords.{NoWords as WhyNoWords};
 
 use byte_ends::{Failed, OfRead, OfWrite, Sink, Source};

@@ -7,7 +7,7 @@ ghost use Rattle.station_check.specs.RunEndings.{WritesOrFails};
 ghost use Rattle.command_run.specs.Answering.{IsStatusOfWords, IsStatusOfRun, IsMistakenRun};
 ghost use Rattle.command_run.specs.Answering.{LacksWords, NamesThere, NamesUnopened};
 ghost use Rattle.command_run.specs.Answering.{TellsHindrance};
-ghost use Rattle.command_run.specs.Hosts.{known_of, readers};
+ghost use Rattle.command_run.specs.Hosts.{known_of};
 
 use crate::answering::answer;
 use crate::hindrance::Hindrance;
@@ -50,20 +50,11 @@ pub fn run<'a, H: Host, W: Sink, E: Sink>(
     err: &mut E,
 ) -> Result<u8, Error>
     ensures bound { IfOk result (λ status. status ≤ 2) }
-    ensures status { IfOk result (IsStatusOfRun
-        (known_of (H.known_words host.now) (H.may_lack host.now)
-        (readers H.File.told H.File.failed H.File.gave)
-        (H.known_file host.now) (H.may_not_open host.now)
-        ⟦<NewFile<'a, H, H::New> as Sink>⟧ (H.known_new host.now)
-        (readers H.Input.told H.Input.failed H.Input.gave) input) faults.now
-        (writer_change W.Sink out.old out.new)
-        (writer_change E.Sink err.old err.new)) }
-    ensures mistake { IfErr result (IsMistakenRun
-        (known_of (H.known_words host.now) (H.may_lack host.now)
-        (readers H.File.told H.File.failed H.File.gave)
-        (H.known_file host.now) (H.may_not_open host.now)
-        ⟦<NewFile<'a, H, H::New> as Sink>⟧ (H.known_new host.now)
-        (readers H.Input.told H.Input.failed H.Input.gave) input) faults.now) }
+    ensures status { IfOk result (IsStatusOfRun (known_of H.File.Source
+        ⟦<NewFile<'a, H, H::New> as Sink>⟧ H.Input.Source H.Host host.now input) faults.now
+        (writer_change W.Sink out.old out.new) (writer_change E.Sink err.old err.new)) }
+    ensures mistake { IfErr result (IsMistakenRun (known_of H.File.Source
+        ⟦<NewFile<'a, H, H::New> as Sink>⟧ H.Input.Source H.Host host.now input) faults.now) }
     ensures unchanged { OnErr result ((out.new ≡ out.old) × (err.new ≡ err.old)) }
 {
     match host.words() {
@@ -83,14 +74,10 @@ fn status_of_words<'a, H: Host, W: Sink, E: Sink>(
     err: &mut E,
 ) -> Result<u8, Error>
     ensures bound { IfOk result (λ status. status ≤ 2) }
-    ensures status { IfOk result (IsStatusOfWords
-        (known_of (H.known_words host.now) (H.may_lack host.now)
-        (readers H.File.told H.File.failed H.File.gave)
-        (H.known_file host.now) (H.may_not_open host.now)
-        ⟦<NewFile<'a, H, H::New> as Sink>⟧ (H.known_new host.now)
-        (readers H.Input.told H.Input.failed H.Input.gave) input) faults.now
-        (writer_change W.Sink out.old out.new)
-        (writer_change E.Sink err.old err.new) (map string_bytes words.now)) }
+    ensures status { IfOk result (IsStatusOfWords (known_of H.File.Source
+        ⟦<NewFile<'a, H, H::New> as Sink>⟧ H.Input.Source H.Host host.now input) faults.now
+        (writer_change W.Sink out.old out.new) (writer_change E.Sink err.old err.new) (map
+        string_bytes words.now)) }
     ensures mistake { IfErr result (IsMistakeIn (map string_bytes words.now) faults.now) }
     ensures unchanged { OnErr result ((out.new ≡ out.old) × (err.new ≡ err.old)) }
 {
